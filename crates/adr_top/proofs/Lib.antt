@@ -1,0 +1,4 @@
+pub mod Appending
+pub mod Records
+pub mod EmptyVolume
+pub mod Printed

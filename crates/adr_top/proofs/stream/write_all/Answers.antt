@@ -1,0 +1,14 @@
+use Rattle.std.proofs.Common.{arith, List, ℕ, subst, sym}
+use Rattle.adr_top.proofs.Appending.{HasWritten, written_none, written_more}
+use Rattle.adr_top.proofs.stream.write_all.Goals as goal
+
+pub loop-rest-init : goal.loop-rest-init
+loop-rest-init g c = record { later = omega arith; written = written_none (g.O.Sink.taken c.args.out.now) c.args.text.now }
+
+pub loop-rest-preserved : goal.loop-rest-preserved
+loop-rest-preserved g c = record {
+  later = omega (arith, c.loop-rest.invariant.later, c.in_ok-count.ensures.cause.later);
+  written =
+      let P : List ℕ → Type 0 = λ t. HasWritten (g.O.Sink.taken c.args.out.now) (g.O.Sink.taken c.write.new.self) c.args.text.now t in
+      subst P (sym c.tail-rest.ensures) (written_more _ _ _ _ _ _ c.loop-rest.invariant.written c.in_ok-count.ensures.taken);
+}

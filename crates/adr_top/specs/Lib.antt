@@ -1,0 +1,6 @@
+pub mod Print
+pub mod Words
+pub mod Causes
+pub mod Stops
+pub mod Listed
+pub mod Empty

@@ -1,0 +1,83 @@
+//! Why a run ends before it has listed its volume.
+
+ghost use Rattle.adr_top.specs.declared.stop.Stop.TheVariants as stops;
+ghost use Rattle.std.specs.Prelude.{◌≡◌};
+ghost use Rattle.adr_top.specs.Stops.{status_of, line_of};
+
+use ckd_image::NoMemory;
+use dasd_pool::{PoolFault, ReadFault};
+use std::alloc::AllocError;
+
+/// Why a run ends.
+#[derive(Clone, Copy, Debug, PartialEq, Eq)]
+pub(crate) enum Stop {
+    /// The pool failed.
+    Pool,
+    /// The text's source failed.
+    Sysin,
+    /// Memory ran out.
+    Memory,
+    /// There are no words, or they don't agree with the pool and the lists.
+    Words,
+    /// The words, the text or the volume have a form that isn't built.
+    Form,
+}
+
+impl Stop {
+    pub(crate) fn status(self) -> u8
+        ensures { result ≡ status_of self }
+    {
+        match self {
+            Stop::Pool => 16,
+            Stop::Sysin => 24,
+            Stop::Memory => 32,
+            Stop::Words => 36,
+            Stop::Form => 48,
+        }
+    }
+
+    /// The last line of the run; want of memory has none.
+    pub(crate) fn line(self) -> &'static [u8]
+        ensures { result.now ≡ line_of self }
+    {
+        match self {
+            Stop::Pool => b"ADR516T (000) RUN ENDED WITH STATUS 16\n",
+            Stop::Sysin => b"ADR524T (000) RUN ENDED WITH STATUS 24: SYSIN\n",
+            Stop::Memory => b"",
+            Stop::Words => b"ADR536T (000) RUN ENDED WITH STATUS 36\n",
+            Stop::Form => b"ADR548T (000) RUN ENDED WITH STATUS 48\n",
+        }
+    }
+}
+
+impl From<NoMemory> for Stop {
+    ghost from_gives = { λ _ e. e ≡ stops.Memory };
+
+    fn from(_: NoMemory) -> Stop {
+        Stop::Memory
+    }
+}
+
+impl From<AllocError> for Stop {
+    ghost from_gives = { λ _ e. e ≡ stops.Memory };
+
+    fn from(_: AllocError) -> Stop {
+        Stop::Memory
+    }
+}
+
+impl From<PoolFault> for Stop {
+    ghost from_gives = { λ _ e. e ≡ stops.Pool };
+
+    fn from(_: PoolFault) -> Stop {
+        Stop::Pool
+    }
+}
+
+impl From<ReadFault> for Stop {
+    ghost from_gives = { λ _ e. e ≡ stops.Sysin };
+
+    fn from(_: ReadFault) -> Stop {
+        Stop::Sysin
+    }
+}

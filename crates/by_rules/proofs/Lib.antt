@@ -1,0 +1,11 @@
+pub mod Calendar
+pub mod Comparing
+pub mod Numbers
+pub mod Tokens
+pub mod Complete
+pub mod Sound
+pub mod Refusing
+pub mod Shifts
+pub mod Reader
+pub mod TokenLaws
+pub mod OnePlace

@@ -1,0 +1,89 @@
+//! Reading criteria token by token.
+
+ghost use Rattle.std.specs.Prelude.{◌≡◌, ◌≤◌, Some, None, OnOk, IfErr, IsTrue, ◌↔◌};
+ghost use Rattle.by_rules.specs.Token.{symbol_of};
+ghost use Rattle.by_rules.specs.Reading.{start, next, Stops, HasEnded};
+
+use crate::criterion::{Criterion, Value};
+use crate::fault::ByFault;
+use crate::state::{State, Step};
+use crate::token::Token;
+use ckd_image::Listed;
+use std::alloc::Global;
+use std::marker::Model;
+use std::mem;
+
+const MOST_CRITERIA: usize = 255;
+
+/// What is read of a text so far. After an `Err` it is of no more use.
+#[derive(Drop)]
+pub(crate) struct Reading {
+    alloc: Global,
+    state: State,
+    criteria: Listed<Criterion>,
+    values: Listed<Value>,
+}
+
+impl Model for Reading {
+    ghost use Rattle.by_rules.specs.Reading.{Machine};
+
+    ghost Value = { Machine };
+
+    ghost view = { λ r. record { state = r.state; criteria = r.criteria; values = r.values } };
+}
+
+impl Reading {
+    pub(crate) fn new(alloc: Global) -> Reading
+        ensures { result ≡ start }
+    {
+        Reading {
+            alloc,
+            state: State::Start,
+            criteria: Listed::new(alloc),
+            values: Listed::new(alloc),
+        }
+    }
+
+    /// Reads the next token, which stands at the offset.
+    pub(crate) fn take(&mut self, token: Token<'_>, offset: u32) -> Result<(), ByFault>
+        ensures taken { OnOk result (next self.old (symbol_of token.entry) ≡ Some self.new) }
+        ensures refused { IfErr result (Stops self.old (symbol_of token.entry) offset) }
+    {
+        match self.state.step(token) {
+            None => return Err(ByFault::BadCriterion(offset)),
+            Some(Step::Begin) if self.criteria.len() == MOST_CRITERIA => {
+                return Err(ByFault::BadCriterion(offset));
+            }
+            Some(Step::Begin) => self.state = State::Opened,
+            Some(Step::Go(state)) => self.state = state,
+            Some(Step::Keep(value, state)) => {
+                self.values.push(value)?;
+                self.state = state;
+            }
+            Some(Step::End(test)) => {
+                let values = mem::replace(&mut self.values, Listed::new(self.alloc));
+                self.criteria.push(Criterion {
+                    key: test.key,
+                    op: test.op,
+                    values,
+                })?;
+                self.state = State::Ended;
+            }
+        }
+        Ok(())
+    }
+
+    /// Whether the text may end here.
+    pub(crate) fn has_ended(&self) -> bool
+        ensures { IsTrue result ↔ HasEnded self.now }
+    {
+        self.state == State::Ended
+    }
+
+    pub(crate) fn into_criteria(self) -> Listed<Criterion>
+        ensures { result ≡ self.criteria }
+    {
+        let Reading { criteria, .. } = self;
+        criteria
+    }
+}

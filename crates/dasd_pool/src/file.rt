@@ -1,0 +1,150 @@
+//! A pool over seekable files, which doesn't tell what it holds.
+
+ghost use Rattle.std.specs.Prelude.{◌≡◌, ◌+◌, ◌<◌, ◌^◌, OnOk, vec_len};
+ghost use Rattle.dasd_pool.specs.Files.{shape_of_files, untold};
+
+use crate::pool::{Pool, PoolFault};
+use crate::units::{block_count, risen, said_size};
+use std::alloc::Global;
+use std::fs::OpenFile;
+use std::io::{self, Read, Seek, SeekFrom, Write};
+
+/// Where the blocks begin in a file.
+const HEAD: u64 = 512;
+
+/// What never changes of a unit: its head, and the size and number of its blocks.
+#[derive(Debug, Drop)]
+pub struct FileUnit {
+    pub head: [u8; 512],
+    pub size: u32,
+    pub count: u32,
+}
+
+/// A pool over files, one for each unit: a head of 512 bytes, and then blocks.
+#[derive(Debug, Drop)]
+pub struct FilePool<F> {
+    files: Vec<F>,
+    units: Vec<FileUnit>,
+    faults: u64,
+    ghost together: { vec_len files ≡ vec_len units },
+    ghost few: { vec_len units < 2 ^ 32 },
+}
+
+/// Reads a file's head and finds how many blocks it has. A file that is shorter than a head is filled up with zeros.
+fn unit_of<F: Read + Seek>(file: &mut F) -> io::Result<FileUnit> {
+    let end = file.seek(SeekFrom::End(0))?;
+    file.seek(SeekFrom::Start(0))?;
+    let mut head = [0; 512];
+    let present = end.min(HEAD) as usize;
+    file.read_exact(&mut head[..present])?;
+    let size = said_size(&head);
+    let count = block_count(end.saturating_sub(HEAD) as usize, size);
+    Ok(FileUnit { head, size, count })
+}
+
+fn seek_block<F: Seek>(file: &mut F, block: u32, size: usize) -> io::Result<()> {
+    let start = u64::from(block)
+        .saturating_mul(size as u64)
+        .saturating_add(HEAD);
+    file.seek(SeekFrom::Start(start))?;
+    Ok(())
+}
+
+fn read_block<F: Read + Seek>(file: &mut F, block: u32, buf: &mut [u8]) -> io::Result<()> {
+    seek_block(file, block, buf.len())?;
+    file.read_exact(buf)
+}
+
+fn write_block<F: Write + Seek>(file: &mut F, block: u32, buf: &[u8]) -> io::Result<()> {
+    seek_block(file, block, buf.len())?;
+    file.write_all(buf)
+}
+
+fn sync_files<F: OpenFile>(files: &[F]) -> io::Result<()> {
+    for file in files {
+        file.sync_all()?;
+    }
+    Ok(())
+}
+
+impl<F: Read + Write + Seek + OpenFile + Drop> FilePool<F> {
+    /// A pool without units.
+    pub fn new(alloc: Global) -> FilePool<F>
+        ensures { (⟦<FilePool<F> as Pool>⟧.shape result).units ≡ 0 }
+    {
+        FilePool {
+            files: Vec::new(alloc),
+            units: Vec::new(alloc),
+            faults: 0,
+        }
+    }
+
+    /// Adds a file as the next unit; on `Err` the pool is as it was.
+    pub fn add(&mut self, file: F) -> io::Result<()>
+        ensures { OnOk result ((⟦<FilePool<F> as Pool>⟧.shape self.new).units ≡ (⟦<FilePool<F> as Pool>⟧.shape self.old).units + 1) }
+    {
+        let mut file = file;
+        if self.units.len() >= u32::MAX as usize {
+            return Err(io::Error::from(io::ErrorKind::OutOfMemory));
+        }
+        let unit = unit_of(&mut file)?;
+        self.units.push(unit)?;
+        match self.files.push(file) {
+            Ok(()) => Ok(()),
+            Err(full) => {
+                self.units.pop();
+                Err(full.into())
+            }
+        }
+    }
+}
+
+impl<F: Read + Write + Seek + OpenFile + Drop> Pool for FilePool<F> {
+    ghost shape = { λ p. shape_of_files p.units.items };
+
+    ghost faults = { λ p. p.faults };
+
+    ghost tells = { ⊥ };
+
+    ghost disk = { λ _. untold };
+
+    fn units(&self) -> u32 {
+        self.units.len() as u32
+    }
+
+    fn head(&self, unit: u32) -> [u8; 512] {
+        self.units[unit as usize].head
+    }
+
+    fn block_size(&self, unit: u32) -> u32 {
+        self.units[unit as usize].size
+    }
+
+    fn blocks(&self, unit: u32) -> u32 {
+        self.units[unit as usize].count
+    }
+
+    fn read(&mut self, unit: u32, block: u32, buf: &mut [u8]) -> Result<(), PoolFault> {
+        if read_block(&mut self.files[unit as usize], block, buf).is_err() {
+            self.faults = risen(self.faults);
+            return Err(PoolFault);
+        }
+        Ok(())
+    }
+
+    fn write(&mut self, unit: u32, block: u32, buf: &[u8]) -> Result<(), PoolFault> {
+        if write_block(&mut self.files[unit as usize], block, buf).is_err() {
+            self.faults = risen(self.faults);
+            return Err(PoolFault);
+        }
+        Ok(())
+    }
+
+    fn sync(&mut self) -> Result<(), PoolFault> {
+        if sync_files(&self.files).is_err() {
+            self.faults = risen(self.faults);
+            return Err(PoolFault);
+        }
+        Ok(())
+    }
+}

@@ -1,0 +1,22 @@
+//! The outside: pools of blocks, sources, sinks, media and reels, in memory and over files.
+#![tactic(auto)]
+
+mod calls;
+mod file;
+mod memory;
+mod outside;
+mod pool;
+mod stream;
+mod tear;
+mod units;
+
+pub use calls::{Call, Tear};
+pub use file::{FilePool, FileUnit};
+pub use memory::MemoryPool;
+pub use outside::{Medium, MediumFault, ReadFault, Reel, ReelFault, Sink, Source, WriteFault};
+pub use pool::{Pool, PoolFault};
+pub use stream::{FileSink, FileSource, MemorySink, MemorySource};
+pub use units::UnitText;
+
+#[cfg(test)]
+mod tests;

@@ -1,0 +1,2 @@
+pub mod Dscb
+pub mod Field

@@ -1,0 +1,10 @@
+pub mod Text
+pub mod Qualifier
+pub mod Matching
+pub mod Scan
+pub mod Dsn
+pub mod NameFault
+pub mod Rename
+pub mod OneQualifier
+pub mod Rows
+pub mod Laws

@@ -1,0 +1,5 @@
+pub mod Marks
+pub mod Feeds
+pub mod Holders
+pub mod LineText
+pub mod Taking

@@ -1,0 +1,3 @@
+pub mod CodePage
+pub mod Serial
+pub mod Label

@@ -1,0 +1,6 @@
+//! What a volume is: its directory, the rules that its VTOC meets, and its free space (DFSMSdfp Advanced Services).
+#![tactic(auto)]
+
+mod rule;
+
+pub use rule::VtocRule;
