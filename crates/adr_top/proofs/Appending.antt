@@ -1,7 +1,9 @@
 -- A text that is written piece by piece.
-use Rattle.std.proofs.Common.{◌≡◌, ℕ, List, [], ◌++◌, take, drop, Option, Some, None, refl, sym, ap, subst, ◌∙◌, append_assoc}
-use Rattle.std.proofs.lemmas.List.{take-append-drop, append-nil}
-use Rattle.dasd_pool.specs.Stream.{Appends}
+use Rattle.std.proofs.Common.{◌≡◌, ℕ, ◌+◌, ◌-◌, ◌≤◌, length, arith, length-append, length-drop, List, [], ◌++◌, take, drop, Option, Some, None, refl, sym, ap, subst, ◌∙◌, append_assoc}
+use Rattle.std.proofs.lemmas.List.{take-append-drop, append-nil, length-take-le, drop_all}
+use Rattle.std.proofs.Math.Seq.{take-append_seam, take-append-add}
+use borrow.Rule.Slice.PartMut.{put_mid}
+use Rattle.dasd_pool.specs.Stream.{Appends, AppendsSome, Takes, EndsOnly}
 
 pub appends_none : (taken : Option (List ℕ)) → Appends taken taken []
 appends_none None = refl
@@ -35,3 +37,45 @@ pub written_all : (old new : Option (List ℕ)) (text rest : List ℕ) → HasWr
 written_all old new text rest h none =
     let P : List ℕ → Type 0 = λ t. Appends old new t in
     subst P (sym (h.parts ∙ ap (λ (r : List ℕ). h.done ++ r) none ∙ append-nil h.done)) h.appends
+
+-- what is written is a front of the text
+pub written_some : (old new : Option (List ℕ)) (text rest : List ℕ) → HasWritten old new text rest → AppendsSome old new text
+written_some old new text rest h =
+    let front : take (length h.done) text ≡ h.done = ap (λ (t : List ℕ). take (length h.done) t) h.parts ∙ take-append_seam h.done rest in
+    let P : List ℕ → Type 0 = λ piece. Appends old new piece in
+    (length h.done, omega (arith, ap length h.parts, length-append h.done rest), subst P (sym front) h.appends)
+
+-- a refused write adds nothing
+pub written_still : (old mid new : Option (List ℕ)) (text rest : List ℕ) → HasWritten old mid text rest → new ≡ mid → HasWritten old new text rest
+written_still old mid new text rest h same = let P : Option (List ℕ) → Type 0 = λ taken. HasWritten old taken text rest in subst P (sym same) h
+
+-- ---- a text that is read piece by piece
+
+pub takes_none : (left : Option (List ℕ)) → Takes left left []
+takes_none None = refl
+takes_none (Some text) = (text, refl, refl)
+
+pub takes_then : (old mid new : Option (List ℕ)) (x y : List ℕ) → Takes old mid x → Takes mid new y → Takes old new (x ++ y)
+takes_then None mid new x y p q = let P : Option (List ℕ) → Type 0 = λ m. Takes m new y in subst P p q
+takes_then (Some text) mid new x y p q =
+    let P : Option (List ℕ) → Type 0 = λ m. Takes m new y in
+    let next = subst P p.1 q in
+    (next.0, next.1, p.2 ∙ ap (λ (r : List ℕ). x ++ r) next.2 ∙ sym (append_assoc x y next.0))
+
+-- nothing was read
+pub ends_still : (mid new : Option (List ℕ)) → Takes mid new [] → EndsOnly mid → EndsOnly new
+ends_still None new p e = let P : Option (List ℕ) → Type 0 = EndsOnly in subst P (sym p) tt
+ends_still (Some text) new p e = let P : Option (List ℕ) → Type 0 = EndsOnly in subst P (sym p.1) (sym p.2 ∙ e)
+
+-- the bytes so far and one piece more, which was put behind them
+pub more_read : (old mid new : Option (List ℕ)) (count more size : ℕ) (buf part : List ℕ) → count ≤ length buf → size ≡ length buf - count → length part ≡ size → more ≤ length part
+    → Takes old mid (take count buf) → Takes mid new (take more part) → Takes old new (take (count + more) (put_mid count size buf part))
+more_read old mid new count more size buf part within is long fits p q =
+    let front : length (take count buf) ≡ count = length-take-le count buf within in
+    let whole : put_mid count size buf part ≡ take count buf ++ part =
+    ap (λ (t : List ℕ). take count buf ++ (part ++ t)) (drop_all size (drop count buf) (omega (arith, is, length-drop count buf))) ∙ ap (λ (t : List ℕ). take count buf ++ t) (append-nil part) in
+    let both : take (count + more) (put_mid count size buf part) ≡ take count buf ++ take more part =
+    ap (λ (t : List ℕ). take (count + more) t) whole
+    ∙ ap (λ (n : ℕ). take (n + more) (take count buf ++ part)) (sym front) ∙ take-append-add (take count buf) part more in
+    let P : List ℕ → Type 0 = λ bytes. Takes old new bytes in
+    subst P (sym both) (takes_then old mid new (take count buf) (take more part) p q)

@@ -1,4 +1,14 @@
-pub mod Appending
 pub mod Records
-pub mod EmptyVolume
 pub mod Printed
+pub mod Appending
+pub mod Entries
+pub mod Overlaps
+pub mod Spaces
+pub mod BareTracks
+pub mod Signs
+pub mod Asked
+pub mod Placed
+pub mod NoBreach
+pub mod BareUnit
+pub mod Loads
+pub mod Ends

@@ -1,6 +1,10 @@
 -- Why a run ends.
-use Rattle.std.specs.Prelude.{◌≡◌, ◌⊎◌, ◌≢◌, ℕ, List, []}
+use Rattle.std.specs.Prelude.{◌≡◌, ◌⊎◌, ◌≢◌, ◌==◌, if◌then◌else◌, ℕ, List, [], Option, codes}
 use Rattle.dasd_pool.specs.Count.{Rose}
+use Rattle.volume_model.specs.Sound.{Slots}
+use Rattle.adr_top.specs.Words.{Named}
+use Rattle.adr_top.specs.Form.{HasBareUnit, HasTextForm, HasSomeTextForm, IsOutsideForm}
+use Rattle.adr_top.specs.Print.{status_line}
 
 -- there are no words, the pool hasn't one unit and a journal, or there are outputs or inputs
 abbrev pub IsOutOfWords : {X Y Z : Type 0} → List X → ℕ → List Y → List Z → Type 0
@@ -12,3 +16,14 @@ pub record HasStatusCause (status source_before source_now pool_before pool_now 
   pub pool : status ≡ 16 → Rose pool_before pool_now
   pub source : status ≡ 24 → Rose source_before source_now
   pub sink : status ≡ 28 → Rose sink_before sink_now
+
+-- What a status says of words, text and unit: the pool is called only where words and text are of the form, lines are written
+-- only where the unit is too, and 48 comes only where one of them isn't.
+pub record SaysForm (status : ℕ) (words : List (List ℕ)) (text : Option (List ℕ)) (tells : Type 0) (head : List ℕ) (blocks : ℕ) (slots : Slots) : Type 0 where
+  pub inside : (status ≡ 0) ⊎ (status ≡ 28) → (named : Named) × HasTextForm words text named × (tells → HasBareUnit named.name head blocks slots)
+  pub asked : status ≡ 16 → HasSomeTextForm words text
+  pub outside : status ≡ 48 → IsOutsideForm words text tells head blocks slots
+
+-- the last line of a run with this status, where it isn't 0 or 28
+abbrev pub last_line : ℕ → List ℕ
+last_line status = if status == 24 then status_line 24 (codes ": SYSIN") else if status == 32 then [] else status_line status []

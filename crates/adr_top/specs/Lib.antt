@@ -1,6 +1,9 @@
 pub mod Print
 pub mod Words
+pub mod Parts
+pub mod Form
+pub mod BareTrack
+pub mod Loaded
 pub mod Causes
 pub mod Stops
 pub mod Listed
-pub mod Empty

@@ -1,17 +1,31 @@
--- What a run prints of the volume on a unit.
-use Rattle.std.specs.Prelude.{◌≡◌, ℕ, List, false, Option}
-use Rattle.dasd_pool.specs.Stream.{Appends}
-use Rattle.volume_model.specs.Sound.{Slots, Volume, IsVolume}
+-- What a run takes from its text and gives to its lines.
+use Rattle.std.specs.Prelude.{◌≡◌, ◌⊎◌, ℕ, ◌≤◌, List, length, Option}
+use Rattle.dasd_pool.specs.Count.{Rose}
+use Rattle.dasd_pool.specs.Stream.{Takes, Appends, AppendsSome}
+use Rattle.volume_model.specs.Sound.{Slots, Volume}
+use Rattle.adr_top.specs.Words.{Named}
+use Rattle.adr_top.specs.Form.{HasTextForm, IsBareUnit}
 use Rattle.adr_top.specs.Print.{printed_run}
 
--- the unit with this head and these slots is a volume, and the text is what a run prints that lists it
-pub record ListsVolume (head : List ℕ) (blocks : ℕ) (slots : Slots) (text : List ℕ) : Type 0 where
+-- the unit with this head and these slots is a volume of the form, and the text is what a run prints that lists it
+pub record ListsVolume (name head : List ℕ) (blocks : ℕ) (slots : Slots) (text : List ℕ) : Type 0 where
   pub volume : Volume
-  pub stands : IsVolume head blocks slots false volume
+  pub stands : IsBareUnit name head blocks slots volume
   pub text_is : text ≡ printed_run volume
 
--- what was taken besides is what a run prints that lists the volume
-pub record Prints (head : List ℕ) (blocks : ℕ) (slots : Slots) (before after : Option (List ℕ)) : Type 0 where
+-- words and text are of the form, and what was taken besides is what a run prints that lists the unit's volume
+pub record Prints (words : List (List ℕ)) (sysin : Option (List ℕ)) (tells : Type 0) (head : List ℕ) (blocks : ℕ) (slots : Slots) (before after : Option (List ℕ)) : Type 0 where
+  pub named : Named
+  pub asked : HasTextForm words sysin named
   pub text : List ℕ
-  pub lists : ListsVolume head blocks slots text
+  pub lists : tells → ListsVolume named.name head blocks slots text
   pub taken : Appends before after text
+
+-- a line was taken, all of it where the count of faults didn't rise
+pub record Tells (before after : Option (List ℕ)) (faults_before faults_after : ℕ) (line : List ℕ) : Type 0 where
+  pub some : AppendsSome before after line
+  pub all : Appends before after line ⊎ Rose faults_before faults_after
+
+-- at most so many bytes were taken
+abbrev pub TakesFew : ℕ → Option (List ℕ) → Option (List ℕ) → Type 0
+TakesFew most old new = (bytes : List ℕ) × (length bytes ≤ most) × Takes old new bytes

@@ -7,7 +7,9 @@ use Rattle.ckd_image.specs.declared.device.Device.TheVariants.{D3390, D3380}
 use Rattle.vol_label.specs.CodePage.{ascii_of}
 use Rattle.volume_model.specs.Dscbs.{ExtentField, number_at}
 use Rattle.volume_model.specs.Directory.{DirectoryRow}
-use Rattle.volume_model.specs.Space.{TrackRun, run_of, tracks_of, index_of}
+use Rattle.free_map.specs.declared.run.Run.{Run}
+use Rattle.free_map.specs.Free.{count_of, index_of}
+use Rattle.volume_model.specs.Space.{run_of}
 use Rattle.volume_model.specs.Sound.{Volume}
 use Rattle.ckd_image.specs.Device.{heads_of}
 
@@ -63,14 +65,14 @@ organization dsorg =
     else if base == 0x0200 then codes "PO" else if base == 0x0008 then codes "VS" else codes "--")
     ++ (if base == dsorg then [] else codes "U")
 
-abbrev pub runs_in : ℕ → DirectoryRow → List TrackRun
+abbrev pub runs_in : ℕ → DirectoryRow → List Run
 runs_in heads row = map (run_of heads) row.extents
 
 abbrev pub row_line : ℕ → ℕ → DirectoryRow → List ℕ
 row_line statement heads row =
     message 111 letter_i statement
     (printed (take 44 row.format_1) ++ codes " " ++ organization (number_at row.format_1 82) ++ codes " EXTENTS " ++ decimal (length row.extents)
-    ++ codes " TRACKS " ++ decimal (tracks_of (runs_in heads row)) ++ codes " LAST "
+    ++ codes " TRACKS " ++ decimal (count_of (runs_in heads row)) ++ codes " LAST "
     ++ hex (slice_index row.format_1 98) ++ hex (slice_index row.format_1 99) ++ hex (slice_index row.format_1 100))
 
 -- the extents of a row, numbered from a number on
@@ -89,7 +91,7 @@ abbrev pub volume_line : ℕ → Volume → List ℕ
 volume_line statement volume =
     message 110 letter_i statement
     (codes "VOLUME " ++ printed volume.label.serial.text ++ codes " " ++ device_name volume.device ++ codes " USABLE " ++ decimal volume.usable
-    ++ codes " FREE " ++ decimal (tracks_of volume.free) ++ codes " IN " ++ decimal (length volume.free) ++ codes " RUNS INDEX " ++ decimal (index_of volume.free))
+    ++ codes " FREE " ++ decimal (count_of volume.free) ++ codes " IN " ++ decimal (length volume.free) ++ codes " RUNS INDEX " ++ decimal (index_of volume.free))
 
 -- a volume, and its data sets in their order
 abbrev pub listing : ℕ → Volume → List ℕ

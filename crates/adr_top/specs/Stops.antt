@@ -20,18 +20,27 @@ line_of stops.Memory = []
 line_of stops.Words = status_line 36 []
 line_of stops.Form = status_line 48 []
 
--- the pool is named only where its count rose
-abbrev pub IsPoolStop : ℕ → ℕ → Stop → Type 0
-IsPoolStop before now stops.Pool = Rose before now
-IsPoolStop before now stops.Sysin = ⊥
-IsPoolStop before now stops.Memory = Unit {0}
-IsPoolStop before now stops.Words = ⊥
-IsPoolStop before now stops.Form = Unit {0}
+-- while the pool is read, only it or memory can fail, and the pool only where its count rose
+abbrev pub IsReadStop : ℕ → ℕ → Stop → Type 0
+IsReadStop before now stops.Pool = Rose before now
+IsReadStop before now stops.Sysin = ⊥
+IsReadStop before now stops.Memory = Unit {0}
+IsReadStop before now stops.Words = ⊥
+IsReadStop before now stops.Form = ⊥
 
--- the source and the pool are named only where their counts rose, and the words not at all
-abbrev pub IsStop : ℕ → ℕ → ℕ → ℕ → Stop → Type 0
-IsStop source_before source_now pool_before pool_now stops.Pool = Rose pool_before pool_now
-IsStop source_before source_now pool_before pool_now stops.Sysin = Rose source_before source_now
-IsStop source_before source_now pool_before pool_now stops.Memory = Unit {0}
-IsStop source_before source_now pool_before pool_now stops.Words = ⊥
-IsStop source_before source_now pool_before pool_now stops.Form = Unit {0}
+-- while the text is read: the source's count rose, or words or text aren't of the form
+abbrev pub IsTextStop : ℕ → ℕ → Type 0 → Stop → Type 0
+IsTextStop before now outside stops.Pool = ⊥
+IsTextStop before now outside stops.Sysin = Rose before now
+IsTextStop before now outside stops.Memory = ⊥
+IsTextStop before now outside stops.Words = ⊥
+IsTextStop before now outside stops.Form = outside
+
+-- Why a run ends that was begun: a count rose, memory ran out, or something isn't of the form. The pool is called only where
+-- words and text are.
+abbrev pub IsStop : ℕ → ℕ → ℕ → ℕ → Type 0 → Type 0 → Stop → Type 0
+IsStop source_before source_now pool_before pool_now asked outside stops.Pool = asked × Rose pool_before pool_now
+IsStop source_before source_now pool_before pool_now asked outside stops.Sysin = Rose source_before source_now
+IsStop source_before source_now pool_before pool_now asked outside stops.Memory = Unit {0}
+IsStop source_before source_now pool_before pool_now asked outside stops.Words = ⊥
+IsStop source_before source_now pool_before pool_now asked outside stops.Form = outside

@@ -1,13 +1,7 @@
 //! The outputs and inputs of a run, and its day.
 
+pub use by_rules::Day;
 use dasd_pool::{Medium, Reel};
-
-/// A day of a year.
-#[derive(Clone, Copy, Debug, PartialEq, Eq)]
-pub struct Day {
-    pub year: u16,
-    pub day: u16,
-}
 
 /// A DD name in ASCII: its characters, and zeros behind them.
 #[derive(Clone, Copy, Debug, PartialEq, Eq)]

@@ -1,55 +1,56 @@
 //! Reading a volume from its unit.
 
-ghost use Rattle.std.specs.Prelude.{◌≡◌, ◌<◌, ◌≤◌, ◌↔◌, false, IsTrue, IfOk, IfErr, IfSome};
-ghost use Rattle.ckd_image.specs.Address.{address_of};
+ghost use Rattle.std.specs.Prelude.{◌≡◌, ◌<◌, ◌≤◌, ◌↔◌, ℕ, List, length, IsTrue, MatchOption, IfOk, OnOk, IfErr, IfSome, ◌*◌, ◌+◌};
+ghost use Rattle.ckd_image.specs.declared.head.Head.{Head};
+ghost use Rattle.ckd_image.specs.declared.track.Track.{Track};
 ghost use Rattle.ckd_image.specs.Track.{IsTrackText};
-ghost use Rattle.volume_model.specs.Sound.{IsVolume};
-ghost use Rattle.adr_top.specs.Empty.{empty_volume, IsOnTrackOne, StandsEmpty};
-ghost use Rattle.adr_top.specs.Stops.{IsPoolStop};
+ghost use Rattle.vol_label.specs.declared.label.Label.{Label};
+ghost use Rattle.vol_label.specs.Serial.{Spells};
+ghost use Rattle.adr_top.specs.Form.{HasBareUnit};
+ghost use Rattle.adr_top.specs.Loaded.{IsFront, IsVolumeWith};
+ghost use Rattle.adr_top.specs.Stops.{IsReadStop};
 
+use crate::bare::{bare_vtoc, track_number, volume_end};
+use crate::space::{Space, bare_space};
 use crate::stop::Stop;
-use crate::volume::free_tracks;
 use ckd_image::{CkdFault, Device, Head, Track, TrackAt, parse_track};
 use dasd_pool::Pool;
 use std::alloc::Global;
 use vol_label::{Label, Serial};
 
-/// A volume without data sets: its label, and how many tracks are free from track 2 on.
+/// What the head and track 0 of a unit say.
 #[derive(Clone, Copy, Debug)]
-pub(crate) struct EmptyVolume {
-    pub label: Label,
-    pub free: u32,
+struct Front {
+    head: Head,
+    label: Label,
 }
 
-/// Reads the track text of a track of cylinder 0.
-fn read_track<P: Pool>(alloc: Global, pool: &mut P, track: u32, size: u32) -> Result<Track, Stop>
+/// Reads the track text of a track of unit 0, where one stands there.
+fn read_track<P: Pool>(
+    alloc: Global,
+    pool: &mut P,
+    track: u32,
+    at: TrackAt,
+) -> Result<Option<Track>, Stop>
     requires unit { 0 < (P.shape pool.old).units }
     requires track { track < (P.shape pool.old).blocks 0 }
-    requires size { size ≡ (P.shape pool.old).block_size 0 }
-    requires short { size ≤ 65536 }
-    requires first_cylinder { track < 15 }
-    ensures read { P.tells → IfOk result (λ text. IsTrackText (address_of 15 track) ((P.disk pool.old).state.contents 0 track) text) }
-    ensures fault { IfErr result (IsPoolStop (P.faults pool.old) (P.faults pool.new)) }
+    ensures read { P.tells → IfOk result (λ found. MatchOption found
+        ((text : Track) → ¬ IsTrackText at ((P.disk pool.old).state.contents 0 track) text)
+        (λ text. IsTrackText at ((P.disk pool.old).state.contents 0 track) text)) }
+    ensures short { P.tells → OnOk result (length ((P.disk pool.old).state.contents 0 track) ≤ 65536) }
+    ensures fault { IfErr result (IsReadStop (P.faults pool.old) (P.faults pool.new)) }
     ensures later { P.faults pool.old ≤ P.faults pool.new }
     ensures shape { P.shape pool.new ≡ P.shape pool.old }
     ensures same { P.tells → (P.disk pool.new).state ≡ (P.disk pool.old).state }
 {
+    let size = pool.block_size(0);
     let mut slot = vec![in alloc; 0u8; size as usize]?;
     pool.read(0, track, &mut slot)?;
-    let at = TrackAt::of(track, 15);
     match parse_track(alloc, Device::D3390, at, &slot) {
-        Ok(text) => Ok(text),
+        Ok(text) => Ok(Some(text)),
         Err(CkdFault::NoMemory) => Err(Stop::Memory),
-        Err(_) => Err(Stop::Form),
+        Err(_) => Ok(None),
     }
-}
-
-/// Whether a label's pointer is record 1 of track 1.
-fn is_on_track_1(label: Label) -> bool
-    ensures { IsTrue result ↔ IsOnTrackOne label }
-{
-    let at = label.vtoc.at;
-    at.cylinder == 0 && at.head == 1 && label.vtoc.r == 1
 }
 
 fn is_3390(device: Device) -> bool
@@ -59,59 +60,74 @@ fn is_3390(device: Device) -> bool
 }
 
 fn has_serial(label: Label, serial: Serial) -> bool
-    ensures { IsTrue result → label.serial ≡ serial }
+    ensures { IsTrue result ↔ (label.serial.text ≡ serial.text) }
 {
     label.serial == serial
 }
 
-/// The volume of two tracks of an image with this head, where it is of the form.
-fn volume_of(head: Head, track_0: &Track, track_1: &Track) -> Option<EmptyVolume>
-    ensures stands { IfSome result (λ volume. StandsEmpty head track_0.now track_1.now volume.label volume.free) }
-    ensures small { IfSome result (λ volume. (1 ≤ volume.free) × (volume.free < 1000000)) }
-{
-    let Ok(label) = Label::read(track_0, head) else {
-        return None;
-    };
-    if !is_on_track_1(label) {
-        return None;
-    }
-    let free = free_tracks(track_1, head.tracks)?;
-    Some(EmptyVolume { label, free })
-}
-
-/// Reads the volume on unit 0, where it is a 3390 of the form with this serial.
-pub(crate) fn load<P: Pool>(
-    alloc: Global,
-    pool: &mut P,
-    serial: Serial,
-) -> Result<EmptyVolume, Stop>
+/// Reads the head and the label of unit 0, where it is a 3390 with this serial.
+fn load_front<P: Pool>(alloc: Global, pool: &mut P, serial: Serial) -> Result<Option<Front>, Stop>
     requires { 0 < (P.shape pool.old).units }
-    ensures volume { P.tells → IfOk result (λ volume. IsVolume ((P.shape pool.old).head 0) ((P.shape pool.old).blocks 0)
-        ((P.disk pool.old).state.contents 0) false (empty_volume volume.label volume.free)) }
-    ensures serial { IfOk result (λ volume. volume.label.serial ≡ serial) }
-    ensures small { IfOk result (λ volume. (1 ≤ volume.free) × (volume.free < 1000000)) }
-    ensures fault { IfErr result (IsPoolStop (P.faults pool.old) (P.faults pool.new)) }
+    ensures front { P.tells → IfOk result (λ found. MatchOption found
+        ((head : Head) (label : Label) → ¬ IsFront serial.text ((P.shape pool.old).head 0) ((P.shape pool.old).blocks 0) ((P.disk pool.old).state.contents 0) head label)
+        (λ front. (length ((P.disk pool.old).state.contents 0 0) ≤ 65536)
+        × IsFront serial.text ((P.shape pool.old).head 0) ((P.shape pool.old).blocks 0) ((P.disk pool.old).state.contents 0) front.head front.label)) }
+    ensures inside { IfOk result (λ found. IfSome found (λ front. (front.label.vtoc.at.cylinder * 15 + front.label.vtoc.at.head < (P.shape pool.old).blocks 0)
+        × (front.label.vtoc.at.head < 15) × (front.head.tracks ≤ 65535))) }
+    ensures fault { IfErr result (IsReadStop (P.faults pool.old) (P.faults pool.new)) }
     ensures later { P.faults pool.old ≤ P.faults pool.new }
     ensures shape { P.shape pool.new ≡ P.shape pool.old }
     ensures same { P.tells → (P.disk pool.new).state ≡ (P.disk pool.old).state }
 {
     let Ok(head) = Head::read(&pool.head(0), pool.blocks(0)) else {
-        return Err(Stop::Form);
+        return Ok(None);
     };
-    let size = pool.block_size(0);
-    if size > 65_536 {
-        return Err(Stop::Form);
-    }
     if !is_3390(head.device) {
-        return Err(Stop::Form);
+        return Ok(None);
     }
-    let track_0 = read_track(alloc, pool, 0, size)?;
-    let track_1 = read_track(alloc, pool, 1, size)?;
-    let Some(volume) = volume_of(head, &track_0, &track_1) else {
-        return Err(Stop::Form);
+    let at = TrackAt {
+        cylinder: 0,
+        head: 0,
     };
-    if !has_serial(volume.label, serial) {
-        return Err(Stop::Form);
+    let Some(track) = read_track(alloc, pool, 0, at)? else {
+        return Ok(None);
+    };
+    let Ok(label) = Label::read(&track, head) else {
+        return Ok(None);
+    };
+    if !has_serial(label, serial) {
+        return Ok(None);
     }
-    Ok(volume)
+    Ok(Some(Front { head, label }))
+}
+
+/// Reads the volume on unit 0, where it is of the form and has this serial: its usable and its free tracks.
+pub(crate) fn load<P: Pool>(
+    alloc: Global,
+    pool: &mut P,
+    serial: Serial,
+) -> Result<Option<Space>, Stop>
+    requires { 0 < (P.shape pool.old).units }
+    ensures volume { P.tells → IfOk result (λ found. MatchOption found
+        ((name : List ℕ) → Spells name serial.text → ¬ HasBareUnit name ((P.shape pool.old).head 0) ((P.shape pool.old).blocks 0) ((P.disk pool.old).state.contents 0))
+        (λ space. (name : List ℕ) → Spells name serial.text
+        → IsVolumeWith name ((P.shape pool.old).head 0) ((P.shape pool.old).blocks 0) ((P.disk pool.old).state.contents 0) space.usable space.free.runs)) }
+    ensures fault { IfErr result (IsReadStop (P.faults pool.old) (P.faults pool.new)) }
+    ensures later { P.faults pool.old ≤ P.faults pool.new }
+    ensures shape { P.shape pool.new ≡ P.shape pool.old }
+    ensures same { P.tells → (P.disk pool.new).state ≡ (P.disk pool.old).state }
+{
+    let Some(front) = load_front(alloc, pool, serial)? else {
+        return Ok(None);
+    };
+    let pointer = front.label.vtoc;
+    let track = track_number(pointer.at);
+    let Some(text) = read_track(alloc, pool, track, pointer.at)? else {
+        return Ok(None);
+    };
+    let Some(vtoc) = bare_vtoc(&text, pointer, front.head.tracks) else {
+        return Ok(None);
+    };
+    let limit = volume_end(&vtoc.four, front.head.tracks);
+    Ok(bare_space(alloc, track, limit, &vtoc.five)?)
 }

@@ -1,20 +1,24 @@
 //! A run of one text.
 
-ghost use Rattle.std.specs.Prelude.{◌≡◌, ◌≢◌, ◌↔◌, ◌<◌, ◌≤◌, [], None, IsTrue, IfOk, IfErr, string_bytes};
+ghost use Rattle.std.specs.Prelude.{◌≡◌, ◌≢◌, ◌↔◌, ◌<◌, ◌≤◌, ℕ, List, [], None, length, take, IsTrue, MatchOption, IfSome, IfOk, OnOk, IfErr, string_bytes};
+ghost use Rattle.dasd_pool.specs.Count.{Rose};
 ghost use Rattle.vol_label.specs.Serial.{IsSerialName, Spells};
-ghost use Rattle.adr_top.specs.Causes.{IsOutOfWords, HasStatusCause};
-ghost use Rattle.adr_top.specs.Empty.{empty_volume};
-ghost use Rattle.adr_top.specs.Listed.{ListsVolume, Prints};
-ghost use Rattle.adr_top.specs.Print.{printed_run};
-ghost use Rattle.adr_top.specs.Stops.{status_of, IsStop};
+ghost use Rattle.adr_top.specs.Causes.{IsOutOfWords, HasStatusCause, SaysForm, last_line};
+ghost use Rattle.adr_top.specs.Form.{IsPrintText, HasTextForm, HasSomeTextForm, IsOutsideText, IsOutsideForm};
+ghost use Rattle.adr_top.specs.Listed.{ListsVolume, Prints, Tells, TakesFew};
+ghost use Rattle.adr_top.specs.Loaded.{IsVolumeWith};
+ghost use Rattle.adr_top.specs.Stops.{status_of, IsTextStop, IsStop};
+ghost use Rattle.adr_top.specs.Words.{Named};
+ghost use Rattle.adr_top.specs.Parts.{named_by};
 
 use crate::lists::{Day, InDd, OutDd};
-use crate::load::{EmptyVolume, load};
+use crate::load::load;
 use crate::print::{SpaceNumbers, run_text};
+use crate::space::Space;
 use crate::steps::Step;
 use crate::stop::Stop;
 use crate::stream::{read_front, write_all};
-use crate::words::unit_words;
+use crate::words::{UnitWords, unit_words};
 use ckd_image::Word;
 use ckd_image::text::{after, same};
 use dasd_pool::{Pool, Sink, Source};
@@ -37,29 +41,67 @@ pub struct Ended<P> {
 const TEXT_LIMIT: usize = 128;
 
 /// Whether a text is the one statement of the form, for the unit of this name, with or without its line's end.
-fn is_print(text: &[u8], name: &str) -> bool {
+fn is_print(text: &[u8], name: &str) -> bool
+    ensures { IsTrue result ↔ IsPrintText name.now text.now }
+{
     let Some(rest) = after(text, b" PRINT VTOC INDDNAME(") else {
         return false;
     };
-    match after(rest, name.as_bytes()) {
-        Some(rest) => same(rest, b")") || same(rest, b")\n"),
-        None => false,
-    }
+    let Some(rest) = after(rest, name.as_bytes()) else {
+        return false;
+    };
+    same(rest, b")") || same(rest, b")\n")
 }
 
-/// The lines of a volume whose serial has this name.
-fn volume_text(alloc: Global, name: &str, volume: EmptyVolume) -> Result<String, AllocError>
-    requires named { IsSerialName name.now }
-    requires spelled { Spells name.now volume.label.serial.text }
-    requires some { 1 ≤ volume.free }
-    requires small { volume.free < 1000000 }
-    ensures { IfOk result (λ text. string_bytes text ≡ printed_run (empty_volume volume.label volume.free)) }
+/// Reads a text to the front of a buffer, and says how long it is, where it isn't longer than the limit.
+fn read_text<S: Source>(sysin: &mut S, buffer: &mut [u8; 129]) -> Result<Option<usize>, Stop>
+    ensures read { IfOk result (λ found. MatchOption found (IfSome (S.left sysin.old) (λ text. 128 < length text))
+        (λ count. IfSome (S.left sysin.old) (λ text. text ≡ take count buffer.new))) }
+    ensures within { IfOk result (λ found. IfSome found (λ count. count ≤ 129)) }
+    ensures few { OnOk result (TakesFew 129 (S.left sysin.old) (S.left sysin.new)) }
+    ensures fault { IfErr result (λ stop. (stop ≡ Stop.Sysin) × Rose (S.faults sysin.old) (S.faults sysin.new)) }
 {
+    let count = read_front(sysin, buffer)?;
+    if count > TEXT_LIMIT {
+        return Ok(None);
+    }
+    Ok(Some(count))
+}
+
+/// What the words name, where words and text are of the form.
+fn asked<'a, S: Source>(words: &'a [Word], sysin: &mut S) -> Result<UnitWords<'a>, Stop>
+    ensures asked { IfOk result (λ parts. HasTextForm words.now (S.left sysin.old) (named_by parts)) }
+    ensures spelled { IfOk result (λ parts. Spells parts.name.now parts.serial.text) }
+    ensures fault { IfErr result (IsTextStop (S.faults sysin.old) (S.faults sysin.new) (IsOutsideText words.now (S.left sysin.old))) }
+    ensures few { IfErr result (λ stop. stop ≡ Stop.Form → TakesFew 129 (S.left sysin.old) (S.left sysin.new)) }
+    ensures few_asked { OnOk result (TakesFew 129 (S.left sysin.old) (S.left sysin.new)) }
+{
+    let mut buffer = [0; 129];
+    let found = read_text(sysin, &mut buffer)?;
+    let Some(parts) = unit_words(words) else {
+        return Err(Stop::Form);
+    };
+    let Some(count) = found else {
+        return Err(Stop::Form);
+    };
+    if !is_print(&buffer[..count], parts.name) {
+        return Err(Stop::Form);
+    }
+    Ok(parts)
+}
+
+/// The lines of a volume whose serial has this name, by its space.
+fn volume_text(alloc: Global, name: &str, space: &Space) -> Result<String, AllocError>
+    requires { IsSerialName name.now }
+    ensures { IfOk result (λ text. (head : List ℕ) (blocks : ℕ) (slots : ℕ → List ℕ) → IsVolumeWith name.now head blocks slots space.now.usable space.now.free.runs
+        → ListsVolume name.now head blocks slots (string_bytes text)) }
+{
+    let free = &space.free;
     let numbers = SpaceNumbers {
-        usable: 2 + volume.free,
-        free: volume.free,
-        runs: 1,
-        index: 0,
+        usable: space.usable,
+        free: free.count(),
+        runs: free.runs().len() as u32,
+        index: free.index(),
     };
     run_text(alloc, name, "3390", numbers)
 }
@@ -72,31 +114,28 @@ fn lines<S: Source, P: Pool>(
     pool: &mut P,
 ) -> Result<String, Stop>
     requires { 0 < (P.shape pool.old).units }
-    ensures listed { P.tells → IfOk result (λ text. ListsVolume ((P.shape pool.old).head 0) ((P.shape pool.old).blocks 0)
-        ((P.disk pool.old).state.contents 0) (string_bytes text)) }
-    ensures cause { IfErr result (IsStop (S.faults sysin.old) (S.faults sysin.new) (P.faults pool.old) (P.faults pool.new)) }
+    ensures listed { IfOk result (λ text. (named : Named) × HasTextForm words.now (S.left sysin.old) named × (P.tells
+        → ListsVolume named.name ((P.shape pool.old).head 0) ((P.shape pool.old).blocks 0) ((P.disk pool.old).state.contents 0) (string_bytes text))) }
+    ensures fault { IfErr result (IsStop (S.faults sysin.old) (S.faults sysin.new) (P.faults pool.old) (P.faults pool.new)
+        (HasSomeTextForm words.now (S.left sysin.old))
+        (IsOutsideForm words.now (S.left sysin.old) P.tells ((P.shape pool.old).head 0) ((P.shape pool.old).blocks 0) ((P.disk pool.old).state.contents 0))) }
+    ensures few { IfErr result (λ stop. stop ≢ Stop.Sysin → TakesFew 129 (S.left sysin.old) (S.left sysin.new)) }
+    ensures few_listed { OnOk result (TakesFew 129 (S.left sysin.old) (S.left sysin.new)) }
     ensures shape { P.shape pool.new ≡ P.shape pool.old }
     ensures same { P.tells → (P.disk pool.new).state ≡ (P.disk pool.old).state }
 {
-    let mut buffer = [0; 129];
-    let count = read_front(sysin, &mut buffer)?;
-    let Some(parts) = unit_words(words) else {
+    let parts = asked(words, sysin)?;
+    let Some(space) = load(alloc, pool, parts.serial)? else {
         return Err(Stop::Form);
     };
-    let Ok(serial) = Serial::read(parts.name.as_bytes()) else {
-        return Err(Stop::Form);
-    };
-    if count > TEXT_LIMIT || !is_print(&buffer[..count], parts.name) {
-        return Err(Stop::Form);
-    }
-    let volume = load(alloc, pool, serial)?;
-    let text = volume_text(alloc, parts.name, volume)?;
+    let text = volume_text(alloc, parts.name, &space)?;
     Ok(text)
 }
 
 /// Tries to write the last line of a run that ended, and gives its status. A fault of that write changes no status.
 fn tell<O: Sink>(out: &mut O, stop: Stop) -> u8
     ensures status { result ≡ status_of stop }
+    ensures told { Tells (O.taken out.old) (O.taken out.new) (O.faults out.old) (O.faults out.new) (last_line result) }
     ensures later { O.faults out.old ≤ O.faults out.new }
 {
     let _ = write_all(out, stop.line());
@@ -112,10 +151,13 @@ fn run<S: Source, O: Sink, P: Pool>(
     pool: &mut P,
 ) -> u8
     requires { 0 < (P.shape pool.old).units }
-    ensures listed { P.tells → result ≡ 0 → Prints ((P.shape pool.old).head 0) ((P.shape pool.old).blocks 0)
+    ensures listed { result ≡ 0 → Prints words.now (S.left sysin.old) P.tells ((P.shape pool.old).head 0) ((P.shape pool.old).blocks 0)
         ((P.disk pool.old).state.contents 0) (O.taken out.old) (O.taken out.new) }
+    ensures form { SaysForm result words.now (S.left sysin.old) P.tells ((P.shape pool.old).head 0) ((P.shape pool.old).blocks 0) ((P.disk pool.old).state.contents 0) }
+    ensures told { result ≢ 0 → result ≢ 28 → Tells (O.taken out.old) (O.taken out.new) (O.faults out.old) (O.faults out.new) (last_line result) }
     ensures cause { HasStatusCause result (S.faults sysin.old) (S.faults sysin.new) (P.faults pool.old) (P.faults pool.new)
         (O.faults out.old) (O.faults out.new) }
+    ensures few { result ≢ 24 → TakesFew 129 (S.left sysin.old) (S.left sysin.new) }
     ensures not_words { result ≢ 36 }
     ensures shape { P.shape pool.new ≡ P.shape pool.old }
     ensures same { P.tells → (P.disk pool.new).state ≡ (P.disk pool.old).state }
@@ -174,8 +216,8 @@ fn without_steps<P>(
 
 /// Runs the words of `adrdssu`: reads the text from `sysin`, runs it over the pool, and writes the lines to `out`.
 ///
-/// Built is the listing of a 3390 volume of one VTOC track without data sets, with its free space in one entry; for other words,
-/// texts and volumes the status is 48. `held` isn't read, and neither is the pool's last unit, the journal.
+/// Built is one listing of a 3390 volume whose VTOC is one track without data sets; for other words, texts and volumes the
+/// status is 48. `held` isn't read, and neither is the pool's last unit, the journal.
 pub fn batch<S: Source, H: Source, O: Sink, P: Pool>(
     alloc: Global,
     words: &[Word],
@@ -194,9 +236,18 @@ pub fn batch<S: Source, H: Source, O: Sink, P: Pool>(
     ensures cause { HasStatusCause result.status (S.faults sysin.old) (S.faults sysin.new) (P.faults pool) (P.faults result.pool)
         (O.faults out.old) (O.faults out.new) }
 
-    // Where it answers 0, `out` took the lines of the volume on unit 0.
-    ensures listed { P.tells → result.status ≡ 0 → Prints ((P.shape pool).head 0) ((P.shape pool).blocks 0)
+    // Where it answers 0, words and text are of the form, the image on unit 0 is a volume of the form, and `out` took its lines.
+    ensures listed { result.status ≡ 0 → Prints words.now (S.left sysin.old) P.tells ((P.shape pool).head 0) ((P.shape pool).blocks 0)
         ((P.disk pool).state.contents 0) (O.taken out.old) (O.taken out.new) }
+
+    // 48 only where words, text or unit aren't of the form; the pool is called only where words and text are.
+    ensures form { SaysForm result.status words.now (S.left sysin.old) P.tells ((P.shape pool).head 0) ((P.shape pool).blocks 0) ((P.disk pool).state.contents 0) }
+
+    // Where it ends otherwise, `out` took the last line alone, as far as it could.
+    ensures told { result.status ≢ 0 → result.status ≢ 28 → Tells (O.taken out.old) (O.taken out.new) (O.faults out.old) (O.faults out.new) (last_line result.status) }
+
+    // Of the text at most 129 bytes are read.
+    ensures few { result.status ≢ 24 → TakesFew 129 (S.left sysin.old) (S.left sysin.new) }
 
     // No volume changes.
     ensures shape { P.shape result.pool ≡ P.shape pool }

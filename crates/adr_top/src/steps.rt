@@ -1,23 +1,8 @@
 //! The steps that change volumes.
 
 use crate::lists::DdName;
-use ckd_image::Listed;
-
-/// A data set name in ASCII: its characters, and zeros behind them.
-#[derive(Clone, Copy, Debug, PartialEq, Eq)]
-pub struct Dsn {
-    pub len: u8,
-    pub text: [u8; 44],
-}
-
-/// A run of tracks.
-#[derive(Clone, Copy, Debug, PartialEq, Eq)]
-pub struct Run {
-    pub first: u32,
-    pub len: u32,
-}
-
-pub type Runs = Listed<Run>;
+pub use dsn_filter::Dsn;
+pub use free_map::Runs;
 
 /// Where a new data set comes from: a data set of a unit, or a part of a dump by its number among the whole ones.
 #[derive(Clone, Copy, Debug, PartialEq, Eq)]

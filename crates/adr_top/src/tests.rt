@@ -1,8 +1,8 @@
 use super::*;
-use ckd_image::{Bytes, Cchhr, TrackAt, Word};
+use crate::base::{BASE, SLOT, Vtoc, label_slot, vtoc_slot};
+use ckd_image::{Bytes, Word};
 use dasd_pool::{MemoryPool, MemorySink, MemorySource, UnitText};
 use std::test::*;
-use vol_label::{Serial, with_vtoc};
 
 const TODAY: Day = Day { year: 2026, day: 1 };
 
@@ -20,6 +20,13 @@ const WITHOUT_WORDS: &str = "ADR536T (000) RUN ENDED WITH STATUS 36\n";
 
 const NOT_OF_THE_FORM: &str = "ADR548T (000) RUN ENDED WITH STATUS 48\n";
 
+/// Where the bytes of the first and the second DSCB begin among those of the unit, and those of the third.
+const FOUR: usize = SLOT + 29;
+
+const FIVE: usize = SLOT + 177;
+
+const THIRD: usize = SLOT + 325;
+
 /// The first calls of text, pool and output that fail.
 #[derive(Clone, Copy)]
 struct Failing {
@@ -34,94 +41,50 @@ const NONE: Failing = Failing {
     out: false,
 };
 
-/// A byte of a unit that is changed: of the head, or of a track.
+/// A volume, of whose head and blocks some bytes are changed.
 #[derive(Clone, Copy)]
-enum Change {
-    Head(usize, u8),
-    Block(usize, u8),
-    Nothing,
+struct Given {
+    vtoc: Vtoc,
+    head: &'static [(usize, u8)],
+    blocks: &'static [(usize, u8)],
 }
 
-/// Adds a record to a track of cylinder 0. Its lengths are below 256.
-fn push_record(track: &mut Vec<u8>, head: u8, r: u8, key: &[u8], body: &[u8]) -> Result<(), Fail> {
-    let key_length = key.len().min(255) as u8;
-    let data_length = body.len().min(255) as u8;
-    let count = [0, 0, 0, head, r, key_length, 0, data_length];
-    track.extend_from_slice(&count)?;
-    track.extend_from_slice(key)?;
-    track.extend_from_slice(body)?;
-    Ok(())
+const GIVEN: Given = Given {
+    vtoc: BASE,
+    head: &[],
+    blocks: &[],
+};
+
+/// A volume of which some bytes of its blocks are others.
+fn with(blocks: &'static [(usize, u8)]) -> Given {
+    Given { blocks, ..GIVEN }
 }
 
-/// A track of cylinder 0 with its home address and record 0.
-fn new_track(rt: &HostRuntime, head: u8) -> Result<Vec<u8>, Fail> {
-    let mut track = Vec::new(rt.alloc());
-    track.extend_from_slice(&[0, 0, 0, 0, head])?;
-    push_record(&mut track, head, 0, b"", &[0; 8])?;
-    Ok(track)
+fn with_head(head: &'static [(usize, u8)]) -> Given {
+    Given { head, ..GIVEN }
 }
 
-/// The two records of the loader, and the label, whose pointer is record 1 of track 1.
-fn label_track(rt: &HostRuntime) -> Result<Vec<u8>, Fail> {
-    let mut track = new_track(rt, 0)?;
-    let serial = Serial {
-        text: [0xe5, 0xd6, 0xd3, 0xf0, 0xf0, 0xf1],
-    };
-    let at = TrackAt {
-        cylinder: 0,
-        head: 1,
-    };
-    push_record(&mut track, 0, 1, &[0xc9, 0xd7, 0xd3, 0xf1], &[0; 24])?;
-    push_record(&mut track, 0, 2, &[0xc9, 0xd7, 0xd3, 0xf2], &[0; 144])?;
-    let label = with_vtoc(serial, Cchhr { at, r: 1 });
-    push_record(&mut track, 0, 3, &[0xe5, 0xd6, 0xd3, 0xf1], &label)?;
-    track.extend_from_slice(&[0xff; 8])?;
-    Ok(track)
-}
-
-/// The VTOC on track 1: of one cylinder of 15 heads, with an entry of no whole cylinder and 13 tracks from track 2 on.
-fn vtoc_track(rt: &HostRuntime) -> Result<Vec<u8>, Fail> {
-    let mut track = new_track(rt, 1)?;
-    let mut format_4 = [0; 96];
-    format_4[0] = 0xf4;
-    format_4[19] = 1; // cylinders
-    format_4[21] = 15; // heads
-    format_4[61] = 1; // kind of the extent
-    format_4[66] = 1; // its first head
-    format_4[70] = 1; // its last head
-    push_record(&mut track, 1, 1, &[4; 44], &format_4)?;
-    let mut key = [0; 44];
-    key[..4].copy_from_slice(&[5; 4]);
-    key[5] = 2; // first track of the entry
-    key[8] = 13; // its tracks
-    let mut format_5 = [0; 96];
-    format_5[0] = 0xf5;
-    push_record(&mut track, 1, 2, &key, &format_5)?;
-    for r in 3..51 {
-        push_record(&mut track, 1, r, &[0; 44], &[0; 96])?;
-    }
-    track.extend_from_slice(&[0xff; 8])?;
-    Ok(track)
-}
-
-/// The bytes of a unit of one cylinder of a 3390 that holds the label and the VTOC.
-fn volume(rt: &HostRuntime, change: Change) -> Result<UnitText, Fail> {
+/// The bytes of a unit of one cylinder of a 3390.
+fn volume(rt: &HostRuntime, given: Given) -> Result<UnitText, Fail> {
     let mut head = [0; 512];
     head[..8].copy_from_slice(b"CKD_P370");
     head[8] = 15;
     head[13] = 0xde; // a slot of 56,832 bytes
     head[16] = 0x90;
-    let mut blocks = Vec::with_capacity(rt.alloc(), 852_480)?;
-    for track in [label_track(rt)?, vtoc_track(rt)?] {
-        let rest = 56_832 - track.len().min(56_832);
-        blocks.extend_from_slice(&track)?;
-        blocks.resize(blocks.len().saturating_add(rest), 0)?;
+    for (place, byte) in given.head {
+        if *place < 512 {
+            head[*place] = *byte;
+        }
     }
+    let mut blocks = Vec::with_capacity(rt.alloc(), 852_480)?;
+    blocks.extend_from_slice(&label_slot(rt, given.vtoc)?)?;
+    blocks.resize(usize::from(given.vtoc.head) * SLOT, 0)?;
+    blocks.extend_from_slice(&vtoc_slot(rt, given.vtoc)?)?;
     blocks.resize(852_480, 0)?;
-    match change {
-        Change::Head(place, byte) if place < 512 => head[place] = byte,
-        Change::Block(place, byte) if place < blocks.len() => blocks[place] = byte,
-        _ => {}
+    for (place, byte) in given.blocks {
+        if *place < blocks.len() {
+            blocks[*place] = *byte;
+        }
     }
     let blocks = Bytes::from_slice(rt.alloc(), &blocks)?;
     Ok(UnitText { head, blocks })
@@ -140,9 +103,9 @@ fn journal(rt: &HostRuntime) -> UnitText {
 /// The status of a run of these words and this text over a volume, and the lines that it wrote.
 fn ends(
     rt: &HostRuntime,
-    given: &[&str],
+    words: &[&str],
     text: &[u8],
-    change: Change,
+    given: Given,
     failing: Failing,
 ) -> Result<(u8, Vec<u8>), Fail> {
     let alloc = rt.alloc();
@@ -153,12 +116,12 @@ fn ends(
         }
         Ok(calls)
     };
-    let mut words = Vec::new(alloc);
-    for word in given {
-        words.push(Word::copy_of(alloc, word)?)?;
+    let mut list = Vec::new(alloc);
+    for word in words {
+        list.push(Word::copy_of(alloc, word)?)?;
     }
     let mut units = Vec::new(alloc);
-    units.push(volume(rt, change)?)?;
+    units.push(volume(rt, given)?)?;
     units.push(journal(rt))?;
     let pool = MemoryPool::new(alloc, units, first(failing.pool)?, 8)?;
     let mut sysin = MemorySource::new(Bytes::from_slice(alloc, text)?, first(failing.sysin)?);
@@ -166,7 +129,7 @@ fn ends(
     let mut out = MemorySink::new(alloc, 1000, first(failing.out)?)?;
     let (outs, ins) = (Vec::new(alloc), Vec::new(alloc));
     let ended = batch(
-        alloc, &words, &mut sysin, &mut held, &mut out, pool, outs, ins, TODAY,
+        alloc, &list, &mut sysin, &mut held, &mut out, pool, outs, ins, TODAY,
     );
     Ok((ended.status, out.text().to_vec(alloc)?))
 }
@@ -174,52 +137,161 @@ fn ends(
 #[test]
 fn a_volume_without_data_sets_is_listed(rt: HostRuntime) -> Result<(), Fail> {
     for text in [TEXT, b" PRINT VTOC INDDNAME(VOL001)"] {
-        let (status, lines) = ends(&rt, &WORDS, text, Change::Nothing, NONE)?;
+        let (status, lines) = ends(&rt, &WORDS, text, GIVEN, NONE)?;
         assert_eq!(rt; status, 0);
         assert_eq!(rt; lines.as_slice(), LISTING.as_bytes());
     }
     Ok(())
 }
 
+/// The line of a volume.
+fn volume_line(lines: &[u8]) -> &[u8] {
+    lines.split(|byte| *byte == b'\n').nth(1).unwrap_or(b"")
+}
+
+#[test]
+fn each_volume_of_the_form_is_listed_with_its_free_space(rt: HostRuntime) -> Result<(), Fail> {
+    let cases: [(Vtoc, &[u8]); 5] = [
+        // as a utility makes it that writes 12 records
+        (
+            Vtoc {
+                records: 12,
+                ..BASE
+            },
+            b"ADR110I (001) VOLUME VOL001 3390 USABLE 15 FREE 13 IN 1 RUNS INDEX 0",
+        ),
+        // elsewhere, in another order, and with two runs, of which the longer has 9 of 13 tracks
+        (
+            Vtoc {
+                head: 5,
+                records: 3,
+                four: 3,
+                five: 1,
+                entries: &[(6, 9), (1, 4)],
+            },
+            b"ADR110I (001) VOLUME VOL001 3390 USABLE 15 FREE 13 IN 2 RUNS INDEX 308",
+        ),
+        // two entries that touch
+        (
+            Vtoc {
+                entries: &[(7, 8), (2, 5)],
+                ..BASE
+            },
+            b"ADR110I (001) VOLUME VOL001 3390 USABLE 15 FREE 13 IN 1 RUNS INDEX 0",
+        ),
+        // the last tracks are neither used nor free
+        (
+            Vtoc {
+                entries: &[(2, 3)],
+                ..BASE
+            },
+            b"ADR110I (001) VOLUME VOL001 3390 USABLE 5 FREE 3 IN 1 RUNS INDEX 0",
+        ),
+        (
+            Vtoc {
+                entries: &[],
+                ..BASE
+            },
+            b"ADR110I (001) VOLUME VOL001 3390 USABLE 2 FREE 0 IN 0 RUNS INDEX 0",
+        ),
+    ];
+    for (vtoc, want) in cases {
+        let (status, lines) = ends(&rt, &WORDS, TEXT, Given { vtoc, ..GIVEN }, NONE)?;
+        assert_eq!(rt; status, 0);
+        assert_eq!(rt; volume_line(&lines), want);
+    }
+    Ok(())
+}
+
 #[test]
 fn a_run_without_words_is_refused(rt: HostRuntime) -> Result<(), Fail> {
-    let (status, lines) = ends(&rt, &[], TEXT, Change::Nothing, NONE)?;
+    let (status, lines) = ends(&rt, &[], TEXT, GIVEN, NONE)?;
     assert_eq!(rt; status, 36);
     assert_eq!(rt; lines.as_slice(), WITHOUT_WORDS.as_bytes());
     Ok(())
 }
 
 /// Whether these words, this text and this volume have the status 48 and its line alone.
-fn is_refused(rt: &HostRuntime, words: &[&str], text: &[u8], change: Change) -> Result<bool, Fail> {
-    let (status, lines) = ends(rt, words, text, change, NONE)?;
+fn is_refused(rt: &HostRuntime, words: &[&str], text: &[u8], given: Given) -> Result<bool, Fail> {
+    let (status, lines) = ends(rt, words, text, given, NONE)?;
     Ok(status == 48 && lines.as_slice() == NOT_OF_THE_FORM.as_bytes())
 }
 
 #[test]
-fn other_words_and_texts_are_refused_with_one_line(rt: HostRuntime) -> Result<(), Fail> {
-    let no_sysin = ["--unit", "VOL001=a", "--journal", "b"];
-    let other_serial = ["--unit", "VOL002=a", "--journal", "b", "--sysin", "c"];
-    let other_text = b" PRINT VTOC INDDNAME(VOL002)";
-    let more_text = b" PRINT VTOC INDDNAME(VOL001) ";
-    assert!(rt; is_refused(&rt, &no_sysin, TEXT, Change::Nothing)?);
-    assert!(rt; is_refused(&rt, &other_serial, other_text, Change::Nothing)?);
-    assert!(rt; is_refused(&rt, &WORDS, other_text, Change::Nothing)?);
-    assert!(rt; is_refused(&rt, &WORDS, more_text, Change::Nothing)?);
+fn other_words_are_refused_with_one_line(rt: HostRuntime) -> Result<(), Fail> {
+    let cases: [&[&str]; 6] = [
+        &["--unit", "VOL001=a", "--journal", "b"],
+        &["--journal", "b", "--unit", "VOL001=a", "--sysin", "c"],
+        &["--unit", "VOL001", "--journal", "b", "--sysin", "c"],
+        &["--unit", "VOL001=", "--journal", "b", "--sysin", "c"],
+        &["--unit", "vol001=a", "--journal", "b", "--sysin", "c"],
+        &["--unit", "VOL001=a", "--journal", "b", "--sysin", ""],
+    ];
+    for words in cases {
+        assert!(rt; is_refused(&rt, words, TEXT, GIVEN)?);
+    }
     Ok(())
 }
 
 #[test]
-fn other_volumes_are_refused_with_one_line(rt: HostRuntime) -> Result<(), Fail> {
-    let changes = [
-        Change::Head(0, 0),
-        Change::Head(16, 0x80),
-        Change::Block(221, 0), // the label's first byte
-        Change::Block(56_832 + 73, 0xf6), // the format byte of record 1
-        Change::Block(56_832 + 182, 3), // first track of the free space
-        Change::Block(56_832 + 185, 14), // tracks of the free space
+fn other_texts_are_refused_with_one_line(rt: HostRuntime) -> Result<(), Fail> {
+    let mut long = Vec::new(rt.alloc());
+    long.extend_from_slice(TEXT)?;
+    long.resize(129, b'\n')?;
+    let cases: [&[u8]; 6] = [
+        b"",
+        b"PRINT VTOC INDDNAME(VOL001)",
+        b" PRINT VTOC INDDNAME(VOL002)",
+        b" PRINT VTOC INDDNAME(VOL001) ",
+        b" PRINT VTOC INDDNAME(VOL001)\n PRINT VTOC INDDNAME(VOL001)\n",
+        &long,
     ];
-    for change in changes {
-        assert!(rt; is_refused(&rt, &WORDS, TEXT, change)?);
+    for text in cases {
+        assert!(rt; is_refused(&rt, &WORDS, text, GIVEN)?);
+    }
+    Ok(())
+}
+
+#[test]
+fn other_heads_and_labels_are_refused_with_one_line(rt: HostRuntime) -> Result<(), Fail> {
+    let cases = [
+        with_head(&[(0, 0)]),
+        with_head(&[(16, 0x80), (13, 0xba)]), // a 3380
+        with(&[(4, 1)]), // track 0 at another address
+        with(&[(221, 0)]), // the label's key
+        with(&[(234, 0xf2)]), // its serial
+        with(&[(239, 2)]), // its pointer to a track without records
+        with(&[(239, 0)]), // to track 0
+        with(&[(240, 3)]), // to a free record
+    ];
+    for given in cases {
+        assert!(rt; is_refused(&rt, &WORDS, TEXT, given)?);
+    }
+    Ok(())
+}
+
+#[test]
+fn other_vtocs_are_refused_with_one_line(rt: HostRuntime) -> Result<(), Fail> {
+    let cases = [
+        with(&[(SLOT + 4, 2)]), // the track at another address
+        with(&[(FIVE - 4, 3)]), // a number twice
+        with(&[(FOUR + 44, 0xf6)]), // no format 4
+        with(&[(FOUR + 58, 1)]), // an indicator
+        with(&[(FOUR + 63, 0)]), // no cylinders
+        with(&[(FOUR + 65, 14)]), // other heads
+        with(&[(FOUR + 105, 0)]), // no extent
+        with(&[(FOUR + 114, 2)]), // two tracks
+        with(&[(FIVE + 44, 0)]), // no format 5, and bytes that are none
+        with(&[(FIVE + 139, 1)]), // a pointer
+        with(&[(THIRD + 44, 0xf1)]), // a data set
+        with(&[(THIRD + 139, 1)]), // a record that is no DSCB
+        with(&[(FIVE + 5, 1), (FIVE + 8, 14)]), // the VTOC is stated free
+        with(&[(FIVE + 5, 3), (FIVE + 8, 12)]), // track 2 is neither used nor free
+        with(&[(FIVE + 8, 14)]), // a track past the end
+        with(&[(FIVE + 10, 14), (FIVE + 13, 1)]), // track 14 is stated twice
+    ];
+    for given in cases {
+        assert!(rt; is_refused(&rt, &WORDS, TEXT, given)?);
     }
     Ok(())
 }
@@ -243,7 +315,7 @@ fn each_failing_stream_has_its_status(rt: HostRuntime) -> Result<(), Fail> {
         (Failing { out: true, ..NONE }, 28, ""),
     ];
     for (failing, want, line) in cases {
-        let (status, lines) = ends(&rt, &WORDS, TEXT, Change::Nothing, failing)?;
+        let (status, lines) = ends(&rt, &WORDS, TEXT, GIVEN, failing)?;
         assert_eq!(rt; status, want);
         assert_eq!(rt; lines.as_slice(), line.as_bytes());
     }

@@ -1,7 +1,8 @@
 //! The words of the command line.
 
-ghost use Rattle.std.specs.Prelude.{◌≡◌, ◌∷◌, ◌++◌, IfOk, IfSome};
-ghost use Rattle.adr_top.specs.Words.{IsJobs};
+ghost use Rattle.std.specs.Prelude.{◌≡◌, ◌≢◌, ◌↔◌, ℕ, List, [], ◌∷◌, ◌++◌, IsTrue, IfOk, IfErr, IfSome, IfNone, All};
+ghost use Rattle.vol_label.specs.Serial.{IsSerialName, Spells};
+ghost use Rattle.adr_top.specs.Words.{Named, AreUnitWords, IsRunOf};
 ghost use Rattle.adr_top.specs.declared.words.WordsFault.TheVariants as faults;
 
 use crate::lists::DdName;
@@ -52,10 +53,11 @@ impl From<NoMemory> for WordsFault {
     }
 }
 
-/// The parts of the words of the form: one unit by its serial and path, a journal and a text.
+/// What words of the form name: one unit by its serial and path, a journal and a text.
 #[derive(Clone, Copy, Debug)]
 pub(crate) struct UnitWords<'a> {
     pub name: &'a str,
+    pub serial: Serial,
     pub path: &'a str,
     pub journal: &'a str,
     pub sysin: &'a str,
@@ -63,48 +65,85 @@ pub(crate) struct UnitWords<'a> {
 
 /// The parts of a word around its first equals sign.
 fn split_at_sign(word: &str) -> Option<(&str, &str)>
-    ensures { IfSome result (λ parts. word.now ≡ parts.0.now ++ 61 ∷ parts.1.now) }
+    ensures found { IfSome result (λ parts. (word.now ≡ parts.0.now ++ 61 ∷ parts.1.now) × All (λ c. c ≢ 61) parts.0.now) }
+    ensures none { IfNone result (All (λ c. c ≢ 61) word.now) }
 {
     word.split_once('=')
 }
 
-/// The parts of words of the form `--unit S=PATH --journal PATH --sysin PATH`, in this order.
-pub(crate) fn unit_words(words: &[Word]) -> Option<UnitWords<'_>> {
+/// A serial, its name and a path, from a word of the form `S=PATH`.
+fn unit_word(word: &str) -> Option<(&str, Serial, &str)>
+    ensures found { IfSome result (λ x. (word.now ≡ x.0.now ++ 61 ∷ x.2.now) × IsSerialName x.0.now × Spells x.0.now x.1.text × (x.2.now ≢ [])) }
+    ensures none { IfNone result ((name path : List ℕ) → word.now ≡ name ++ 61 ∷ path → IsSerialName name → path ≢ [] → ⊥) }
+{
+    let (name, path) = split_at_sign(word)?;
+    let Ok(serial) = Serial::read(name.as_bytes()) else {
+        return None;
+    };
+    if path.is_empty() {
+        return None;
+    }
+    Some((name, serial, path))
+}
+
+/// Whether a word is this one.
+fn is_word(word: &Word, text: &str) -> bool
+    ensures { IsTrue result ↔ (word.now ≡ text.now) }
+{
+    word.as_str() == text
+}
+
+/// What words of the form `--unit S=PATH --journal PATH --sysin PATH`, in this order, name.
+pub(crate) fn unit_words(words: &[Word]) -> Option<UnitWords<'_>>
+    ensures found { IfSome result (λ parts. AreUnitWords words.now
+        (record { name = parts.name.now; path = parts.path.now; journal = parts.journal.now; sysin = parts.sysin.now })) }
+    ensures spelled { IfSome result (λ parts. Spells parts.name.now parts.serial.text) }
+    ensures none { IfNone result ((named : Named) → ¬ AreUnitWords words.now named) }
+{
     let [unit, value, journal_word, journal, sysin_word, sysin] = words else {
         return None;
     };
-    if unit.as_str() != "--unit"
-        || journal_word.as_str() != "--journal"
-        || sysin_word.as_str() != "--sysin"
-    {
+    if !is_word(unit, "--unit") {
         return None;
     }
-    let (name, path) = split_at_sign(value.as_str())?;
-    let parts = UnitWords {
+    if !is_word(journal_word, "--journal") {
+        return None;
+    }
+    if !is_word(sysin_word, "--sysin") {
+        return None;
+    }
+    let (name, serial, path) = unit_word(value.as_str())?;
+    let journal = journal.as_str();
+    let sysin = sysin.as_str();
+    if journal.is_empty() {
+        return None;
+    }
+    if sysin.is_empty() {
+        return None;
+    }
+    Some(UnitWords {
         name,
+        serial,
         path,
-        journal: journal.as_str(),
-        sysin: sysin.as_str(),
-    };
-    if parts.path.is_empty() || parts.journal.is_empty() || parts.sysin.is_empty() {
-        return None;
-    }
-    Some(parts)
+        journal,
+        sysin,
+    })
 }
 
 /// Reads words of the form `--unit S=PATH --journal PATH --sysin PATH`, in this order.
 pub fn read_words(alloc: Global, words: &[Word]) -> Result<Run, WordsFault>
-    ensures { IfOk result (λ run. IsJobs run) }
+    // What the words name is what the run has.
+    ensures read { IfOk result (λ run. (named : Named) × AreUnitWords words.now named × IsRunOf named run) }
+
+    // A refusal for another cause than memory says that the words are of no such form.
+    ensures refused { IfErr result (λ fault. fault ≡ WordsFault.BadWords → (named : Named) → ¬ AreUnitWords words.now named) }
 {
     let Some(parts) = unit_words(words) else {
         return Err(WordsFault::BadWords);
     };
-    let Ok(serial) = Serial::read(parts.name.as_bytes()) else {
-        return Err(WordsFault::BadWords);
-    };
     let path = Word::copy_of(alloc, parts.path)?;
     let mut units = UnitPaths::new(alloc);
-    units.push((serial, path))?;
+    units.push((parts.serial, path))?;
     Ok(Run::Jobs {
         units,
         journal: Word::copy_of(alloc, parts.journal)?,

@@ -1,3 +1,4 @@
+pub mod Body
 pub mod Bytes
 pub mod Address
 pub mod Device

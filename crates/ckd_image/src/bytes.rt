@@ -1,8 +1,9 @@
 //! Bytes that contracts see as a list.
 
-ghost use Rattle.std.specs.Prelude.{◌≡◌, ◌<◌, ℕ, List, [], ◌∷◌, ◌++◌, length, All, IfOk, OnOk, OnErr};
+ghost use Rattle.std.specs.Prelude.{◌≡◌, ◌<◌, ◌≤◌, ◌+◌, ℕ, List, [], ◌∷◌, ◌++◌, length, take, drop, All, IfOk, OnOk, OnErr};
 
 use crate::fault::NoMemory;
+use crate::text::put_over;
 use std::alloc::Global;
 use std::marker::Model;
 
@@ -60,6 +61,14 @@ impl Bytes {
         ensures { result ≡ length self.now }
     {
         self.bytes.len()
+    }
+
+    /// Writes bytes over those from a place on.
+    pub fn put_over(&mut self, start: usize, piece: &[u8])
+        requires { start + length piece.now ≤ length self.old }
+        ensures { self.new ≡ take start self.old ++ (piece.now ++ drop (start + length piece.now) self.old) }
+    {
+        put_over(self.bytes.as_mut_slice(), start, piece);
     }
 
     /// On `Err` nothing is added.

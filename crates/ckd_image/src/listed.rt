@@ -9,7 +9,7 @@ use std::marker::Model;
 /// Elements on the heap. Contracts see the list of them.
 #[derive(Debug, Drop)]
 pub struct Listed<T> {
-    items: Vec<T>,
+    pub(crate) items: Vec<T>,
 }
 
 impl<T> Model for Listed<T> {

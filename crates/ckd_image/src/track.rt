@@ -1,6 +1,7 @@
 //! A track and its records.
 
-ghost use Rattle.std.specs.Prelude.{◌≡◌, ◌<◌, ◌/◌, ◌++◌, length, IfSome, IfNone};
+ghost use Rattle.std.specs.Prelude.{◌≡◌, ◌<◌, ◌≤◌, ◌/◌, ◌+◌, ◌++◌, length, [], map, slice_index_or, IfSome, IfNone};
+ghost use Rattle.ckd_image.specs.Body.{IsBodyPut};
 ghost use Rattle.ckd_image.specs.Address.{address, address_of, cchhr_text, IsAddress, IsCchhr};
 
 use crate::bytes::Bytes;
@@ -114,6 +115,17 @@ pub struct Track {
     pub flag: u8,
     pub r0: [u8; 8],
     pub recs: Recs,
+}
+
+impl Track {
+    /// Writes bytes over those of a record's body from a place on.
+    pub fn put_body(&mut self, place: usize, start: usize, piece: &[u8])
+        requires place { place < length self.old.recs }
+        requires room { start + length piece.now ≤ length (slice_index_or (map (λ rec. rec.body) self.old.recs) place []) }
+        ensures { IsBodyPut place start piece.now self.old self.new }
+    {
+        self.recs.items[place].body.put_over(start, piece);
+    }
 }
 
 /// A field of a slot that may be wrong.

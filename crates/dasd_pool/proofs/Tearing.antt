@@ -11,9 +11,9 @@ use Rattle.dasd_pool.specs.declared.units.UnitText.{UnitText}
 use Rattle.dasd_pool.specs.declared.calls.Tear.{Tear}
 use Rattle.dasd_pool.specs.declared.calls.Tear.TheVariants.{Old, New, Zero, Half}
 use Rattle.dasd_pool.specs.Disk.{State, MayLeave, is_at}
-use Rattle.dasd_pool.specs.Calls.{step, after, first_state, LeftSince, written, block_at, size_of, IsKept}
+use Rattle.dasd_pool.specs.Calls.{step, after, first_state, LeftSince, written, block_at, size_in, size_of, texts_of, shape_of, IsKept}
 use Rattle.dasd_pool.proofs.Bytes.{block_at-written}
-use Rattle.dasd_pool.specs.Tears.{Trace, trace_step, trace_after, trace_first, torn, torn_image, IsSized}
+use Rattle.dasd_pool.specs.Tears.{Trace, trace_step, trace_after, trace_first, torn, torn_image, IsSized, IsTornFrom}
 
 -- the trace holds what the state does
 pub record Agrees (u b : ℕ) (trace : Trace) (state : State) : Type 0 where
@@ -64,6 +64,15 @@ torn_left tear units calls n since le = (
   omega arith,
   subst (λ (kept : List Call). MayLeave (after (first_state units) (take (min n (length calls)) calls)) (torn_image tear units kept)) (take_min n calls) (torn_may_leave tear units (take (min n (length calls)) calls)),
 )
+
+-- of no calls it is what was there at first
+pub torn_first : (tear : Tear) (units new : List UnitText) (calls : List Call) → calls ≡ [] → IsTornFrom tear units calls new
+    → (u b : ℕ) → u < length units → b < (shape_of units).blocks u → (first_state new).contents u b ≡ (first_state units).contents u b
+torn_first tear units new calls none torn u b less within =
+    (λ i. block_at (size_in (get_or (torn.heads i) u [])) (get_or (texts_of new) u []) b)
+    ∙ torn.blocks u b less within
+    ∙ ap (λ (cs : List Call). torn_image tear units cs u b) none
+    ∙ torn_synced tear (trace_first ((first_state units).contents u b)) refl
 
 pub trace_push : (u b : ℕ) (trace : Trace) (calls : List Call) (call : Call) → trace_after u b trace (calls ++ call ∷ []) ≡ trace_step u b (trace_after u b trace calls) call
 trace_push u b trace [] call = refl

@@ -87,21 +87,6 @@ disk_after state calls = record {
   only_now = only_now state calls;
 }
 
--- a pool in memory, as its callers see it
-pub record MemoryView : Type 0 where
-  pub units : List UnitText
-  pub calls : List Call
-  pub keep : ℕ
-  pub failing : List ℕ
-  pub count : ℕ
-  pub faults : ℕ
-
--- the bytes of each unit are its contents after the calls
-pub record IsCurrent (units : List UnitText) (calls : List Call) (texts : List (List ℕ)) : Type 0 where
-  pub units_same : length texts ≡ length units
-  pub lengths : (u : ℕ) → length (slice_index_or texts u []) ≡ length (slice_index_or (texts_of units) u [])
-  pub current : (u b : ℕ) → image_of (size_of units) texts u b ≡ (after (first_state units) calls).contents u b
-
 -- a write has bytes for one block of its unit
 abbrev pub IsKept : List UnitText → Call → Type 0
 IsKept units (Read unit block failed) = Unit {0}

@@ -1,6 +1,6 @@
 -- A pool over files, which tells nothing but what never changes.
 use Rattle.std.specs.Prelude.{List, [], true, length, map, slice_index_or}
-use Rattle.dasd_pool.specs.declared.file.FileUnit.{FileUnit}
+use Rattle.dasd_pool.specs.declared.file_unit.FileUnit.{FileUnit}
 use Rattle.dasd_pool.specs.Disk.{Shape, Disk, MayLeave}
 
 -- head, block size and number of blocks of each unit

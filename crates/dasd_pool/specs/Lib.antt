@@ -6,3 +6,8 @@ pub mod Calls
 pub mod Blocks
 pub mod Tears
 pub mod Files
+pub mod Kept
+pub mod Marks
+pub mod Failures
+pub mod Memory
+pub mod Order

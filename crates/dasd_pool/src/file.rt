@@ -3,6 +3,7 @@
 ghost use Rattle.std.specs.Prelude.{◌≡◌, ◌+◌, ◌<◌, ◌^◌, OnOk, vec_len};
 ghost use Rattle.dasd_pool.specs.Files.{shape_of_files, untold};
 
+use crate::file_unit::FileUnit;
 use crate::pool::{Pool, PoolFault};
 use crate::units::{block_count, risen, said_size};
 use std::alloc::Global;
@@ -11,14 +12,6 @@ use std::io::{self, Read, Seek, SeekFrom, Write};
 
 /// Where the blocks begin in a file.
 const HEAD: u64 = 512;
-
-/// What never changes of a unit: its head, and the size and number of its blocks.
-#[derive(Debug, Drop)]
-pub struct FileUnit {
-    pub head: [u8; 512],
-    pub size: u32,
-    pub count: u32,
-}
 
 /// A pool over files, one for each unit: a head of 512 bytes, and then blocks.
 #[derive(Debug, Drop)]
@@ -81,7 +74,8 @@ impl<F: Read + Write + Seek + OpenFile + Drop> FilePool<F> {
 
     /// Adds a file as the next unit; on `Err` the pool is as it was.
     pub fn add(&mut self, file: F) -> io::Result<()>
-        ensures { OnOk result ((⟦<FilePool<F> as Pool>⟧.shape self.new).units ≡ (⟦<FilePool<F> as Pool>⟧.shape self.old).units + 1) }
+        ensures more { OnOk result ((⟦<FilePool<F> as Pool>⟧.shape self.new).units ≡ (⟦<FilePool<F> as Pool>⟧.shape self.old).units + 1) }
+        ensures count { ⟦<FilePool<F> as Pool>⟧.faults self.new ≡ ⟦<FilePool<F> as Pool>⟧.faults self.old }
     {
         let mut file = file;
         if self.units.len() >= u32::MAX as usize {

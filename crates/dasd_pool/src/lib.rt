@@ -2,8 +2,13 @@
 #![tactic(auto)]
 
 mod calls;
+mod failures;
 mod file;
+mod file_unit;
+mod kept;
+mod marks;
 mod memory;
+mod order;
 mod outside;
 mod pool;
 mod stream;
@@ -11,8 +16,10 @@ mod tear;
 mod units;
 
 pub use calls::{Call, Tear};
-pub use file::{FilePool, FileUnit};
+pub use file::FilePool;
+pub use file_unit::FileUnit;
 pub use memory::MemoryPool;
+pub use order::write_in_order;
 pub use outside::{Medium, MediumFault, ReadFault, Reel, ReelFault, Sink, Source, WriteFault};
 pub use pool::{Pool, PoolFault};
 pub use stream::{FileSink, FileSource, MemorySink, MemorySource};

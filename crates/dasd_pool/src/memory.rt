@@ -1,46 +1,47 @@
-//! A pool in memory: what it held at first, and each call since.
+//! A pool in memory: what it holds, and either the calls so far or a mark for each block.
 
-ghost use Rattle.std.specs.Prelude.{◌≡◌, ◌*◌, ◌/◌, min, ◌^◌, ◌-◌, ◌+◌, ◌≤◌, ◌<◌, ◌++◌, [], ◌∷◌, ℕ, length, take, drop, slice_set, slice_index_or, vec_len, vec_capacity, IfOk, OnOk, OnErr, All};
-ghost use Rattle.dasd_pool.specs.Calls.{LeftSince, block_at, IsKept, written, size_in, size_of, texts_of, items_of, first_state, step, after, disk_after, shape_of, IsCurrent};
+ghost use Rattle.std.specs.Prelude.{◌≡◌, ◌*◌, ◌/◌, min, ◌^◌, ◌-◌, ◌+◌, ◌≤◌, ◌<◌, ◌++◌, [], ◌∷◌, ℕ, length, take, drop, slice_set, slice_index_or, vec_len, IfOk, OnOk, OnErr, All, if◌then◌else◌};
+ghost use Rattle.dasd_pool.specs.declared.calls.Call.TheVariants.{Read, Sync};
+ghost use Rattle.dasd_pool.specs.Count.{HasCause};
+ghost use Rattle.dasd_pool.specs.Disk.{Runs, none, is_at, IsSynced};
+ghost use Rattle.dasd_pool.specs.Calls.{LeftSince, block_at, IsKept, written, size_in, size_of, texts_of, items_of, first_state, shape_of, image_of};
+ghost use Rattle.dasd_pool.specs.Memory.{fresh, disk_of, state_of, is_full, fails, IsCall, Keeps, KeepsWrite, write_step, sync_step};
 ghost use Rattle.dasd_pool.specs.Tears.{torn, trace_after, trace_first, IsSized, IsTornFrom, torn_image};
 
 use crate::calls::{Call, Tear};
+use crate::failures::Failures;
+use crate::kept::Kept;
+use crate::marks::Marks;
 use crate::pool::{Pool, PoolFault};
 use crate::tear::torn_block;
-use crate::units::{UnitText, block_count, risen, said_size};
+use crate::units::{UnitText, block_count, said_size};
 use ckd_image::{Bytes, NoMemory};
-use std::alloc::Global;
+use std::alloc::{AllocError, Global};
 use std::marker::Model;
 
-/// A pool in memory, which tells all that it holds, and fails at the calls that it is told.
+/// A pool in memory, which tells all that it holds, and fails at the calls that it is told. It keeps its first calls, or
+/// if it is to keep none, one mark for each block. All its memory is taken when it is made.
 #[derive(Debug, Drop)]
 pub struct MemoryPool {
-    alloc: Global,
     first: Vec<UnitText>,
     texts: Vec<Vec<u8>>,
-    calls: Vec<Call>,
-    keep: u32,
-    failing: Vec<u64>,
-    count: u64,
-    faults: u64,
+    kept: Kept,
+    marks: Marks,
+    failures: Failures,
 }
 
 impl Model for MemoryPool {
-    ghost use Rattle.std.specs.Prelude.{ℕ, ◌≤◌, ◌<◌, ◌^◌, length, vec_capacity, All};
-    ghost use Rattle.dasd_pool.specs.Calls.{MemoryView, IsCurrent, IsKept, items_of};
+    ghost use Rattle.std.specs.Prelude.{List, ℕ, Bool};
+    ghost use Rattle.dasd_pool.specs.declared.units.UnitText.{UnitText};
+    ghost use Rattle.dasd_pool.specs.Calls.{items_of};
+    ghost use Rattle.dasd_pool.specs.Kept.{KeptView};
+    ghost use Rattle.dasd_pool.specs.Memory.{MemoryView, Agree, view_of};
 
     ghost Value = { MemoryView };
 
-    ghost view = { λ m. record {
-      units = m.first.items;
-      calls = m.calls.items;
-      keep = m.keep;
-      failing = m.failing.items;
-      count = m.count;
-      faults = m.faults;
-    } };
+    ghost view = { λ m. view_of m.first.items (items_of m.texts.items) m.kept m.marks m.failures };
 
-    ghost invariant = { λ m. IsCurrent m.first.items m.calls.items (items_of m.texts.items) × (m.keep ≤ vec_capacity m.calls) × (length m.first.items < 2 ^ 32) × All (IsKept m.first.items) m.calls.items };
+    ghost invariant = { λ m. Agree (view_of m.first.items (items_of m.texts.items) m.kept m.marks m.failures) m.kept.width };
 }
 
 impl MemoryPool {
@@ -51,46 +52,137 @@ impl MemoryPool {
         failing: Vec<u64>,
         keep: u32,
     ) -> Result<MemoryPool, NoMemory>
-        ensures { IfOk result (λ m. m ≡ record { units = units.items; calls = []; keep = keep; failing = failing.items; count = 0; faults = 0 }) }
+        ensures fresh { IfOk result (λ m. m ≡ fresh units.items failing.items keep) }
+        ensures state { IfOk result (λ m. state_of m ≡ first_state units.items) }
     {
         if units.len() > u32::MAX as usize {
             return Err(NoMemory);
         }
-        let calls = Vec::with_capacity(alloc, keep as usize)?;
-        let mut texts = Vec::new(alloc);
-        for unit in &units {
-            texts.push(unit.blocks.as_slice().to_vec(alloc)?)?;
-        }
-        Ok(MemoryPool {
-            alloc,
-            first: units,
-            texts,
-            calls,
-            keep,
-            failing,
+        let texts = texts_in(alloc, &units)?;
+        let kept = Kept::new(alloc, keep, largest_size(&units))?;
+        let marks = Marks::new(alloc, &units, keep)?;
+        let failures = Failures {
+            told: failing,
             count: 0,
             faults: 0,
+        };
+        Ok(MemoryPool {
+            first: units,
+            texts,
+            kept,
+            marks,
+            failures,
         })
     }
 
     /// The pool as a stop after so many of the kept calls leaves it, or after all where it kept fewer, each block that is
-    /// not synced torn.
+    /// not synced torn. A pool that keeps no calls comes back as it was at first.
     pub fn crash(&self, alloc: Global, calls: u64, tear: Tear) -> Result<MemoryPool, NoMemory>
         ensures torn { IfOk result (λ m. IsTornFrom tear self.now.units (take calls self.now.calls) m.units) }
         ensures fresh { IfOk result (λ m. (m.calls ≡ []) × (m.failing ≡ []) × (m.keep ≡ self.now.keep)) }
+        ensures whole { IfOk result (λ m. m ≡ fresh m.units [] self.now.keep) }
+        ensures state { IfOk result (λ m. state_of m ≡ first_state m.units) }
+        ensures first { IfOk result (λ m. self.now.keep ≡ 0 → (u b : ℕ) → u < length self.now.units → b < (shape_of self.now.units).blocks u
+            → (state_of m).contents u b ≡ (first_state self.now.units).contents u b) }
         ensures possible { (since : ℕ) → since ≤ min calls (length self.now.calls)
             → LeftSince (first_state self.now.units) self.now.calls since (torn_image tear self.now.units (take calls self.now.calls)) }
     {
-        let count = (calls as usize).min(self.calls.len());
-        let units = torn_units(alloc, &self.first, &self.calls[..count], tear)?;
-        MemoryPool::new(alloc, units, Vec::new(alloc), self.keep)
+        let kept = self.kept.calls();
+        let count = (calls as usize).min(kept.len());
+        let units = torn_units(alloc, &self.first, &kept[..count], tear)?;
+        MemoryPool::new(alloc, units, Vec::new(alloc), self.kept.keep())
     }
 
+    /// How many calls there were, those that failed among them.
     pub fn calls(&self) -> u64
         ensures { result ≡ self.now.count }
     {
-        self.count
+        self.failures.count
     }
+
+    /// Reads a block.
+    fn read_block(&mut self, unit: u32, block: u32, buf: &mut [u8]) -> Result<(), PoolFault>
+        requires unit { unit < length self.old.units }
+        requires block { block < (shape_of self.old.units).blocks unit }
+        requires size { length buf.old ≡ size_of self.old.units unit }
+        ensures call { IsCall self.old self.new result }
+        ensures kept { Keeps self.old self.new (Read unit block (fails self.old)) }
+        ensures same { state_of self.new ≡ state_of self.old }
+        ensures bytes { OnOk result (buf.new ≡ (state_of self.old).contents unit block) }
+    {
+        let failed = self.failures.next_fails(self.kept.is_full());
+        self.kept.add(Call::Read {
+            unit,
+            block,
+            failed,
+        });
+        if failed {
+            return Err(PoolFault);
+        }
+        get(&self.texts, unit as usize, block as usize * buf.len(), buf);
+        Ok(())
+    }
+
+    /// Writes a block.
+    fn write_block(&mut self, unit: u32, block: u32, buf: &[u8]) -> Result<(), PoolFault>
+        requires unit { unit < length self.old.units }
+        requires block { block < (shape_of self.old.units).blocks unit }
+        requires size { length buf.now ≡ size_of self.old.units unit }
+        ensures call { IsCall self.old self.new result }
+        ensures kept { KeepsWrite self.old self.new unit block buf.now (fails self.old) }
+        ensures state { state_of self.new ≡ (if is_full self.old then state_of self.old else write_step unit block buf.now (fails self.old) (state_of self.old)) }
+    {
+        let failed = self.failures.next_fails(self.kept.is_full());
+        self.kept.add_write(unit, block, buf, failed);
+        self.marks.set(unit as usize, block as usize);
+        if failed {
+            return Err(PoolFault);
+        }
+        put(
+            &mut self.texts,
+            unit as usize,
+            block as usize * buf.len(),
+            buf,
+        );
+        Ok(())
+    }
+
+    /// Makes the writes so far durable.
+    fn sync_blocks(&mut self) -> Result<(), PoolFault>
+        ensures call { IsCall self.old self.new result }
+        ensures kept { Keeps self.old self.new (Sync (fails self.old)) }
+        ensures state { state_of self.new ≡ sync_step (fails self.old) (state_of self.old) }
+    {
+        let failed = self.failures.next_fails(self.kept.is_full());
+        self.kept.add(Call::Sync { failed });
+        if failed {
+            return Err(PoolFault);
+        }
+        self.marks.clear();
+        Ok(())
+    }
+}
+
+/// A copy of the bytes of each unit.
+fn texts_in(alloc: Global, units: &[UnitText]) -> Result<Vec<Vec<u8>>, AllocError>
+    ensures { IfOk result (λ texts. items_of texts.items ≡ texts_of units.now) }
+{
+    let mut texts = Vec::new(alloc);
+    for unit in units {
+        texts.push(unit.blocks.as_slice().to_vec(alloc)?)?;
+    }
+    Ok(texts)
+}
+
+/// The size of the largest blocks of any unit.
+fn largest_size(units: &[UnitText]) -> u32
+    ensures { (u : ℕ) → size_of units.now u ≤ result }
+{
+    let mut largest = 0;
+    for unit in units {
+        largest = said_size(&unit.head).max(largest);
+    }
+    largest
 }
 
 /// Writes these bytes over those at an offset.
@@ -118,18 +210,6 @@ fn get(texts: &Vec<Vec<u8>>, unit: usize, at: usize, buf: &mut [u8])
 {
     let text = &texts[unit];
     buf.copy_from_slice(&text[at..at + buf.len()]);
-}
-
-/// Keeps a call, for which there is room.
-fn record_call(calls: &mut Vec<Call>, call: Call)
-    requires { vec_len calls.old < vec_capacity calls.old }
-    ensures items { calls.new.items ≡ calls.old.items ++ call ∷ [] }
-    ensures capacity { vec_capacity calls.old ≤ vec_capacity calls.new }
-{
-    match calls.push(call) {
-        Ok(()) => {}
-        Err(_) => unreachable!(),
-    }
 }
 
 /// The bytes of a unit after calls, each block torn.
@@ -196,7 +276,7 @@ impl Pool for MemoryPool {
 
     ghost tells = { Unit {0} };
 
-    ghost disk = { λ m. disk_after (first_state m.units) m.calls };
+    ghost disk = { λ m. disk_of m };
 
     fn units(&self) -> u32 {
         self.first.len() as u32
@@ -215,77 +295,48 @@ impl Pool for MemoryPool {
         block_count(unit.blocks.len(), said_size(&unit.head))
     }
 
-    fn read(&mut self, unit: u32, block: u32, buf: &mut [u8]) -> Result<(), PoolFault> {
-        let number = self.count;
-        self.count = number.saturating_add(1);
-        if self.calls.len() >= self.keep as usize {
-            self.faults = risen(self.faults);
-            return Err(PoolFault);
-        }
-        let failed = self.failing.contains(&number);
-        record_call(
-            &mut self.calls,
-            Call::Read {
-                unit,
-                block,
-                failed,
-            },
-        );
-        if failed {
-            self.faults = risen(self.faults);
-            return Err(PoolFault);
-        }
-        get(&self.texts, unit as usize, block as usize * buf.len(), buf);
-        Ok(())
+    fn read(&mut self, unit: u32, block: u32, buf: &mut [u8]) -> Result<(), PoolFault>
+        requires unit { unit < length self.old.units }
+        requires block { block < (shape_of self.old.units).blocks unit }
+        requires size { length buf.old ≡ size_of self.old.units unit }
+        ensures shape { shape_of self.new.units ≡ shape_of self.old.units }
+        ensures bytes { OnOk result (buf.new ≡ (state_of self.old).contents unit block) }
+        ensures same { state_of self.new ≡ state_of self.old }
+        ensures runs { Runs none (disk_of self.old) (disk_of self.new) }
+        ensures cause { HasCause self.old.faults self.new.faults result }
+        ensures call { IsCall self.old self.new result }
+        ensures kept { Keeps self.old self.new (Read unit block (fails self.old)) }
+    {
+        self.read_block(unit, block, buf)
     }
 
-    fn write(&mut self, unit: u32, block: u32, buf: &[u8]) -> Result<(), PoolFault> {
-        let number = self.count;
-        self.count = number.saturating_add(1);
-        if self.calls.len() >= self.keep as usize {
-            self.faults = risen(self.faults);
-            return Err(PoolFault);
-        }
-        let Ok(bytes) = buf.to_vec(self.alloc) else {
-            self.faults = risen(self.faults);
-            return Err(PoolFault);
-        };
-        let failed = self.failing.contains(&number);
-        record_call(
-            &mut self.calls,
-            Call::Write {
-                unit,
-                block,
-                bytes,
-                failed,
-            },
-        );
-        if failed {
-            self.faults = risen(self.faults);
-            return Err(PoolFault);
-        }
-        put(
-            &mut self.texts,
-            unit as usize,
-            block as usize * buf.len(),
-            buf,
-        );
-        Ok(())
+    /// A failed write keeps the old bytes, and makes the block unsynced. Past the calls that are kept it changes nothing.
+    fn write(&mut self, unit: u32, block: u32, buf: &[u8]) -> Result<(), PoolFault>
+        requires unit { unit < length self.old.units }
+        requires block { block < (shape_of self.old.units).blocks unit }
+        requires size { length buf.now ≡ size_of self.old.units unit }
+        ensures shape { shape_of self.new.units ≡ shape_of self.old.units }
+        ensures written { OnOk result ((state_of self.new).contents unit block ≡ buf.now) }
+        ensures runs { Runs (is_at unit block) (disk_of self.old) (disk_of self.new) }
+        ensures cause { HasCause self.old.faults self.new.faults result }
+        ensures call { IsCall self.old self.new result }
+        ensures kept { KeepsWrite self.old self.new unit block buf.now (fails self.old) }
+        ensures state { state_of self.new ≡ (if is_full self.old then state_of self.old else write_step unit block buf.now (fails self.old) (state_of self.old)) }
+    {
+        self.write_block(unit, block, buf)
     }
 
-    fn sync(&mut self) -> Result<(), PoolFault> {
-        let number = self.count;
-        self.count = number.saturating_add(1);
-        if self.calls.len() >= self.keep as usize {
-            self.faults = risen(self.faults);
-            return Err(PoolFault);
-        }
-        let failed = self.failing.contains(&number);
-        record_call(&mut self.calls, Call::Sync { failed });
-        if failed {
-            self.faults = risen(self.faults);
-            return Err(PoolFault);
-        }
-        Ok(())
+    /// A failed sync changes nothing.
+    fn sync(&mut self) -> Result<(), PoolFault>
+        ensures shape { shape_of self.new.units ≡ shape_of self.old.units }
+        ensures synced { OnOk result (IsSynced (state_of self.new)) }
+        ensures not_synced { OnErr result (state_of self.new ≡ state_of self.old) }
+        ensures runs { Runs none (disk_of self.old) (disk_of self.new) }
+        ensures cause { HasCause self.old.faults self.new.faults result }
+        ensures call { IsCall self.old self.new result }
+        ensures kept { Keeps self.old self.new (Sync (fails self.old)) }
+        ensures state { state_of self.new ≡ sync_step (fails self.old) (state_of self.old) }
+    {
+        self.sync_blocks()
     }
 }

@@ -35,7 +35,8 @@ pub trait Pool {
     /// The bytes of each block of a unit.
     fn block_size(&self, unit: u32) -> u32
         requires { unit < (shape self.now).units }
-        ensures { result ≡ (shape self.now).block_size unit };
+        ensures value { result ≡ (shape self.now).block_size unit }
+        ensures fits { result ≤ 65536 };
 
     fn blocks(&self, unit: u32) -> u32
         requires { unit < (shape self.now).units }

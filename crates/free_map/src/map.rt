@@ -2,7 +2,7 @@
 
 ghost use Rattle.std.specs.Prelude.{◌≡◌, ℕ, ◌+◌, ◌<◌, ◌≤◌, ◌↔◌, ◌⊎◌, All, IfOk, IfErr, IfSome, IfNone, OnOk, OnErr, map};
 ghost use Rattle.free_map.specs.Runs.{Holds, InRuns, AreMaximalRuns};
-ghost use Rattle.free_map.specs.Free.{IsFree, AreFreeRuns, IsStep, index_of};
+ghost use Rattle.free_map.specs.Free.{IsFree, AreFreeRuns, IsStep, count_of, index_of};
 ghost use Rattle.dscb_rec.specs.Field.{IsEntry5};
 ghost use Rattle.free_map.specs.Entries.{entry_of};
 ghost use Rattle.free_map.specs.Several.{AreChosen, ArePlaces, IsChoiceFault};
@@ -13,7 +13,7 @@ use crate::fault::FreeFault;
 use crate::places::lowest_place;
 use crate::run::{Run, Runs};
 use crate::several::several_places;
-use crate::sums::{entries, index};
+use crate::sums::{count, entries, index};
 use crate::unused::unused_runs;
 use dscb_rec::Entry5;
 use std::alloc::Global;
@@ -125,6 +125,13 @@ impl FreeMap {
         ensures memory { IfErr result (λ fault. fault ≡ FreeFault.NoMemory) }
     {
         Ok(entries(*self.runs.allocator(), self.runs.as_slice(), self.heads)?)
+    }
+
+    /// How many tracks are free.
+    pub fn count(&self) -> u32
+        ensures { result ≡ count_of self.now.runs }
+    {
+        count(self.runs.as_slice())
     }
 
     /// The fragmentation index, in thousandths: 0 where all free tracks are in one run, or none is free.

@@ -15,7 +15,7 @@ pub type Runs = Listed<Run>;
 
 impl Run {
     /// The track behind its last one.
-    pub(crate) fn end(self) -> u32
+    pub fn end(self) -> u32
         requires { self.first + self.len < 2 ^ 32 }
         ensures { result ≡ self.first + self.len }
     {

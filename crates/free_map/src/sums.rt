@@ -12,7 +12,7 @@ use dscb_rec::Entry5;
 use std::alloc::Global;
 
 /// How many tracks runs have together.
-fn count(runs: &[Run]) -> u32
+pub(crate) fn count(runs: &[Run]) -> u32
     requires { count_of runs.now ≤ 65535 }
     ensures { result ≡ count_of runs.now }
 {

@@ -20,7 +20,7 @@ pub record IsSame (label : Label) (text : List ℕ) (vtoc : Cchhr) : Type 0 wher
   pub serial : label.serial.text ≡ text
   pub vtoc_is : label.vtoc ≡ vtoc
 
-same_label : (head : Head) (body text : List ℕ) (security : ℕ) (vtoc : Cchhr) (rest : List ℕ) (label : Label)
+pub same_label : (head : Head) (body text : List ℕ) (security : ℕ) (vtoc : Cchhr) (rest : List ℕ) (label : Label)
     → body ≡ label_key ++ (text ++ (security ∷ (cchhr_text vtoc ++ rest))) → length text ≡ 6 → IsCchhr vtoc
     → IsLabelText head body label → IsSame label text vtoc
 same_label head body text security vtoc rest label e six fits h =

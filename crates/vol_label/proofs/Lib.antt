@@ -1,2 +1,4 @@
 pub mod Characters
 pub mod LabelText
+pub mod PutSerial
+pub mod OneLabel

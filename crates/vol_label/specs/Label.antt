@@ -1,10 +1,13 @@
 -- The volume label: the record with number 3 of track 0.
 use Rattle.std.specs.Prelude.{◌≡◌, ℕ, ◌+◌, ◌*◌, ◌<◌, ◌==◌, List, [], ◌∷◌, ◌++◌, length, find, Some, replicate}
+use Rattle.std.specs.List.{position_or_len}
 use Rattle.ckd_image.specs.declared.track.Rec.{Rec}
+use Rattle.ckd_image.specs.declared.track.Track.{Track}
 use Rattle.ckd_image.specs.declared.track.Cchhr.{Cchhr}
 use Rattle.ckd_image.specs.declared.head.Head.{Head}
 use Rattle.ckd_image.specs.Device.{heads_of}
 use Rattle.ckd_image.specs.Address.{cchhr_text, IsCchhr}
+use Rattle.ckd_image.specs.Body.{IsBodyPut}
 use Rattle.vol_label.specs.declared.label.Label.{Label}
 use Rattle.vol_label.specs.declared.serial.Serial.{Serial}
 use Rattle.vol_label.specs.declared.fault.LabelFault.{LabelFault}
@@ -64,3 +67,16 @@ IsLabelFault head recs (BadLabel why) = (rule : LabelRule) × (why ≡ number_of
 -- the 80 bytes that a new label has, blanks where the format says nothing
 abbrev pub new_label : Serial → Cchhr → List ℕ
 new_label serial vtoc = label_key ++ serial.text ++ (0x40 ∷ []) ++ cchhr_text vtoc ++ replicate 64 0x40
+
+-- the first record with number 3 has another serial in its bytes 4 to 9, and nothing else changes
+abbrev pub IsSerialPut : Serial → Track → Track → Type 0
+IsSerialPut serial old new = IsBodyPut (position_or_len (λ rec. rec.r == 3) old.recs) 4 serial.text old new
+
+-- some label stands there
+abbrev pub HasLabel : Track → Type 0
+HasLabel track = (head : Head) × (label : Label) × IsLabel head track.recs label
+
+-- each label that stood there stands there with another serial
+abbrev pub KeepsLabel : Serial → Track → Track → Type 0
+KeepsLabel serial old new =
+    (head : Head) (label : Label) → IsLabel head old.recs label → IsSerial serial.text → IsLabel head new.recs (record { serial = serial; vtoc = label.vtoc })

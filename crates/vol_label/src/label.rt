@@ -3,7 +3,8 @@
 ghost use Rattle.std.specs.Prelude.{◌≡◌, ◌<◌, ◌==◌, ◌↔◌, ◌∷◌, ◌++◌, length, Some, find, IsTrue, IfOk, IfErr, IfSome, IfNone};
 ghost use Rattle.std.specs.Option.{option_copied};
 ghost use Rattle.vol_label.specs.declared.label.Label.{Label};
-ghost use Rattle.vol_label.specs.Label.{label_key, new_label, IsInside, IsLabelText, IsLabel, IsLabelFault};
+ghost use Rattle.vol_label.specs.Label.{label_key, new_label, IsInside, IsLabelText, IsLabel, IsLabelFault, IsSerialPut, HasLabel, KeepsLabel};
+ghost use Rattle.std.specs.List.{position};
 
 use crate::fault::{LabelFault, LabelRule, broken};
 use crate::serial::{Serial, is_serial};
@@ -106,4 +107,35 @@ pub fn with_vtoc(serial: Serial, vtoc: Cchhr) -> [u8; 80]
     let end = put(&mut body, end, &vtoc.bytes());
     body[end..].fill(0x40);
     body
+}
+
+/// Where the label stands among the records.
+fn label_place(recs: &[Rec]) -> Option<usize>
+    ensures { result ≡ position (λ rec. rec.r == 3) recs.now }
+{
+    recs.iter().position(|rec| rec.r == 3)
+}
+
+/// The six bytes of a serial.
+fn serial_bytes(serial: &Serial) -> &[u8]
+    ensures bytes { result.now ≡ serial.now.text }
+    ensures six { length result.now ≡ 6 }
+{
+    &serial.text
+}
+
+/// Writes another serial into the label of track 0.
+pub fn put_serial(track: &mut Track, serial: Serial)
+    requires { HasLabel track.old }
+
+    // The six bytes of the serial are others, and nothing else changes.
+    ensures put { IsSerialPut serial track.old track.new }
+
+    // So the label reads back with that serial and the same pointer.
+    ensures reads { KeepsLabel serial track.old track.new }
+{
+    let Some(place) = label_place(track.recs.as_slice()) else {
+        return;
+    };
+    track.put_body(place, KEY.len(), serial_bytes(&serial));
 }

@@ -8,8 +8,8 @@ mod serial;
 
 pub use code_page::{to_ascii, to_ebcdic};
 pub use fault::{LabelFault, LabelRule};
-pub use label::{Label, with_vtoc};
-pub use serial::Serial;
+pub use label::{Label, put_serial, with_vtoc};
+pub use serial::{Serial, is_serial};
 
 #[cfg(test)]
 mod tests;

@@ -89,7 +89,7 @@ fn is_blank_from(text: &[u8; 6], start: usize) -> bool
 }
 
 /// Whether six bytes are a serial.
-pub(crate) fn is_serial(text: &[u8; 6]) -> bool
+pub fn is_serial(text: &[u8; 6]) -> bool
     ensures { IsTrue result ↔ IsSerial text.now }
 {
     let count = characters_of(text);

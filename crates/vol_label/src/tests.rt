@@ -112,3 +112,35 @@ fn the_code_page_has_its_letters_digits_and_signs(rt: HostRuntime) {
     }
     assert_eq!(rt; to_ebcdic(b'a'), None);
 }
+
+#[test]
+fn another_serial_leaves_all_other_bytes(rt: HostRuntime) -> Result<(), Fail> {
+    let mut body = with_vtoc(VOL001, pointer(0, 1));
+    body[37] = 0xc1; // a byte of the owner's name
+    let mut recs = Recs::new(rt.alloc());
+    recs.push(Rec {
+        r: 3,
+        key: Bytes::from_slice(rt.alloc(), &KEY)?,
+        body: Bytes::from_slice(rt.alloc(), &body)?,
+    })?;
+    let mut track = Track {
+        flag: 0,
+        r0: [0; 8],
+        recs,
+    };
+    let other = Serial {
+        text: [0xe5, 0xd6, 0xd3, 0xf0, 0xf0, 0xf2],
+    };
+    if Label::read(&track, HEAD).is_ok() {
+        put_serial(&mut track, other);
+    }
+    body[9] = 0xf2;
+    for rec in track.recs.as_slice() {
+        assert_eq!(rt; rec.body.as_slice(), body.as_slice());
+    }
+    assert_eq!(rt;
+        Label::read(&track, HEAD).map(|label| label.serial),
+        Ok(other)
+    );
+    Ok(())
+}

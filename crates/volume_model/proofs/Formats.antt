@@ -1,7 +1,13 @@
 -- A DSCB that reads has its format.
-use Rattle.std.proofs.Common.{◌≡◌, ℕ, zero, suc, ◌≤◌, List, [], ◌∷◌, length, get_or, true, ◌&&◌, ◌==◌, refl, arith, eq-eqb}
-use Rattle.dscb_rec.specs.Dscb.{Fills}
-use Rattle.volume_model.specs.Dscbs.{Free, F1, F4, F5, fills, format_by, format_of}
+use Rattle.std.proofs.Common.{◌≡◌, ◌≢◌, ℕ, zero, suc, ◌<◌, ◌≤◌, List, [], ◌∷◌, length, get_or, Bool, true, false, ◌&&◌, ◌==◌, refl, ap, ◌∙◌, arith, eq-eqb, inl, inr}
+use Rattle.std.specs.Prelude.{if◌then◌else◌}
+use Rattle.std.proofs.lemmas.Bool.Decides.{nat_tests}
+use Rattle.dscb_rec.specs.declared.dscb.DscbRule.TheVariants as rules
+use Rattle.dscb_rec.specs.declared.dscb.DscbFault.{DscbFault}
+use Rattle.dscb_rec.specs.declared.dscb.DscbFault.TheVariants.{BadDscb}
+use Rattle.dscb_rec.specs.Dscb.{Fills, NamesNoFormat, IsWrong, IsDscbFault}
+use Rattle.volume_model.specs.declared.format.Format.TheVariants.{Broken, Free, F1, F3, F4, F5}
+use Rattle.volume_model.specs.Dscbs.{fills, format_by, format_of}
 
 pub fills_true : (count value : ℕ) (bytes : List ℕ) → Fills count value bytes → count ≤ length bytes → fills count value bytes ≡ true
 fills_true zero value bytes h long = refl
@@ -29,3 +35,74 @@ format_is_free bytes long h =
     let code : get_or bytes 44 0 ≡ 0 = h 44 (omega arith) in
     let zeros = fills_true 140 0 bytes h (omega arith) in
     (λ i. format_by (code i) (fills 4 0x03 bytes) (fills 44 0x04 bytes) (fills 4 0x05 bytes) (zeros i))
+
+pub format_is_3 : (bytes : List ℕ) → length bytes ≡ 140 → get_or bytes 44 0 ≡ 0xF3 → Fills 4 0x03 bytes → format_of bytes ≡ F3
+format_is_3 bytes long code h =
+    let three = fills_true 4 0x03 bytes h (omega arith) in
+    (λ i. format_by (code i) (three i) (fills 44 0x04 bytes) (fills 4 0x05 bytes) (fills 140 0 bytes))
+
+-- ---- a record that is none
+
+fills_false : (count value : ℕ) (bytes : List ℕ) (place : ℕ) → place < count → place < length bytes → get_or bytes place 0 ≢ value → fills count value bytes ≡ false
+fills_false zero value bytes place lt within other = absurd (omega arith)
+fills_false (suc n) value [] place lt within other = absurd (omega arith)
+fills_false (suc n) value (byte ∷ bytes) zero lt within other = ap (λ (b : Bool). b && fills n value bytes) (not_same byte value other)
+  where
+    not_same : (a b : ℕ) → a ≢ b → (a == b) ≡ false
+    not_same a b apart = grind (arith, nat_tests)
+fills_false (suc n) value (byte ∷ bytes) (suc place) lt within other =
+    ap (λ (b : Bool). (byte == value) && b) (fills_false n value bytes place (omega arith) (omega arith) other) ∙ and_false (byte == value)
+  where
+    and_false : (b : Bool) → (b && false) ≡ false
+    and_false true = refl
+    and_false false = refl
+
+other_code : (code n : ℕ) → code ≡ n → 0 < n → code ≢ 0
+other_code code n is some none = omega (arith, is, some, none)
+
+no_zeros : (bytes : List ℕ) → length bytes ≡ 140 → get_or bytes 44 0 ≢ 0 → fills 140 0 bytes ≡ false
+no_zeros bytes long other = fills_false 140 0 bytes 44 (omega arith) (omega arith) other
+
+no_format : (code : ℕ) (three four five zeros : Bool) → NamesNoFormat code → zeros ≡ false → format_by code three four five zeros ≡ Broken
+no_format code three four five zeros h none =
+    (λ i. format_by code three four five (none i))
+    ∙ (λ i.
+    if one i then F1
+    else if (three_is i) && three then F3
+    else if (four_is i) && four then F4
+    else if (five_is i) && five then F5
+    else Broken)
+  where
+    not_same : (a b : ℕ) → a ≢ b → (a == b) ≡ false
+    not_same a b apart = grind (arith, nat_tests)
+
+    one : (code == 0xF1) ≡ false
+    one = not_same code 0xF1 h.not_1
+
+    three_is : (code == 0xF3) ≡ false
+    three_is = not_same code 0xF3 h.not_3
+
+    four_is : (code == 0xF4) ≡ false
+    four_is = not_same code 0xF4 h.not_4
+
+    five_is : (code == 0xF5) ≡ false
+    five_is = not_same code 0xF5 h.not_5
+
+pub format_is_broken : (bytes : List ℕ) (fault : DscbFault) → length bytes ≡ 140 → IsDscbFault bytes fault → format_of bytes ≡ Broken
+format_is_broken bytes (BadDscb byte why) long (rules.Format, named, h) =
+    no_format (get_or bytes 44 0) (fills 4 0x03 bytes) (fills 44 0x04 bytes) (fills 4 0x05 bytes) (fills 140 0 bytes) h.1 (no_zeros bytes long h.1.not_free)
+format_is_broken bytes (BadDscb byte why) long (rules.NotZero, named, h) =
+    let zeros = fills_false 140 0 bytes byte h.1.within (omega (arith, long, h.1.within)) h.1.other in
+    (λ i. format_by (h.0 i) (fills 4 0x03 bytes) (fills 44 0x04 bytes) (fills 4 0x05 bytes) (zeros i))
+format_is_broken bytes (BadDscb byte why) long (rules.KeyId, named, h) = by_id h
+  where
+    by_id : IsWrong bytes rules.KeyId byte → format_of bytes ≡ Broken
+    by_id (inl w) =
+        let three = fills_false 4 0x03 bytes byte w.1.within (omega (arith, long, w.1.within)) w.1.other in
+        (λ i. format_by (w.0 i) (three i) (fills 44 0x04 bytes) (fills 4 0x05 bytes) (no_zeros bytes long (other_code (get_or bytes 44 0) _ w.0 (omega arith)) i))
+    by_id (inr (inl w)) =
+        let four = fills_false 44 0x04 bytes byte w.1.within (omega (arith, long, w.1.within)) w.1.other in
+        (λ i. format_by (w.0 i) (fills 4 0x03 bytes) (four i) (fills 4 0x05 bytes) (no_zeros bytes long (other_code (get_or bytes 44 0) _ w.0 (omega arith)) i))
+    by_id (inr (inr w)) =
+        let five = fills_false 4 0x05 bytes byte w.1.within (omega (arith, long, w.1.within)) w.1.other in
+        (λ i. format_by (w.0 i) (fills 4 0x03 bytes) (fills 44 0x04 bytes) (five i) (no_zeros bytes long (other_code (get_or bytes 44 0) _ w.0 (omega arith)) i))

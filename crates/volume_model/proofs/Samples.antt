@@ -3,7 +3,8 @@ use Rattle.std.specs.Prelude.{◌≡◌, ℕ, true, List, [], ◌∷◌, ◌++�
 use Rattle.std.proofs.Common.{refl}
 use Rattle.volume_model.specs.declared.rule.VtocRule.TheVariants as rules
 use Rattle.volume_model.specs.Dscbs.{numbers_below}
-use Rattle.volume_model.specs.Space.{is_free, index_of}
+use Rattle.volume_model.specs.Space.{is_free}
+use Rattle.free_map.specs.Free.{index_of}
 use Rattle.volume_model.specs.Check.{Vtoc, breaches_of, usable_in, extents_in}
 
 -- a VTOC on track 1 of one cylinder of 15 heads

@@ -6,7 +6,8 @@ use Rattle.volume_model.specs.declared.rule.VtocRule.TheVariants as rules
 use Rattle.volume_model.specs.Rules.{number_of}
 use Rattle.volume_model.specs.Dscbs.{numbers_below, format_of, is_broken, is_f1, is_f3, is_f4, is_f5, extents_of, pointer_in}
 use Rattle.volume_model.specs.Directory.{Place, Placed, placed_in, named_record, same_place, chain_of}
-use Rattle.volume_model.specs.Space.{TrackRun, end_of, overlap, is_run, runs_of, all_extents, all_entries, usable_of, is_used, has_track}
+use Rattle.free_map.specs.declared.run.Run.{Run}
+use Rattle.volume_model.specs.Space.{end_of, overlap, is_run, runs_of, all_extents, all_entries, usable_of, is_used, has_track}
 
 -- What the rules from the fourth on look at: the heads of a cylinder, the end of the volume, the place of the format 4,
 -- whether format 5 is valid, the alternate tracks, the run of the VTOC, and for each of its tracks the DSCBs, or none where
@@ -17,7 +18,7 @@ pub record Vtoc : Type 0 where
   pub format_4 : Place
   pub valid : Bool
   pub alternates : ℕ
-  pub run : TrackRun
+  pub run : Run
   pub tracks : List (Option (List (List ℕ)))
 
 -- a place that breaks a rule
@@ -161,18 +162,18 @@ abbrev pub bad_ranges : Vtoc → List Breach
 bad_ranges vtoc =
     map (breach rules.Range) (filter (λ placed. list_any (λ extent. not (is_run vtoc.heads vtoc.limit extent)) (extents_of placed.bytes)) (records_of vtoc))
 
-abbrev pub own_runs : Vtoc → Placed → List TrackRun
+abbrev pub own_runs : Vtoc → Placed → List Run
 own_runs vtoc placed = runs_of vtoc.heads vtoc.limit placed.bytes
 
-abbrev pub track_0 : TrackRun
+abbrev pub track_0 : Run
 track_0 = record { first = 0; len = 1 }
 
 -- some of these runs has a track with some of those
-abbrev pub any_overlap : List TrackRun → List TrackRun → Bool
+abbrev pub any_overlap : List Run → List Run → Bool
 any_overlap runs others = list_any (λ run. list_any (overlap run) others) runs
 
 -- two of these runs have a track
-abbrev pub overlap_within : List TrackRun → Bool
+abbrev pub overlap_within : List Run → Bool
 overlap_within runs = not (nat_le (length (later_ones overlap runs)) 0)
 
 -- a record with an extent that has a track of the VTOC, of track 0, of an earlier record's extent, or of another of its own
@@ -184,17 +185,17 @@ bad_overlaps vtoc =
 
 -- ---- free space
 
-abbrev pub extents_in : Vtoc → List TrackRun
+abbrev pub extents_in : Vtoc → List Run
 extents_in vtoc = all_extents vtoc.heads vtoc.limit (records_of vtoc)
 
-abbrev pub entries_in : Vtoc → List TrackRun
+abbrev pub entries_in : Vtoc → List Run
 entries_in vtoc = all_entries vtoc.heads (records_of vtoc)
 
 abbrev pub usable_in : Vtoc → ℕ
 usable_in vtoc = usable_of vtoc.valid vtoc.heads vtoc.limit vtoc.alternates vtoc.run (extents_in vtoc) (entries_in vtoc)
 
 -- Each of so many usable tracks is used or stated free, and none twice; stated are tracks below the end of the volume alone.
-abbrev pub states_free : ℕ → TrackRun → List TrackRun → List TrackRun → ℕ → Bool
+abbrev pub states_free : ℕ → Run → List Run → List Run → ℕ → Bool
 states_free limit vtoc extents entries usable =
     list_all (λ entry. nat_le (end_of entry) limit) entries
     && not (overlap_within entries)

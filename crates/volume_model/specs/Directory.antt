@@ -2,7 +2,8 @@
 use Rattle.std.specs.Prelude.{ℕ, zero, suc, ◌+◌, ◌*◌, Bool, ◌==◌, ◌&&◌, if◌then◌else◌, List, [], ◌∷◌, ◌++◌, length, map, filter, find, Option, Some, None}
 use Rattle.std.specs.List.{flat_map}
 use Rattle.ckd_image.specs.declared.track.Cchhr.{Cchhr}
-use Rattle.volume_model.specs.Dscbs.{Format, format_of, is_f1, is_f3, ExtentField, extents_of, pointer_in}
+use Rattle.volume_model.specs.declared.format.Format.{Format}
+use Rattle.volume_model.specs.Dscbs.{format_of, is_f1, is_f3, ExtentField, extents_of, pointer_in}
 
 -- where a record of the VTOC stands: a track by its number, and the record's number there
 pub record Place : Type 0 where

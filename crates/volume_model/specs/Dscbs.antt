@@ -3,16 +3,9 @@ use Rattle.std.specs.Prelude.{ℕ, zero, suc, ◌+◌, ◌*◌, Bool, true, fals
 use Rattle.std.specs.List.{list_all}
 use Rattle.dscb_rec.specs.Field.{entry_offset}
 use Rattle.ckd_image.specs.declared.track.TrackAt.{TrackAt}
+use Rattle.volume_model.specs.declared.format.Format.{Format}
+use Rattle.volume_model.specs.declared.format.Format.TheVariants.{Broken, Free, F1, F3, F4, F5}
 use Rattle.ckd_image.specs.declared.track.Cchhr.{Cchhr}
-
--- the formats, and a record that is none
-pub data Format : Type 0 where
-  Broken : Format
-  Free : Format
-  F1 : Format
-  F3 : Format
-  F4 : Format
-  F5 : Format
 
 -- so many bytes from the front all have this value
 abbrev pub fills : ℕ → ℕ → List ℕ → Bool

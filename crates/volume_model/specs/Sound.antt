@@ -1,5 +1,5 @@
 -- A volume that passes the VTOC check, and what its directory says.
-use Rattle.std.specs.Prelude.{◌≡◌, ◌≢◌, ◌⊎◌, ℕ, ◌+◌, ◌*◌, ◌<◌, ◌≤◌, min, Bool, true, ◌==◌, ◌&&◌, ◌||◌, List, [], ◌++◌, length, map, All, Option, Some, None, bit_and, slice_index, slice_index_or}
+use Rattle.std.specs.Prelude.{◌≡◌, ◌≢◌, ◌⊎◌, ℕ, ◌+◌, ◌*◌, ◌<◌, ◌≤◌, min, Bool, true, IsTrue, ◌==◌, ◌&&◌, ◌||◌, List, [], ◌++◌, length, map, All, Option, Some, None, bit_and, slice_index, slice_index_or}
 use Rattle.ckd_image.specs.declared.device.Device.{Device}
 use Rattle.ckd_image.specs.declared.head.Head.{Head}
 use Rattle.ckd_image.specs.declared.track.Cchhr.{Cchhr}
@@ -13,9 +13,12 @@ use Rattle.vol_label.specs.declared.label.Label.{Label}
 use Rattle.vol_label.specs.Label.{IsFirstNumbered, IsLabel}
 use Rattle.volume_model.specs.declared.rule.VtocRule.{VtocRule}
 use Rattle.volume_model.specs.declared.rule.VtocRule.TheVariants as rules
-use Rattle.volume_model.specs.Dscbs.{F4, format_of, number_at, extent_at}
+use Rattle.volume_model.specs.declared.format.Format.TheVariants.{F4}
+use Rattle.volume_model.specs.Dscbs.{format_of, number_at, extent_at}
 use Rattle.volume_model.specs.Directory.{named_place, DirectoryRow, rows_of}
-use Rattle.volume_model.specs.Space.{TrackRun, has_track, track_at, is_run, run_of, is_free, AreMaximalRuns}
+use Rattle.free_map.specs.declared.run.Run.{Run}
+use Rattle.free_map.specs.Runs.{AreMaximalRuns}
+use Rattle.volume_model.specs.Space.{has_track, track_at, is_run, run_of, is_free}
 use Rattle.volume_model.specs.Check.{Vtoc, Breach, records_of, extents_in, usable_in, breaches_of, IsLowestBreach}
 
 -- the slots of a unit: of each track, its bytes
@@ -45,7 +48,7 @@ abbrev pub IsTrackReading : ℕ → ℕ → List ℕ → Option (List (List ℕ)
 IsTrackReading heads track slot None = (dscbs : List (List ℕ)) → ¬ IsVtocTrack heads track slot dscbs
 IsTrackReading heads track slot (Some dscbs) = IsVtocTrack heads track slot dscbs
 
-pub record IsReading (heads : ℕ) (slots : Slots) (run : TrackRun) (tracks : List (Option (List (List ℕ)))) : Type 0 where
+pub record IsReading (heads : ℕ) (slots : Slots) (run : Run) (tracks : List (Option (List (List ℕ)))) : Type 0 where
   pub whole : length tracks ≡ run.len
   pub each : (k : ℕ) → k < run.len → IsTrackReading heads (run.first + k) (slots (run.first + k)) (slice_index_or tracks k None)
 
@@ -118,7 +121,7 @@ pub record Volume : Type 0 where
   pub device : Device
   pub label : Label
   pub usable : ℕ
-  pub free : List TrackRun
+  pub free : List Run
   pub rows : List DirectoryRow
 
 -- A unit with this head and these slots is this volume: head, label and VTOC pass their checks.
@@ -134,5 +137,5 @@ pub record IsVolume (head : List ℕ) (blocks : ℕ) (slots : Slots) (sliding : 
   pub vtoc_stands : IsVtoc image slots volume.label.vtoc sliding vtoc
   pub sound : breaches_of vtoc ≡ []
   pub usable_is : volume.usable ≡ usable_in vtoc
-  pub free_are : AreMaximalRuns (is_free (usable_in vtoc) vtoc.run (extents_in vtoc)) volume.free
+  pub free_are : AreMaximalRuns (λ track. IsTrue (is_free (usable_in vtoc) vtoc.run (extents_in vtoc) track)) volume.free
   pub rows_are : volume.rows ≡ rows_of vtoc.heads (records_of vtoc)

@@ -1,6 +1,8 @@
 //! What a volume is: its directory, the rules that its VTOC meets, and its free space (DFSMSdfp Advanced Services).
 #![tactic(auto)]
 
+mod format;
 mod rule;
 
+pub use format::Format;
 pub use rule::VtocRule;

@@ -1,43 +1,12 @@
-use Rattle.std.proofs.Common.{◌∙◌, List, refl, sym, ap, subst, arith}
-use Rattle.dasd_pool.specs.declared.calls.Call.{Call}
-use Rattle.dasd_pool.specs.Disk.{State, none}
-use Rattle.std.specs.Prelude.{All}
-use Rattle.std.proofs.lemmas.List.Elements.{All-push}
-use Rattle.dasd_pool.specs.Calls.{MemoryView, IsKept, items_of, first_state, after}
-use Rattle.dasd_pool.proofs.Kept.{after_kept, runs_kept, state_kept, touches_sync, sync_failed, sync_done}
-use Rattle.dasd_pool.proofs.Texts.{current_same}
+use Rattle.dasd_pool.specs.Disk.{none}
+use Rattle.dasd_pool.specs.Memory.{disk_of, state_of, fails}
+use Rattle.dasd_pool.specs.Moments.{runs_from}
+use Rattle.dasd_pool.proofs.Effects.{elapses_call, touches_sync}
 use Rattle.dasd_pool.proofs.memory.MemoryPoolPool.sync.Goals as goal
 
-pub invariant_of-self-then-failed : goal.invariant_of-self-then-failed
-invariant_of-self-then-failed c =
-    let i = c.self.invariant in (
-      current_same c.self.inside.first.items c.self.inside.calls.items c.record_call.new.calls.items (items_of c.self.inside.texts.items)
-          (λ u b. ap (λ (s : State). s.contents u b) (after_kept (first_state c.self.inside.first.items) c.self.inside.calls.items c.record_call.new.calls.items _ c.record_call.ensures.items) ∙ refl) i.0,
-      omega (arith, i.1, c.record_call.ensures.capacity),
-      i.2,
-      subst (λ (cs : List Call). All (IsKept c.self.inside.first.items) cs) (sym c.record_call.ensures.items) (All-push (IsKept c.self.inside.first.items) c.self.inside.calls.items _ i.3 tt),
-    )
-
-pub returns-then-failed-clause-not_synced : goal.returns-then-failed-clause-not_synced
-returns-then-failed-clause-not_synced c = λ told. state_kept _ _ _ _ _ _ (ap (λ (v : MemoryView). v.units) c.self.view_is) (ap (λ (v : MemoryView). v.calls) c.self.view_is) c.record_call.ensures.items (sync_failed _ _ c.if-failed.true)
-
-pub returns-then-failed-clause-runs : goal.returns-then-failed-clause-runs
-returns-then-failed-clause-runs c = λ told. runs_kept none _ _ _ _ _ _ (ap (λ (v : MemoryView). v.units) c.self.view_is) (ap (λ (v : MemoryView). v.calls) c.self.view_is) c.record_call.ensures.items (touches_sync none _ _)
-
-pub invariant_of-self-else-failed : goal.invariant_of-self-else-failed
-invariant_of-self-else-failed c =
-    let i = c.self.invariant in (
-      current_same c.self.inside.first.items c.self.inside.calls.items c.record_call.new.calls.items (items_of c.self.inside.texts.items)
-          (λ u b. ap (λ (s : State). s.contents u b) (after_kept (first_state c.self.inside.first.items) c.self.inside.calls.items c.record_call.new.calls.items _ c.record_call.ensures.items) ∙ refl) i.0,
-      omega (arith, i.1, c.record_call.ensures.capacity),
-      i.2,
-      subst (λ (cs : List Call). All (IsKept c.self.inside.first.items) cs) (sym c.record_call.ensures.items) (All-push (IsKept c.self.inside.first.items) c.self.inside.calls.items _ i.3 tt),
-    )
-
-pub returns-clause-synced : goal.returns-clause-synced
-returns-clause-synced c = λ told u b.
-    ap (λ (s : State). s.synced u b) (after_kept (first_state c.self.inside.first.items) c.self.inside.calls.items c.record_call.new.calls.items _ c.record_call.ensures.items)
-    ∙ sync_done (after (first_state c.self.inside.first.items) c.self.inside.calls.items) _ c.if-failed.false u b
-
 pub returns-clause-runs : goal.returns-clause-runs
-returns-clause-runs c = λ told. runs_kept none _ _ _ _ _ _ (ap (λ (v : MemoryView). v.units) c.self.view_is) (ap (λ (v : MemoryView). v.calls) c.self.view_is) c.record_call.ensures.items (touches_sync none _ _)
+returns-clause-runs c =
+    let old = c.args.self.now in
+    let new = c.sync_blocks.new.self in
+    let done = c.sync_blocks.ensures in
+    runs_from none (disk_of old) (disk_of new) (touches_sync none (fails old) (state_of old) (state_of new) done.state) (elapses_call old new _ done.call.units done.call.keep done.kept)

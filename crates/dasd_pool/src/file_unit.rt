@@ -1,0 +1,12 @@
+//! What is known of a unit in a file.
+
+ghost use Rattle.std.specs.Prelude.{◌≤◌};
+
+/// What never changes of a unit: its head, and the size and number of its blocks.
+#[derive(Debug, Drop)]
+pub struct FileUnit {
+    pub head: [u8; 512],
+    pub size: u32,
+    pub count: u32,
+    ghost fits: { size ≤ 65536 },
+}

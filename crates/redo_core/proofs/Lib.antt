@@ -1,0 +1,12 @@
+pub mod Crash
+pub mod Transitions
+pub mod Directory
+pub mod CommitMoments
+pub mod Readings
+pub mod Redoing
+pub mod Surveying
+pub mod Faulting
+pub mod Heads
+pub mod Openings
+pub mod Refusals
+pub mod Samples

@@ -1,0 +1,39 @@
+-- What an opening keeps.
+use Rattle.std.specs.Prelude.{◌≡◌, ◌≢◌, ◌<◌, ◌≤◌, ◌⊎◌, ℕ, List, length, All, AllPairs, Bool, true}
+use Rattle.dasd_pool.specs.Disk.{Image, Shape, State, IsSynced}
+use Rattle.vol_label.specs.declared.serial.Serial.{Serial}
+use Rattle.vol_label.specs.Serial.{IsSerial}
+use Rattle.redo_core.specs.declared.control.Control.{Control}
+use Rattle.redo_core.specs.Format.{is_open, directory_in}
+use Rattle.redo_core.specs.Reading.{journal_of, among, fills_of, Reading, Reads}
+
+-- names for the volumes of a pool: from 1 to 64 serials, which differ
+pub record AreNames (shape : Shape) (names : List Serial) : Type 0 where
+  pub some : 1 ≤ length names
+  pub few : length names ≤ 64
+  pub serials : All (λ name. IsSerial name.text) names
+  pub apart : AllPairs (λ one other. one ≢ other) names
+  pub each : length names ≡ journal_of shape
+
+-- all blocks of the journal are synced
+abbrev pub IsJournalSynced : Shape → State → Type 0
+IsJournalSynced shape state = (b : ℕ) → state.synced (journal_of shape) b ≡ true
+
+-- a block that was synced, or that an open body replaces
+abbrev pub IsSure : Shape → State → ℕ → ℕ → Type 0
+IsSure shape old u b =
+    let journal = journal_of shape in
+    (old.synced u b ≡ true) ⊎ ((is_open (old.contents journal 1) ≡ true) × (among (directory_in (old.contents journal 3)) u b ≡ true))
+
+-- The image reads as before, but for blocks of volumes that were not synced and that no open body replaces.
+abbrev pub ReadsSame : Shape → State → Image → Type 0
+ReadsSame shape old image = (before : Reading) → Reads shape old.contents before
+    → (volumes : Image) × Reads shape image (record before { volumes = volumes })
+    × ((u b : ℕ) → u < journal_of shape → IsSure shape old u b → volumes u b ≡ before.volumes u b)
+
+-- An opening ended well: the blocks read as they did, under these names, and all is synced.
+pub record IsOpened (shape : Shape) (old : State) (names : List Serial) (room : ℕ) (control : Control) (fills : List Bool) (new : State) : Type 0 where
+  pub all : IsSynced new
+  pub volumes : Image
+  pub before : Reads shape old.contents (record { volumes = volumes; names = names; room = room; control = control; fills = fills_of fills })
+  pub after : Reads shape new.contents (record { volumes = volumes; names = names; room = room; control = control; fills = fills_of fills })

@@ -1,0 +1,256 @@
+//! The journal of a pool, between two commits.
+
+ghost use Rattle.std.specs.Prelude.{◌≡◌, ◌≢◌, ◌≤◌, ◌<◌, ℕ, All, AllPairs, length, IfOk, IfErr, OnOk};
+ghost use Rattle.dasd_pool.specs.Count.{Rose, HasCause};
+ghost use Rattle.dasd_pool.specs.Disk.{Image, LeavesOnly, Runs, IsSynced, none, is_at};
+ghost use Rattle.redo_core.specs.Reading.{journal_of, fills_of};
+ghost use Rattle.redo_core.specs.Phases.{targets, of_commit, IsAtRest, IsEntry, OldOrNew, IsCommitted};
+ghost use Rattle.redo_core.specs.Opening.{AreNames, IsJournalSynced, IsOpened, ReadsSame};
+ghost use Rattle.redo_core.specs.Faults.{IsOpenFault};
+ghost use Rattle.redo_core.specs.Stops.{pool_after, IsStatusOf};
+
+use crate::commit::apply;
+use crate::control::Control;
+use crate::entries::Entries;
+use crate::fault::JournalFault;
+use crate::opening::open_on;
+use dasd_pool::{Pool, PoolFault};
+use std::alloc::{AllocError, Global};
+use std::marker::Model;
+use vol_label::Serial;
+
+/// Where a call stopped: its pool is handed back.
+#[derive(Drop)]
+pub struct JournalStop<P> {
+    pub pool: P,
+    pub cause: JournalFault,
+}
+
+/// A pool whose journal is at rest. Each change of its volumes is a commit.
+#[derive(Drop)]
+pub struct Journal<P: Pool> {
+    pool: P,
+    unit: u32,
+    room: u32,
+    control: Control,
+    fills: [bool; 64],
+    buffer: Vec<u8>,
+}
+
+impl<P: Pool> Model for Journal<P> {
+    ghost use Rattle.std.specs.Prelude.{◌≡◌, length};
+    ghost use Rattle.redo_core.specs.Format.{wide};
+    ghost use Rattle.redo_core.specs.Phases.{IsAtRest};
+    ghost use Rattle.redo_core.specs.Steps.{IsJournal};
+    ghost use Rattle.redo_core.specs.Opening.{AreNames, IsJournalSynced, IsOpened, ReadsSame};
+    ghost use Rattle.redo_core.specs.Faults.{IsOpenFault};
+    ghost use Rattle.redo_core.specs.Stops.{JournalView};
+
+    ghost Value = { JournalView P };
+
+    ghost view = { λ j. record { pool = j.pool; room = j.room; control = j.control; fills = j.fills } };
+
+    ghost invariant = { λ j. IsJournal (P.shape j.pool) j.unit j.room × (length j.buffer.items ≡ wide)
+        × (P.tells → IsAtRest (P.shape j.pool) (P.disk j.pool).state j.room j.control j.fills) };
+}
+
+fn zeros(alloc: Global, len: usize) -> Result<Vec<u8>, AllocError>
+    ensures { IfOk result (λ v. length v.items ≡ len) }
+{
+    vec![in alloc; 0; len]
+}
+
+impl<P: Pool> Journal<P> {
+    /// Opens the journal of a pool that a stop may have left: puts an open body in place and closes the gate.
+    pub fn open_units(
+        alloc: Global,
+        mut pool: P,
+        names: &[Serial],
+    ) -> Result<Journal<P>, JournalStop<P>>
+        requires { AreNames (P.shape pool) names.now }
+        ensures shape { P.shape (pool_after result) ≡ P.shape pool }
+
+        // It reads as it did, under these names, and all is synced.
+        ensures opened { P.tells → IfOk result (λ journal.
+            IsOpened (P.shape pool) (P.disk pool).state names.now journal.room journal.control journal.fills (P.disk journal.pool).state) }
+
+        // A refusal names the first cause, and nothing was written.
+        ensures refused { P.tells → IfErr result (λ stop. IsOpenFault (P.shape pool) (P.disk pool).state.contents names.now stop.cause) }
+        ensures unwritten { P.tells → IfErr result (λ stop. (stop.cause ≡ JournalFault.Pool → ⊥)
+            → (u b : ℕ) → (P.disk stop.pool).state.contents u b ≡ (P.disk pool).state.contents u b) }
+
+        // At every moment, whatever the answer.
+        ensures any_moment { P.tells → IsJournalSynced (P.shape pool) (P.disk pool).state
+            → LeavesOnly (P.disk pool) (P.disk (pool_after result)) (ReadsSame (P.shape pool) (P.disk pool).state) }
+        ensures faults { P.faults pool ≤ P.faults (pool_after result) }
+        ensures cause { IfErr result (λ stop. stop.cause ≡ JournalFault.Pool → Rose (P.faults pool) (P.faults stop.pool)) }
+    {
+        let unit = pool.units() - 1;
+        let Ok(mut buffer) = zeros(alloc, 65_536) else {
+            return Err(JournalStop {
+                pool,
+                cause: JournalFault::NoMemory,
+            });
+        };
+        match open_on(alloc, &mut pool, unit, names, &mut buffer) {
+            Ok(found) => {
+                let room = found.room;
+                let control = found.control;
+                let fills = found.fills;
+                Ok(Journal {
+                    pool,
+                    unit,
+                    room,
+                    control,
+                    fills,
+                    buffer,
+                })
+            }
+            Err(cause) => Err(JournalStop { pool, cause }),
+        }
+    }
+
+    /// What is under way, as the control block says. The blocks read so, behind a closed gate.
+    pub fn control(&self) -> Control
+        ensures value { result ≡ self.now.control }
+        ensures says { P.tells → IsAtRest (P.shape self.now.pool) (P.disk self.now.pool).state self.now.room self.now.control self.now.fills }
+    {
+        self.control
+    }
+
+    /// How many entries a commit may have.
+    pub fn room(&self) -> u32
+        ensures { result ≡ self.now.room }
+    {
+        self.room
+    }
+
+    /// Whether a fill of a volume is open.
+    pub fn filling(&self, unit: u32) -> bool
+        requires { unit < journal_of (P.shape self.now.pool) }
+        ensures { result ≡ fills_of self.now.fills unit }
+    {
+        self.fills[unit as usize]
+    }
+
+    /// How many volumes there are.
+    pub fn units(&self) -> u32
+        ensures { result ≡ journal_of (P.shape self.now.pool) }
+    {
+        self.unit
+    }
+
+    /// The head of a volume.
+    pub fn head(&self, unit: u32) -> [u8; 512]
+        requires { unit < journal_of (P.shape self.now.pool) }
+        ensures { result ≡ (P.shape self.now.pool).head unit }
+    {
+        self.pool.head(unit)
+    }
+
+    /// The bytes of each block of a volume.
+    pub fn block_size(&self, unit: u32) -> u32
+        requires { unit < journal_of (P.shape self.now.pool) }
+        ensures value { result ≡ (P.shape self.now.pool).block_size unit }
+        ensures fits { result ≤ 65536 }
+    {
+        self.pool.block_size(unit)
+    }
+
+    /// How many blocks a volume has.
+    pub fn blocks(&self, unit: u32) -> u32
+        requires { unit < journal_of (P.shape self.now.pool) }
+        ensures { result ≡ (P.shape self.now.pool).blocks unit }
+    {
+        self.pool.blocks(unit)
+    }
+
+    /// Reads a block of a volume.
+    pub fn read(&mut self, unit: u32, block: u32, buf: &mut [u8]) -> Result<(), PoolFault>
+        requires unit { unit < journal_of (P.shape self.old.pool) }
+        requires block { block < (P.shape self.old.pool).blocks unit }
+        requires size { length buf.old ≡ (P.shape self.old.pool).block_size unit }
+        ensures shape { P.shape self.new.pool ≡ P.shape self.old.pool }
+        ensures bytes { P.tells → OnOk result (buf.new ≡ (P.disk self.old.pool).state.contents unit block) }
+        ensures same { P.tells → (P.disk self.new.pool).state ≡ (P.disk self.old.pool).state }
+        ensures runs { P.tells → Runs none (P.disk self.old.pool) (P.disk self.new.pool) }
+        ensures status { IsStatusOf self.old self.new }
+        ensures cause { HasCause (P.faults self.old.pool) (P.faults self.new.pool) result }
+    {
+        self.pool.read(unit, block, buf)
+    }
+
+    /// Writes a block of a volume, past the journal: until the next sync a stop may leave any bytes there.
+    pub fn write(&mut self, unit: u32, block: u32, buf: &[u8]) -> Result<(), PoolFault>
+        requires unit { unit < journal_of (P.shape self.old.pool) }
+        requires block { block < (P.shape self.old.pool).blocks unit }
+        requires size { length buf.now ≡ (P.shape self.old.pool).block_size unit }
+        ensures shape { P.shape self.new.pool ≡ P.shape self.old.pool }
+        ensures written { P.tells → OnOk result ((P.disk self.new.pool).state.contents unit block ≡ buf.now) }
+        ensures runs { P.tells → Runs (is_at unit block) (P.disk self.old.pool) (P.disk self.new.pool) }
+        ensures status { IsStatusOf self.old self.new }
+        ensures cause { HasCause (P.faults self.old.pool) (P.faults self.new.pool) result }
+    {
+        self.pool.write(unit, block, buf)
+    }
+
+    /// Makes the writes so far durable.
+    pub fn sync(&mut self) -> Result<(), PoolFault>
+        ensures shape { P.shape self.new.pool ≡ P.shape self.old.pool }
+        ensures synced { P.tells → OnOk result (IsSynced (P.disk self.new.pool).state) }
+        ensures runs { P.tells → Runs none (P.disk self.old.pool) (P.disk self.new.pool) }
+        ensures status { IsStatusOf self.old self.new }
+        ensures cause { HasCause (P.faults self.old.pool) (P.faults self.new.pool) result }
+    {
+        self.pool.sync()
+    }
+
+    /// The pool alone.
+    pub fn into_pool(self) -> P
+        ensures { result ≡ self.pool }
+    {
+        let Journal { pool, .. } = self;
+        pool
+    }
+
+    /// Puts the entries in place, all or none of them. Each is for a block of a volume.
+    pub fn commit(self, entries: Entries) -> Result<Journal<P>, JournalStop<P>>
+        requires room { length entries ≤ self.room }
+        requires each { All (IsEntry (P.shape self.pool)) entries }
+        requires apart { AllPairs (λ one other. one ≢ other) (targets entries) }
+        ensures shape { P.shape (pool_after result) ≡ P.shape self.pool }
+
+        // At every moment the blocks read as before or with all entries in place.
+        ensures any_moment { P.tells → LeavesOnly (P.disk self.pool) (P.disk (pool_after result)) (OldOrNew (P.shape self.pool) (P.disk self.pool).state entries) }
+        ensures each_image { P.tells → (image : Image) → (P.disk (pool_after result)).left_since (P.disk self.pool).moment image
+            → OldOrNew (P.shape self.pool) (P.disk self.pool).state entries image }
+        ensures runs { P.tells → Runs (of_commit (journal_of (P.shape self.pool)) entries) (P.disk self.pool) (P.disk (pool_after result)) }
+        ensures committed { P.tells → IfOk result (λ journal. IsCommitted (P.shape self.pool) (P.disk self.pool).state entries (P.disk journal.pool).state) }
+        ensures same { IfOk result (λ journal. (journal.room ≡ self.room) × (journal.control ≡ self.control) × (journal.fills ≡ self.fills)) }
+        ensures faults { P.faults self.pool ≤ P.faults (pool_after result) }
+        ensures cause { IfErr result (λ stop. (stop.cause ≡ JournalFault.Pool) × Rose (P.faults self.pool) (P.faults stop.pool)) }
+    {
+        let Journal {
+            mut pool,
+            unit,
+            room,
+            control,
+            fills,
+            mut buffer,
+        } = self;
+        match apply(&mut pool, unit, &mut buffer, entries.as_slice()) {
+            Ok(()) => Ok(Journal {
+                pool,
+                unit,
+                room,
+                control,
+                fills,
+                buffer,
+            }),
+            Err(_) => Err(JournalStop {
+                pool,
+                cause: JournalFault::Pool,
+            }),
+        }
+    }
+}

@@ -1,0 +1,25 @@
+//! Several blocks of a pool are written at once, or none.
+#![tactic(auto)]
+
+mod blocks;
+mod commit;
+mod control;
+mod entries;
+mod fault;
+mod head;
+mod journal;
+mod labels;
+mod opening;
+mod redo;
+mod survey;
+mod target;
+
+pub use control::Control;
+pub use entries::{Entries, Entry};
+pub use fault::{JournalFault, JournalRule};
+pub use head::journal_head;
+pub use journal::{Journal, JournalStop};
+pub use target::Target;
+
+#[cfg(test)]
+mod tests;

@@ -1,0 +1,185 @@
+ghost use Rattle.std.specs.Prelude.{◌≡◌, All, AllPairs, length, IsTrue, IfOk};
+ghost use Rattle.redo_core.specs.Phases.{targets, IsEntry};
+
+use super::*;
+use crate::opening::is_same;
+use crate::survey::{are_apart, are_serials};
+use ckd_image::{Bytes, NoMemory};
+use dasd_pool::{MemoryPool, Pool, Tear, UnitText};
+use std::alloc::Global;
+use std::test::*;
+use vol_label::Serial;
+
+/// The bytes of a block of a 3350.
+const SIZE: usize = 19_456;
+
+/// `VOL001` and `VOL002` in the code page.
+const NAMES: [Serial; 2] = [
+    Serial {
+        text: [0xe5, 0xd6, 0xd3, 0xf0, 0xf0, 0xf1],
+    },
+    Serial {
+        text: [0xe5, 0xd6, 0xd3, 0xf0, 0xf0, 0xf2],
+    },
+];
+
+/// A volume of two blocks of zeros.
+fn volume(rt: &HostRuntime) -> Result<UnitText, Fail> {
+    let mut head = [0; 512];
+    head[13] = 0x4c;
+    let zeros = vec![in rt.alloc(); 0u8; 2 * SIZE]?;
+    Ok(UnitText {
+        head,
+        blocks: Bytes::from_vec(zeros),
+    })
+}
+
+/// The registration of these volumes, with room for three images.
+const REGISTRATION: [u8; 28] = [
+    0x41, 0x44, 0x52, 0x52, 0x45, 0x47, 0x30, 0x31, 0, 0, 0, 2, 0, 0, 0, 3, 0xe5, 0xd6, 0xd3, 0xf0,
+    0xf0, 0xf1, 0xe5, 0xd6, 0xd3, 0xf0, 0xf0, 0xf2,
+];
+
+fn journal(rt: &HostRuntime) -> Result<UnitText, Fail> {
+    let mut blocks = Bytes::from_slice(rt.alloc(), &REGISTRATION)?;
+    let zeros = vec![in rt.alloc(); 0u8; 7 * 65_536 - 28]?;
+    blocks.extend_from_slice(&zeros)?;
+    Ok(UnitText {
+        head: journal_head(),
+        blocks,
+    })
+}
+
+fn pool(rt: &HostRuntime) -> Result<MemoryPool, Fail> {
+    let mut units = Vec::new(rt.alloc());
+    units.push(volume(rt)?)?;
+    units.push(volume(rt)?)?;
+    units.push(journal(rt)?)?;
+    Ok(MemoryPool::new(rt.alloc(), units, Vec::new(rt.alloc()), 40)?)
+}
+
+/// Opens the journal, where there are two volumes with these names.
+fn open<P: Pool + Drop>(alloc: Global, pool: P, names: &[Serial]) -> Option<Journal<P>> {
+    if pool.units() != 3 || names.len() != 2 || !are_serials(names) {
+        return None;
+    }
+    if is_same(names[0], names[1]) {
+        return None;
+    }
+    Journal::open_units(alloc, pool, names).ok()
+}
+
+fn is_entry<P: Pool>(journal: &Journal<P>, entry: &Entry) -> bool
+    ensures { IsTrue result → IsEntry (P.shape journal.now.pool) entry.now }
+{
+    if entry.unit >= journal.units() {
+        return false;
+    }
+    entry.block < journal.blocks(entry.unit)
+        && entry.slot.len() == journal.block_size(entry.unit) as usize
+}
+
+fn are_entries<P: Pool>(journal: &Journal<P>, entries: &[Entry]) -> bool
+    ensures { IsTrue result → All (IsEntry (P.shape journal.now.pool)) entries.now }
+{
+    for entry in entries {
+        if !is_entry(journal, entry) {
+            return false;
+        }
+    }
+    true
+}
+
+fn targets_of(alloc: Global, entries: &[Entry]) -> Result<Vec<Target>, NoMemory>
+    ensures { IfOk result (λ found. found.items ≡ targets entries.now) }
+{
+    let mut found = Vec::new(alloc);
+    for entry in entries {
+        found.push(Target {
+            unit: entry.unit,
+            block: entry.block,
+        })?;
+    }
+    Ok(found)
+}
+
+/// Commits the entries, where they may be.
+fn commit<P: Pool + Drop>(
+    alloc: Global,
+    journal: Journal<P>,
+    entries: Entries,
+) -> Option<Journal<P>> {
+    let Ok(targets) = targets_of(alloc, entries.as_slice()) else {
+        return None;
+    };
+    if entries.as_slice().len() > journal.room() as usize || !are_apart(&targets) {
+        return None;
+    }
+    if !are_entries(&journal, entries.as_slice()) {
+        return None;
+    }
+    journal.commit(entries).ok()
+}
+
+/// The last byte of a block of a volume.
+fn last_byte<P: Pool>(
+    rt: &HostRuntime,
+    journal: &mut Journal<P>,
+    unit: u32,
+    block: u32,
+) -> Result<u8, Fail> {
+    let mut buf = vec![in rt.alloc(); 99u8; SIZE]?;
+    if unit >= journal.units()
+        || block >= journal.blocks(unit)
+        || journal.block_size(unit) as usize != buf.len()
+    {
+        return Ok(99);
+    }
+    journal.read(unit, block, &mut buf)?;
+    Ok(buf[SIZE - 1])
+}
+
+/// The last bytes of the three blocks that a pool has after an opening.
+fn after_opening<P: Pool + Drop>(rt: &HostRuntime, pool: P) -> Result<[u8; 3], Fail> {
+    let Some(mut journal) = open(rt.alloc(), pool, &NAMES) else {
+        return Ok([98; 3]);
+    };
+    let first = last_byte(rt, &mut journal, 0, 0)?;
+    let second = last_byte(rt, &mut journal, 0, 1)?;
+    let third = last_byte(rt, &mut journal, 1, 1)?;
+    Ok([first, second, third])
+}
+
+/// Three blocks of two volumes, each of one byte.
+fn three_entries(rt: &HostRuntime) -> Result<Entries, Fail> {
+    let mut entries = Entries::new(rt.alloc(), 3)?;
+    for (unit, block, byte) in [(0, 0, 7), (0, 1, 8), (1, 1, 9)] {
+        let slot = vec![in rt.alloc(); byte; SIZE]?;
+        entries.push(rt.alloc(), unit, block, &slot)?;
+    }
+    Ok(entries)
+}
+
+#[test]
+fn a_commit_is_whole_wherever_it_stops(rt: HostRuntime) -> Result<(), Fail> {
+    let entries = three_entries(&rt)?;
+    let Some(journal) = open(rt.alloc(), pool(&rt)?, &NAMES) else {
+        assert!(rt; false, "the opening fails");
+        return Ok(());
+    };
+    let Some(journal) = commit(rt.alloc(), journal, entries) else {
+        assert!(rt; false, "the commit fails");
+        return Ok(());
+    };
+    let pool = journal.into_pool();
+    assert_eq!(rt; pool.calls(), 17);
+    for calls in 0..18 {
+        for tear in [Tear::Old, Tear::New, Tear::Zero, Tear::Half] {
+            let stopped = pool.crash(rt.alloc(), calls, tear)?;
+            let found = after_opening(&rt, stopped)?;
+            let is_whole = found == [0, 0, 0] || found == [7, 8, 9];
+            assert!(rt; is_whole, "{tear:?} after {calls}");
+        }
+    }
+    Ok(())
+}
