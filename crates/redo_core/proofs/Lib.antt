@@ -10,3 +10,6 @@ pub mod Heads
 pub mod Openings
 pub mod Refusals
 pub mod Samples
+pub mod Formatting
+pub mod Formatted
+pub mod FormatFaults

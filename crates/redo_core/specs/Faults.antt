@@ -1,5 +1,6 @@
 -- Why a journal is refused, in the order of the causes.
 use Rattle.std.specs.Prelude.{◌≡◌, ◌≢◌, ◌⊎◌, ◌<◌, ◌≤◌, ℕ, ◌+◌, List, take, replicate, slice_get, Some, true, ◌==◌, ◌&&◌, nat_le, if◌then◌else◌}
+use Rattle.ckd_image.specs.Bytes.{Begins}
 use Rattle.ckd_image.specs.Head.{IsHead}
 use Rattle.ckd_image.specs.Track.{IsTrackText}
 use Rattle.ckd_image.specs.declared.device.Device.{Device}
@@ -14,6 +15,7 @@ use Rattle.redo_core.specs.declared.fault.JournalFault.{JournalFault}
 use Rattle.redo_core.specs.declared.fault.JournalFault.TheVariants.{Pool, BadJournal, WrongUnit, JournalSmall, NoMemory}
 use Rattle.redo_core.specs.declared.fault.JournalRule.{JournalRule}
 use Rattle.redo_core.specs.declared.fault.JournalRule.TheVariants as rules
+use Rattle.redo_core.specs.Format.{registration_magic, is_open, is_filling}
 use Rattle.redo_core.specs.Reading.{journal_of, overlay, control_block, Reading, HasHead, IsRegistration, HasBody, IsControl, Obeys}
 
 -- the number of a rule in a refusal
@@ -135,3 +137,25 @@ IsOpenFault shape image names (WrongUnit unit kept found) =
     (reading : Reading) × IsIdle shape image reading × (4 + reading.room ≤ shape.blocks (journal_of shape))
     × IsWhoFault shape (overlay shape.block_size (journal_of shape) image) reading.names names (WrongUnit unit kept found)
 IsOpenFault shape image names fault = Unit {0}
+
+-- a registration stands, and a body, a slide or a fill is open
+pub record IsInUse (shape : Shape) (image : Image) : Type 0 where
+  pub registered : Begins registration_magic (image (journal_of shape) 0)
+  pub «open» : (is_open (image (journal_of shape) 1) ≡ true) ⊎ ((is_open (image (journal_of shape) 2) ≡ true)
+      ⊎ ((u : ℕ) × (u < 64) × (is_filling (image (journal_of shape) 2) u ≡ true)))
+
+-- Why a format refuses: the head, a journal in use, the labels, and then the length.
+abbrev pub IsFormatFault : Shape → Image → List Serial → ℕ → JournalFault → Type 0
+IsFormatFault shape image names room (BadJournal why) =
+    ((why ≡ number_of rules.Head) × ¬ HasHead shape) ⊎ ((why ≡ number_of rules.InUse) × HasHead shape × IsInUse shape (zeroed shape image))
+IsFormatFault shape image names room (WrongUnit unit kept found) =
+    HasHead shape × (¬ IsInUse shape (zeroed shape image)) × IsFirstLabel shape image names unit kept found
+IsFormatFault shape image names room (JournalSmall need have) =
+    HasHead shape × (¬ IsInUse shape (zeroed shape image)) × LabelsAre shape image names (journal_of shape)
+    × (need ≡ 4 + room) × (have ≡ shape.blocks (journal_of shape)) × (have < need)
+IsFormatFault shape image names room fault = Unit {0}
+
+-- fewer blocks than are needed
+abbrev pub IsShort : ℕ → ℕ → JournalFault → Type 0
+IsShort need have (JournalSmall wanted found) = (wanted ≡ need) × (found ≡ have) × (have < need)
+IsShort need have fault = ⊥

@@ -1,9 +1,10 @@
--- What an opening keeps.
-use Rattle.std.specs.Prelude.{◌≡◌, ◌≢◌, ◌<◌, ◌≤◌, ◌⊎◌, ℕ, List, length, All, AllPairs, Bool, true}
+-- What an opening keeps, and what a format makes.
+use Rattle.std.specs.Prelude.{◌≡◌, ◌≢◌, ◌<◌, ◌≤◌, ◌⊎◌, ℕ, List, length, All, AllPairs, Bool, true, false}
 use Rattle.dasd_pool.specs.Disk.{Image, Shape, State, IsSynced}
 use Rattle.vol_label.specs.declared.serial.Serial.{Serial}
 use Rattle.vol_label.specs.Serial.{IsSerial}
 use Rattle.redo_core.specs.declared.control.Control.{Control}
+use Rattle.redo_core.specs.declared.control.Control.TheVariants.{Idle}
 use Rattle.redo_core.specs.Format.{is_open, directory_in}
 use Rattle.redo_core.specs.Reading.{journal_of, among, fills_of, Reading, Reads}
 
@@ -37,3 +38,12 @@ pub record IsOpened (shape : Shape) (old : State) (names : List Serial) (room : 
   pub volumes : Image
   pub before : Reads shape old.contents (record { volumes = volumes; names = names; room = room; control = control; fills = fills_of fills })
   pub after : Reads shape new.contents (record { volumes = volumes; names = names; room = room; control = control; fills = fills_of fills })
+
+-- the blocks of volumes that were synced are as they were
+abbrev pub SparesVolumes : Shape → State → Image → Type 0
+SparesVolumes shape old image = (u b : ℕ) → u < journal_of shape → old.synced u b ≡ true → image u b ≡ old.contents u b
+
+-- A format ended well: the volumes are as they were, under these names, nothing is under way, and all is synced.
+pub record IsFormatted (shape : Shape) (old : State) (names : List Serial) (room : ℕ) (new : State) : Type 0 where
+  pub all : IsSynced new
+  pub reads : Reads shape new.contents (record { volumes = old.contents; names = names; room = room; control = Idle; fills = λ u. false })

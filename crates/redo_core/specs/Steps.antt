@@ -25,6 +25,10 @@ pub record IsMove (shape : Shape) (journal : ℕ) (entry : Entry) : Type 0 where
 abbrev pub of_body : ℕ → ℕ → ℕ → Bool
 of_body journal u b = (u == journal) && nat_le 3 b
 
+-- whether a block is of the journal
+abbrev pub of_journal : ℕ → ℕ → ℕ → Bool
+of_journal journal u b = u == journal
+
 -- the gate is closed, and all blocks of the journal are synced
 pub record IsShut (journal : ℕ) (state : State) : Type 0 where
   pub synced : (b : ℕ) → state.synced journal b ≡ true

@@ -19,3 +19,8 @@ pub record IsStatusOf {P : Type 0} (old new : JournalView P) : Type 0 where
 abbrev pub pool_after : {P : Type 0} → Result (JournalView P) (JournalStop P) → P
 pool_after (Ok journal) = journal.pool
 pool_after (Err stop) = stop.pool
+
+-- the pool that a format hands on
+abbrev pub pool_of : {P : Type 0} → Result P (JournalStop P) → P
+pool_of (Ok pool) = pool
+pool_of (Err stop) = stop.pool

@@ -12,7 +12,7 @@ use ckd_image::text::put_over;
 use dasd_pool::{Pool, PoolFault};
 
 /// The text, and zeros after it.
-fn fill(buffer: &mut [u8], text: &[u8])
+pub(crate) fn fill(buffer: &mut [u8], text: &[u8])
     requires { length text.now ≤ length buffer.old }
     ensures { buffer.new ≡ text.now ++ replicate (length buffer.old - length text.now) 0 }
 {

@@ -5,14 +5,15 @@ ghost use Rattle.dasd_pool.specs.Count.{Rose, HasCause};
 ghost use Rattle.dasd_pool.specs.Disk.{Image, LeavesOnly, Runs, IsSynced, none, is_at};
 ghost use Rattle.redo_core.specs.Reading.{journal_of, fills_of};
 ghost use Rattle.redo_core.specs.Phases.{targets, of_commit, IsAtRest, IsEntry, OldOrNew, IsCommitted};
-ghost use Rattle.redo_core.specs.Opening.{AreNames, IsJournalSynced, IsOpened, ReadsSame};
-ghost use Rattle.redo_core.specs.Faults.{IsOpenFault};
-ghost use Rattle.redo_core.specs.Stops.{pool_after, IsStatusOf};
+ghost use Rattle.redo_core.specs.Opening.{AreNames, IsFormatted, IsJournalSynced, IsOpened, ReadsSame, SparesVolumes};
+ghost use Rattle.redo_core.specs.Faults.{IsFormatFault, IsOpenFault};
+ghost use Rattle.redo_core.specs.Stops.{pool_after, pool_of, IsStatusOf};
 
 use crate::commit::apply;
 use crate::control::Control;
 use crate::entries::Entries;
 use crate::fault::JournalFault;
+use crate::format::format_on;
 use crate::opening::open_on;
 use dasd_pool::{Pool, PoolFault};
 use std::alloc::{AllocError, Global};
@@ -42,8 +43,8 @@ impl<P: Pool> Model for Journal<P> {
     ghost use Rattle.redo_core.specs.Format.{wide};
     ghost use Rattle.redo_core.specs.Phases.{IsAtRest};
     ghost use Rattle.redo_core.specs.Steps.{IsJournal};
-    ghost use Rattle.redo_core.specs.Opening.{AreNames, IsJournalSynced, IsOpened, ReadsSame};
-    ghost use Rattle.redo_core.specs.Faults.{IsOpenFault};
+    ghost use Rattle.redo_core.specs.Opening.{AreNames, IsFormatted, IsJournalSynced, IsOpened, ReadsSame, SparesVolumes};
+    ghost use Rattle.redo_core.specs.Faults.{IsFormatFault, IsOpenFault};
     ghost use Rattle.redo_core.specs.Stops.{JournalView};
 
     ghost Value = { JournalView P };
@@ -61,6 +62,40 @@ fn zeros(alloc: Global, len: usize) -> Result<Vec<u8>, AllocError>
 }
 
 impl<P: Pool> Journal<P> {
+    /// Makes a journal of the last unit. The volumes are not written.
+    pub fn format(
+        alloc: Global,
+        mut pool: P,
+        names: &[Serial],
+        room: u32,
+    ) -> Result<P, JournalStop<P>>
+        requires names { AreNames (P.shape pool) names.now }
+        requires least { 3 ≤ room }
+        requires most { room ≤ 8191 }
+        ensures shape { P.shape (pool_of result) ≡ P.shape pool }
+        ensures formatted { P.tells → IfOk result (λ new. IsFormatted (P.shape pool) (P.disk pool).state names.now room (P.disk new).state) }
+
+        // A refusal names the first cause, and nothing was written.
+        ensures refused { P.tells → IfErr result (λ stop. IsFormatFault (P.shape pool) (P.disk pool).state.contents names.now room stop.cause) }
+        ensures unwritten { P.tells → IfErr result (λ stop. (stop.cause ≡ JournalFault.Pool → ⊥) → (P.disk stop.pool).state ≡ (P.disk pool).state) }
+
+        // At every moment, whatever the answer.
+        ensures any_moment { P.tells → LeavesOnly (P.disk pool) (P.disk (pool_of result)) (SparesVolumes (P.shape pool) (P.disk pool).state) }
+        ensures cause { IfErr result (λ stop. stop.cause ≡ JournalFault.Pool → Rose (P.faults pool) (P.faults stop.pool)) }
+    {
+        let unit = pool.units() - 1;
+        let Ok(mut buffer) = zeros(alloc, 65_536) else {
+            return Err(JournalStop {
+                pool,
+                cause: JournalFault::NoMemory,
+            });
+        };
+        match format_on(alloc, &mut pool, unit, names, room, &mut buffer) {
+            Ok(()) => Ok(pool),
+            Err(cause) => Err(JournalStop { pool, cause }),
+        }
+    }
+
     /// Opens the journal of a pool that a stop may have left: puts an open body in place and closes the gate.
     pub fn open_units(
         alloc: Global,

@@ -6,6 +6,7 @@ mod commit;
 mod control;
 mod entries;
 mod fault;
+mod format;
 mod head;
 mod journal;
 mod labels;

@@ -22,7 +22,7 @@ use std::alloc::Global;
 use vol_label::{Serial, is_serial};
 
 /// What a registration begins with.
-const MAGIC: &[u8] = b"ADRREG01";
+pub(crate) const MAGIC: &[u8] = b"ADRREG01";
 
 /// Reads a block of the journal, or zeros past its end.
 pub fn read_or_zeros<P: Pool>(

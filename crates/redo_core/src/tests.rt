@@ -1,9 +1,11 @@
 ghost use Rattle.std.specs.Prelude.{◌≡◌, All, AllPairs, length, IsTrue, IfOk};
 ghost use Rattle.redo_core.specs.Phases.{targets, IsEntry};
+ghost use Rattle.redo_core.specs.Opening.{AreNames};
 
 use super::*;
 use crate::opening::is_same;
 use crate::survey::{are_apart, are_serials};
+use ckd_image::text::put_over;
 use ckd_image::{Bytes, NoMemory};
 use dasd_pool::{MemoryPool, Pool, Tear, UnitText};
 use std::alloc::Global;
@@ -40,33 +42,81 @@ const REGISTRATION: [u8; 28] = [
     0xf0, 0xf1, 0xe5, 0xd6, 0xd3, 0xf0, 0xf0, 0xf2,
 ];
 
-fn journal(rt: &HostRuntime) -> Result<UnitText, Fail> {
-    let mut blocks = Bytes::from_slice(rt.alloc(), &REGISTRATION)?;
-    let zeros = vec![in rt.alloc(); 0u8; 7 * 65_536 - 28]?;
-    blocks.extend_from_slice(&zeros)?;
+/// The first byte of the gate, the control and the directory.
+const GATE: usize = 65_536;
+
+const CONTROL: usize = 2 * 65_536;
+
+const DIRECTORY: usize = 3 * 65_536;
+
+/// A byte of a journal, and what it is in place of what it was.
+type Change = (usize, u8);
+
+fn put_changes(blocks: &mut [u8], changes: &[Change]) {
+    for (place, byte) in changes {
+        if let Some(found) = blocks.get_mut(*place) {
+            *found = *byte;
+        }
+    }
+}
+
+/// Seven blocks of a journal at rest, but for these changes.
+fn journal_with(rt: &HostRuntime, changes: &[Change]) -> Result<UnitText, Fail> {
+    let mut blocks = vec![in rt.alloc(); 0u8; 7 * 65_536]?;
+    put_over(&mut blocks, 0, &REGISTRATION);
+    put_changes(&mut blocks, changes);
     Ok(UnitText {
         head: journal_head(),
-        blocks,
+        blocks: Bytes::from_vec(blocks),
     })
 }
 
-fn pool(rt: &HostRuntime) -> Result<MemoryPool, Fail> {
+fn pool_with(rt: &HostRuntime, changes: &[Change]) -> Result<MemoryPool, Fail> {
     let mut units = Vec::new(rt.alloc());
     units.push(volume(rt)?)?;
     units.push(volume(rt)?)?;
-    units.push(journal(rt)?)?;
+    units.push(journal_with(rt, changes)?)?;
     Ok(MemoryPool::new(rt.alloc(), units, Vec::new(rt.alloc()), 40)?)
+}
+
+fn pool(rt: &HostRuntime) -> Result<MemoryPool, Fail> {
+    pool_with(rt, &[])
+}
+
+/// Whether there are two volumes for these names.
+fn are_names<P: Pool>(pool: &P, names: &[Serial]) -> bool
+    ensures { IsTrue result → AreNames (P.shape pool.now) names.now }
+{
+    if pool.units() != 3 || names.len() != 2 || !are_serials(names) {
+        return false;
+    }
+    !is_same(names[0], names[1])
 }
 
 /// Opens the journal, where there are two volumes with these names.
 fn open<P: Pool + Drop>(alloc: Global, pool: P, names: &[Serial]) -> Option<Journal<P>> {
-    if pool.units() != 3 || names.len() != 2 || !are_serials(names) {
-        return None;
-    }
-    if is_same(names[0], names[1]) {
+    if !are_names(&pool, names) {
         return None;
     }
     Journal::open_units(alloc, pool, names).ok()
+}
+
+/// Why the journal isn't opened under the names of the volumes, where it isn't.
+fn refusal_of<P: Pool + Drop>(alloc: Global, pool: P) -> Option<JournalFault> {
+    if !are_names(&pool, &NAMES) {
+        return None;
+    }
+    Journal::open_units(alloc, pool, &NAMES)
+        .err()
+        .map(|stop| stop.cause)
+}
+
+/// Makes a journal with room for three images, where there are two volumes for these names.
+fn make_journal<P: Pool + Drop>(alloc: Global, pool: P, names: &[Serial]) -> Option<P> {
+    if !are_names(&pool, names) {
+        return None;
+    }
+    Journal::format(alloc, pool, names, 3).ok()
 }
 
 fn is_entry<P: Pool>(journal: &Journal<P>, entry: &Entry) -> bool
@@ -180,6 +230,62 @@ fn a_commit_is_whole_wherever_it_stops(rt: HostRuntime) -> Result<(), Fail> {
             let is_whole = found == [0, 0, 0] || found == [7, 8, 9];
             assert!(rt; is_whole, "{tear:?} after {calls}");
         }
+    }
+    Ok(())
+}
+
+/// The room of a journal that was made and then opened, both with these names.
+fn room_after_format<P: Pool + Drop>(alloc: Global, pool: P, names: &[Serial]) -> Option<u32> {
+    let pool = make_journal(alloc, pool, names)?;
+    let journal = open(alloc, pool, names)?;
+    Some(journal.room())
+}
+
+#[test]
+fn a_journal_opens_with_the_names_that_it_was_made_with(rt: HostRuntime) -> Result<(), Fail> {
+    let names = [NAMES[1], NAMES[0]];
+    let before = open(rt.alloc(), pool(&rt)?, &names);
+    assert!(rt; before.is_none());
+    let room = room_after_format(rt.alloc(), pool(&rt)?, &names);
+    assert_eq!(rt; room, Some(3));
+    Ok(())
+}
+
+/// `VOL003` in the code page.
+const OTHER: Serial = Serial {
+    text: [0xe5, 0xd6, 0xd3, 0xf0, 0xf0, 0xf3],
+};
+
+/// Each cause that a journal of seven blocks can have, the later of two causes never.
+#[test]
+fn a_journal_is_refused_with_its_first_cause(rt: HostRuntime) -> Result<(), Fail> {
+    let cases: [(&[Change], JournalFault); 13] = [
+        (&[(0, 0x42)], JournalFault::BadJournal(2)),
+        (&[(11, 3)], JournalFault::BadJournal(2)),
+        (&[(15, 2)], JournalFault::BadJournal(2)),
+        (&[(16, 0)], JournalFault::BadJournal(2)),
+        (&[(GATE, 1)], JournalFault::BadJournal(3)),
+        (
+            &[(GATE, 1), (DIRECTORY + 3, 2)],
+            JournalFault::BadJournal(3),
+        ),
+        (
+            &[(GATE, 1), (DIRECTORY + 3, 1), (DIRECTORY + 11, 2)],
+            JournalFault::BadJournal(3),
+        ),
+        (&[(CONTROL, 2)], JournalFault::BadJournal(4)),
+        (&[(CONTROL, 1)], JournalFault::BadJournal(4)),
+        (
+            &[(CONTROL, 1), (CONTROL + 11, 1), (CONTROL + 19, 1)],
+            JournalFault::BadJournal(7),
+        ),
+        (&[(CONTROL + 65, 1), (15, 4)], JournalFault::BadJournal(7)),
+        (&[(15, 4), (21, 0xf3)], JournalFault::JournalSmall(8, 7)),
+        (&[(21, 0xf3)], JournalFault::WrongUnit(0, OTHER, NAMES[0])),
+    ];
+    for (changes, fault) in cases {
+        let found = refusal_of(rt.alloc(), pool_with(&rt, changes)?);
+        assert_eq!(rt; found, Some(fault));
     }
     Ok(())
 }
