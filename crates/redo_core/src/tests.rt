@@ -111,6 +111,16 @@ fn refusal_of<P: Pool + Drop>(alloc: Global, pool: P) -> Option<JournalFault> {
         .map(|stop| stop.cause)
 }
 
+/// Why a journal isn't made, where it isn't.
+fn refusal_to_make<P: Pool + Drop>(alloc: Global, pool: P, room: u32) -> Option<JournalFault> {
+    if !are_names(&pool, &NAMES) || !(3..=8191).contains(&room) {
+        return None;
+    }
+    Journal::format(alloc, pool, &NAMES, room)
+        .err()
+        .map(|stop| stop.cause)
+}
+
 /// Makes a journal with room for three images, where there are two volumes for these names.
 fn make_journal<P: Pool + Drop>(alloc: Global, pool: P, names: &[Serial]) -> Option<P> {
     if !are_names(&pool, names) {
@@ -287,5 +297,41 @@ fn a_journal_is_refused_with_its_first_cause(rt: HostRuntime) -> Result<(), Fail
         let found = refusal_of(rt.alloc(), pool_with(&rt, changes)?);
         assert_eq!(rt; found, Some(fault));
     }
+    Ok(())
+}
+
+/// A journal in use has its registration, and a body, a slide or a fill is open.
+#[test]
+fn a_journal_in_use_is_not_made_anew(rt: HostRuntime) -> Result<(), Fail> {
+    let cases: [(&[Change], u32, Option<JournalFault>); 8] = [
+        (&[], 3, None),
+        (&[(GATE, 1)], 3, Some(JournalFault::BadJournal(6))),
+        (&[(CONTROL, 1)], 3, Some(JournalFault::BadJournal(6))),
+        (&[(CONTROL + 64, 1)], 3, Some(JournalFault::BadJournal(6))),
+        (&[(CONTROL + 127, 1)], 4, Some(JournalFault::BadJournal(6))),
+        (&[(GATE, 1), (11, 9)], 3, Some(JournalFault::BadJournal(6))),
+        (&[(GATE, 1), (0, 0)], 3, None),
+        (&[], 4, Some(JournalFault::JournalSmall(8, 7))),
+    ];
+    for (changes, room, fault) in cases {
+        let found = refusal_to_make(rt.alloc(), pool_with(&rt, changes)?, room);
+        assert_eq!(rt; found, fault);
+    }
+    Ok(())
+}
+
+/// A volume in the place of the journal.
+#[test]
+fn a_volume_is_no_journal(rt: HostRuntime) -> Result<(), Fail> {
+    let mut units = Vec::new(rt.alloc());
+    for _ in 0..3 {
+        units.push(volume(&rt)?)?;
+    }
+    let pool = MemoryPool::new(rt.alloc(), units, Vec::new(rt.alloc()), 40)?;
+    let stopped = pool.crash(rt.alloc(), 0, Tear::Old)?;
+    let opening = refusal_of(rt.alloc(), stopped);
+    assert_eq!(rt; opening, Some(JournalFault::BadJournal(1)));
+    let making = refusal_to_make(rt.alloc(), pool, 3);
+    assert_eq!(rt; making, Some(JournalFault::BadJournal(1)));
     Ok(())
 }
