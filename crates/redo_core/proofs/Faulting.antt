@@ -1,6 +1,6 @@
 -- Faults that helpers answer, as those of an opening.
 use Rattle.std.proofs.Common.{◌≡◌, ◌<◌, ◌≤◌, ℕ, ◌+◌, List, Bool, true, false, sym, subst, arith}
-use Rattle.std.specs.Prelude.{Result, Ok, Err, IfErr, IfSome, Option, Some, None, if◌then◌else◌}
+use Rattle.std.specs.Prelude.{Result, Ok, Err, IfErr, OnOk, IfSome, Option, Some, None, if◌then◌else◌}
 use Rattle.dasd_pool.specs.Disk.{Image, Shape, State}
 use Rattle.vol_label.specs.declared.serial.Serial.{Serial}
 use Rattle.redo_core.specs.declared.fault.JournalFault.{JournalFault}
@@ -12,6 +12,11 @@ use Rattle.redo_core.specs.Faults.{zeroed, Breaks, Fails, IsRuleFault, IsFirstBr
 pub err_weaker : {T : Type 0} (P Q : JournalFault → Type 0) → ((f : JournalFault) → P f → Q f) → (r : Result T JournalFault) → IfErr r P → IfErr r Q
 err_weaker P Q implies (Ok t) h = h
 err_weaker P Q implies (Err f) h = implies f h
+
+-- what holds whatever the answer
+pub ok_always : {T : Type 0} (X : Type 0) (r : Result T JournalFault) → X → OnOk r X
+ok_always X (Ok t) x = x
+ok_always X (Err f) x = tt
 
 -- a broken rule
 pub breaks_rule : (shape : Shape) (image : Image) (rule : JournalRule) (broken : Type 0) → (broken → IsFirstBroken shape image rule) → (f : JournalFault) → Breaks rule broken f → IsRuleFault shape image f

@@ -3,13 +3,14 @@ use Rattle.std.proofs.Common.{◌≡◌, ◌<◌, ◌≤◌, ℕ, ◌+◌, List,
 use Rattle.std.specs.Prelude.{replicate, ◌==◌, false}
 use Rattle.std.proofs.lemmas.Bool.{false≢true, ne_eqb}
 use Rattle.std.proofs.lemmas.List.{get_or-replicate}
-use Rattle.dasd_pool.specs.Disk.{Image, Shape, Disk, Runs, IsSynced}
+use Rattle.dasd_pool.specs.Disk.{Image, Shape, Disk, Runs, LeavesOnly, Spares, IsSynced}
+use Rattle.dasd_pool.specs.Moments.{weaken}
 use Rattle.vol_label.specs.declared.serial.Serial.{Serial}
 use Rattle.redo_core.specs.declared.control.Control.TheVariants.{Idle}
 use Rattle.redo_core.specs.Format.{wide, registration_text, is_open, control_in, is_filling}
 use Rattle.redo_core.specs.Reading.{journal_of, control_block, HasHead, IsRegistration, IsControl, Reads}
 use Rattle.redo_core.specs.Steps.{of_journal}
-use Rattle.redo_core.specs.Opening.{AreNames, IsFormatted}
+use Rattle.redo_core.specs.Opening.{AreNames, IsFormatted, SparesVolumes}
 use Rattle.redo_core.proofs.Crash.{closed_overlay}
 use Rattle.redo_core.proofs.Formatting.{registration_reads}
 
@@ -49,3 +50,8 @@ is_formatted shape journal names room rest old new unit head are least most long
       (ap (λ (j : ℕ). new.state.contents j 0) unit ∙ registration) (ap (λ (j : ℕ). new.state.contents j 1) unit ∙ gate) (ap (λ (j : ℕ). new.state.contents j 2) unit ∙ control)
       old.state.contents (λ u b less. run.touches.contents u b (ne_eqb u journal (λ same. omega (arith, same, less, unit))));
 }
+
+-- a stop while a journal is made leaves the volumes
+pub volumes_spared : (shape : Shape) (journal : ℕ) (old new : Disk) → journal_of shape ≡ journal → Runs (of_journal journal) old new → LeavesOnly old new (SparesVolumes shape old.state)
+volumes_spared shape journal old new unit run = weaken old new (Spares (of_journal journal) old.state) (SparesVolumes shape old.state)
+    (λ image spares u b less was. spares u b (ne_eqb u journal (λ same. omega (arith, same, less, unit))) was) run.leaves

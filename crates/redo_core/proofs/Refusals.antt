@@ -8,7 +8,7 @@ use Rattle.redo_core.specs.declared.fault.JournalFault.TheVariants.{Pool, BadJou
 use Rattle.redo_core.specs.declared.target.Target.{Target}
 use Rattle.redo_core.specs.Reading.{journal_of, overlay, Reading}
 use Rattle.redo_core.specs.Steps.{HasTargets}
-use Rattle.redo_core.specs.Faults.{zeroed, IsRuleFault, IsBusy, IsIdle, IsNameFault, IsLabelsFault, IsWhoFault, IsOpenFault}
+use Rattle.redo_core.specs.Faults.{zeroed, IsRuleFault, IsBusy, IsIdle, IsNameFault, IsLabelsFault, IsWhoFault, IsOpenFault, LabelsAre, MayOpen}
 use Rattle.redo_core.proofs.Heads.{labelled}
 use Rattle.redo_core.proofs.Redoing.{overlay_has}
 
@@ -38,6 +38,21 @@ who_at shape other state was journal list registered names f one_shape one_state
     let second = subst (λ (x : State). IsWhoFault shape (labelled shape x journal list) registered names f) one_state first in
     let third = subst (λ (j : ℕ). IsWhoFault shape (labelled shape state j list) registered names f) (sym unit) second in
     subst (λ (v : Image). IsWhoFault shape v registered names f) (λ i u b. sym (overlay_has shape.block_size (journal_of shape) state.contents list has u b) i) third
+
+-- the labels, of the same pool, with the open body in place
+pub labels_at : (shape other : Shape) (state was : State) (journal : ℕ) (list : List Target) (names : List Serial) → other ≡ shape → was ≡ state → journal_of shape ≡ journal
+    → HasTargets (journal_of shape) state.contents list → LabelsAre other (labelled other was journal list) names journal
+    → LabelsAre shape (overlay shape.block_size (journal_of shape) state.contents) names (journal_of shape)
+labels_at shape other state was journal list names one_shape one_state unit has h =
+    let first = subst (λ (x : Shape). LabelsAre x (labelled x was journal list) names journal) one_shape h in
+    let second = subst (λ (x : State). LabelsAre shape (labelled shape x journal list) names journal) one_state first in
+    let third = subst (λ (j : ℕ). LabelsAre shape (labelled shape state j list) names j) (sym unit) second in
+    subst (λ (v : Image). LabelsAre shape v names (journal_of shape)) (λ i u b. sym (overlay_has shape.block_size (journal_of shape) state.contents list has u b) i) third
+
+-- the same, by the blocks
+pub may_at : (shape other : Shape) (image was : Image) (names : List Serial) → other ≡ shape → was ≡ image → MayOpen other was names → MayOpen shape image names
+may_at shape other image was names one_shape one_image h =
+    subst (λ (x : Image). MayOpen shape x names) one_image (subst (λ (x : Shape). MayOpen x was names) one_shape h)
 
 -- a slide or a fill, by the number of volumes
 pub busy_at : (shape : Shape) (journal : ℕ) (reading : Reading) → journal + 1 ≡ shape.units → (reading.control ≢ Idle) ⊎ ((u : ℕ) × (u < journal) × (reading.fills u ≡ true)) → IsBusy shape reading

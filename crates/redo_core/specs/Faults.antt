@@ -128,6 +128,12 @@ pub record IsIdle (shape : Shape) (image : Image) (reading : Reading) : Type 0 w
   pub obeys : Obeys shape (zeroed shape image) reading
   pub idle : ¬ IsBusy shape reading
 
+-- Nothing stands against an opening: the rules hold, nothing is under way, and each label that reads has its name, with an open body in place.
+pub record MayOpen (shape : Shape) (image : Image) (names : List Serial) : Type 0 where
+  pub reading : Reading
+  pub idle : IsIdle shape image reading
+  pub labels : LabelsAre shape (overlay shape.block_size (journal_of shape) image) names (journal_of shape)
+
 -- Why an opening refuses: the rules, the length, the names, and then the labels, with an open body in place.
 abbrev pub IsOpenFault : Shape → Image → List Serial → JournalFault → Type 0
 IsOpenFault shape image names (BadJournal why) = IsRuleFault shape (zeroed shape image) (BadJournal why)
@@ -143,6 +149,11 @@ pub record IsInUse (shape : Shape) (image : Image) : Type 0 where
   pub registered : Begins registration_magic (image (journal_of shape) 0)
   pub «open» : (is_open (image (journal_of shape) 1) ≡ true) ⊎ ((is_open (image (journal_of shape) 2) ≡ true)
       ⊎ ((u : ℕ) × (u < 64) × (is_filling (image (journal_of shape) 2) u ≡ true)))
+
+-- Nothing stands against making a journal: none is in use, and each label that reads has its name.
+pub record MayFormat (shape : Shape) (image : Image) (names : List Serial) : Type 0 where
+  pub unused : ¬ IsInUse shape (zeroed shape image)
+  pub labels : LabelsAre shape image names (journal_of shape)
 
 -- Why a format refuses: the head, a journal in use, the labels, and then the length.
 abbrev pub IsFormatFault : Shape → Image → List Serial → ℕ → JournalFault → Type 0

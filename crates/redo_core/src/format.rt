@@ -5,7 +5,7 @@ ghost use Rattle.dasd_pool.specs.Count.{Rose, HasCause};
 ghost use Rattle.dasd_pool.specs.Disk.{IsSynced, LeavesOnly, Runs, none};
 ghost use Rattle.vol_label.specs.declared.serial.Serial.{Serial};
 ghost use Rattle.redo_core.specs.Opening.{AreNames, IsFormatted, SparesVolumes};
-ghost use Rattle.redo_core.specs.Faults.{zeroed, IsInUse, IsShort, IsFormatFault};
+ghost use Rattle.redo_core.specs.Faults.{zeroed, IsInUse, IsShort, IsFormatFault, MayFormat};
 ghost use Rattle.redo_core.specs.Reading.{HasHead};
 ghost use Rattle.redo_core.specs.Steps.{IsJournal, of_journal};
 ghost use Rattle.byteorder.specs.Endian.{big_bytes};
@@ -175,6 +175,7 @@ fn may_format<P: Pool>(
     ensures shape { P.shape pool.new ≡ P.shape pool.old }
     ensures head { OnOk result (HasHead (P.shape pool.old)) }
     ensures long { OnOk result (4 + room ≤ (P.shape pool.old).blocks journal) }
+    ensures allowed { P.tells → OnOk result (MayFormat (P.shape pool.old) (P.disk pool.old).state.contents names.now) }
     ensures refused { P.tells → IfErr result (IsFormatFault (P.shape pool.old) (P.disk pool.old).state.contents names.now room) }
     ensures same { P.tells → (P.disk pool.new).state ≡ (P.disk pool.old).state }
     ensures runs { P.tells → Runs none (P.disk pool.old) (P.disk pool.new) }
@@ -224,6 +225,7 @@ pub fn format_on<P: Pool>(
     requires most { room ≤ 8191 }
     ensures shape { P.shape pool.new ≡ P.shape pool.old }
     ensures formatted { P.tells → OnOk result (IsFormatted (P.shape pool.old) (P.disk pool.old).state names.now room (P.disk pool.new).state) }
+    ensures allowed { P.tells → OnOk result (MayFormat (P.shape pool.old) (P.disk pool.old).state.contents names.now) }
     ensures refused { P.tells → IfErr result (IsFormatFault (P.shape pool.old) (P.disk pool.old).state.contents names.now room) }
     ensures unwritten { P.tells → IfErr result (λ fault. (fault ≡ JournalFault.Pool → ⊥) → (P.disk pool.new).state ≡ (P.disk pool.old).state) }
     ensures any_moment { P.tells → LeavesOnly (P.disk pool.old) (P.disk pool.new) (SparesVolumes (P.shape pool.old) (P.disk pool.old).state) }

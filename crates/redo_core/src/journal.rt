@@ -6,7 +6,7 @@ ghost use Rattle.dasd_pool.specs.Disk.{Image, LeavesOnly, Runs, IsSynced, none, 
 ghost use Rattle.redo_core.specs.Reading.{journal_of, fills_of};
 ghost use Rattle.redo_core.specs.Phases.{targets, of_commit, IsAtRest, IsEntry, OldOrNew, IsCommitted};
 ghost use Rattle.redo_core.specs.Opening.{AreNames, IsFormatted, IsJournalSynced, IsOpened, ReadsSame, SparesVolumes};
-ghost use Rattle.redo_core.specs.Faults.{IsFormatFault, IsOpenFault};
+ghost use Rattle.redo_core.specs.Faults.{IsFormatFault, IsOpenFault, MayFormat, MayOpen};
 ghost use Rattle.redo_core.specs.Stops.{pool_after, pool_of, IsStatusOf};
 
 use crate::commit::apply;
@@ -44,7 +44,7 @@ impl<P: Pool> Model for Journal<P> {
     ghost use Rattle.redo_core.specs.Phases.{IsAtRest};
     ghost use Rattle.redo_core.specs.Steps.{IsJournal};
     ghost use Rattle.redo_core.specs.Opening.{AreNames, IsFormatted, IsJournalSynced, IsOpened, ReadsSame, SparesVolumes};
-    ghost use Rattle.redo_core.specs.Faults.{IsFormatFault, IsOpenFault};
+    ghost use Rattle.redo_core.specs.Faults.{IsFormatFault, IsOpenFault, MayFormat, MayOpen};
     ghost use Rattle.redo_core.specs.Stops.{JournalView};
 
     ghost Value = { JournalView P };
@@ -75,7 +75,8 @@ impl<P: Pool> Journal<P> {
         ensures shape { P.shape (pool_of result) ≡ P.shape pool }
         ensures formatted { P.tells → IfOk result (λ new. IsFormatted (P.shape pool) (P.disk pool).state names.now room (P.disk new).state) }
 
-        // A refusal names the first cause, and nothing was written.
+        // It is made only where nothing stands against it. A refusal names the first cause, and nothing was written.
+        ensures allowed { P.tells → OnOk result (MayFormat (P.shape pool) (P.disk pool).state.contents names.now) }
         ensures refused { P.tells → IfErr result (λ stop. IsFormatFault (P.shape pool) (P.disk pool).state.contents names.now room stop.cause) }
         ensures unwritten { P.tells → IfErr result (λ stop. (stop.cause ≡ JournalFault.Pool → ⊥) → (P.disk stop.pool).state ≡ (P.disk pool).state) }
 
@@ -109,7 +110,8 @@ impl<P: Pool> Journal<P> {
         ensures opened { P.tells → IfOk result (λ journal.
             IsOpened (P.shape pool) (P.disk pool).state names.now journal.room journal.control journal.fills (P.disk journal.pool).state) }
 
-        // A refusal names the first cause, and nothing was written.
+        // It opens only where nothing stands against it. A refusal names the first cause, and nothing was written.
+        ensures allowed { P.tells → OnOk result (MayOpen (P.shape pool) (P.disk pool).state.contents names.now) }
         ensures refused { P.tells → IfErr result (λ stop. IsOpenFault (P.shape pool) (P.disk pool).state.contents names.now stop.cause) }
         ensures unwritten { P.tells → IfErr result (λ stop. (stop.cause ≡ JournalFault.Pool → ⊥)
             → (u b : ℕ) → (P.disk stop.pool).state.contents u b ≡ (P.disk pool).state.contents u b) }

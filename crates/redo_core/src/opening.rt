@@ -11,7 +11,7 @@ ghost use Rattle.redo_core.specs.Reading.{journal_of, placed, body_for, fills_of
 ghost use Rattle.redo_core.specs.Phases.{IsAtRest};
 ghost use Rattle.redo_core.specs.Opening.{IsJournalSynced, IsOpened, ReadsSame};
 ghost use Rattle.redo_core.specs.Steps.{IsJournal, HasTargets, shown};
-ghost use Rattle.redo_core.specs.Faults.{zeroed, Fails, IsRuleFault, IsNameFault, IsIdle, IsWhoFault, IsOpenFault};
+ghost use Rattle.redo_core.specs.Faults.{zeroed, Fails, IsRuleFault, IsNameFault, IsIdle, IsWhoFault, IsOpenFault, LabelsAre, MayOpen};
 
 use crate::control::Control;
 use crate::fault::{JournalFault, JournalRule, broken};
@@ -310,6 +310,8 @@ fn check_who<P: Pool>(
     requires few { journal ≤ 64 }
     ensures shape { P.shape pool.new ≡ P.shape pool.old }
     ensures names { OnOk result (found.now.names.items ≡ names.now) }
+    ensures labels { P.tells → OnOk result
+        (LabelsAre (P.shape pool.old) (placed (P.disk pool.old).state.contents (body_for (P.shape pool.old).block_size journal (P.disk pool.old).state.contents found.now.targets.items)) names.now journal) }
     ensures refused { P.tells → IfErr result
         (IsWhoFault (P.shape pool.old) (placed (P.disk pool.old).state.contents (body_for (P.shape pool.old).block_size journal (P.disk pool.old).state.contents found.now.targets.items)) found.now.names.items names.now) }
     ensures same { P.tells → (P.disk pool.new).state ≡ (P.disk pool.old).state }
@@ -347,6 +349,7 @@ fn look<P: Pool>(
     ensures targets { P.tells → IfOk result (λ f. HasTargets (journal_of (P.shape pool.old)) (P.disk pool.old).state.contents f.targets.items) }
     ensures reads { P.tells → IfOk result (λ f. Reads (P.shape pool.old) (P.disk pool.old).state.contents
         (record { volumes = overlay (P.shape pool.old).block_size (journal_of (P.shape pool.old)) (P.disk pool.old).state.contents; names = names.now; room = f.room; control = f.control; fills = fills_of f.fills })) }
+    ensures allowed { P.tells → OnOk result (MayOpen (P.shape pool.old) (P.disk pool.old).state.contents names.now) }
     ensures refused { P.tells → IfErr result (IsOpenFault (P.shape pool.old) (P.disk pool.old).state.contents names.now) }
     ensures runs { P.tells → Runs none (P.disk pool.old) (P.disk pool.new) }
     ensures faults { P.faults pool.old ≤ P.faults pool.new }
@@ -379,6 +382,7 @@ pub fn open_on<P: Pool>(
     ensures journal { IfOk result (λ f. IsJournal (P.shape pool.old) journal f.room) }
     ensures rest { P.tells → IfOk result (λ f. IsAtRest (P.shape pool.old) (P.disk pool.new).state f.room f.control f.fills) }
     ensures opened { P.tells → IfOk result (λ f. IsOpened (P.shape pool.old) (P.disk pool.old).state names.now f.room f.control f.fills (P.disk pool.new).state) }
+    ensures allowed { P.tells → OnOk result (MayOpen (P.shape pool.old) (P.disk pool.old).state.contents names.now) }
     ensures refused { P.tells → IfErr result (IsOpenFault (P.shape pool.old) (P.disk pool.old).state.contents names.now) }
     ensures unwritten { P.tells → IfErr result (λ fault. (fault ≡ JournalFault.Pool → ⊥) → (u b : ℕ) → (P.disk pool.new).state.contents u b ≡ (P.disk pool.old).state.contents u b) }
     ensures any_moment { P.tells → IsJournalSynced (P.shape pool.old) (P.disk pool.old).state

@@ -5,7 +5,7 @@ use Rattle.dasd_pool.specs.Moments.{runs_then}
 use Rattle.redo_core.specs.Format.{wide}
 use Rattle.redo_core.specs.Reading.{journal_of}
 use Rattle.redo_core.specs.Steps.{of_journal}
-use Rattle.redo_core.proofs.Formatted.{is_formatted}
+use Rattle.redo_core.proofs.Formatted.{is_formatted, volumes_spared}
 use Rattle.redo_core.proofs.format.format_on.Goals as goal
 
 pub returns-in-Ok-write_journal-clause-formatted : goal.returns-in-Ok-write_journal-clause-formatted
@@ -19,3 +19,21 @@ returns-in-Ok-write_journal-clause-formatted g c = λ told.
     let e = c.in-Ok-write_journal.ensures in
     is_formatted shape c.args.journal c.args.names.now c.args.room (replicate (wide - (16 + 6 * length c.args.names.now)) 0) old new unit c.in-Ok.ensures.head c.requires.names c.requires.least c.requires.most c.in-Ok.ensures.long
     (e.registration told) (e.gate told) (e.control told) (e.synced told) run
+
+pub returns-in-Ok-write_journal-clause-any_moment : goal.returns-in-Ok-write_journal-clause-any_moment
+returns-in-Ok-write_journal-clause-any_moment g c = λ told.
+    let shape = g.P.Pool.shape c.args.pool.now in
+    let all = of_journal c.args.journal in
+    let old = g.P.Pool.disk c.args.pool.now in
+    let new = g.P.Pool.disk c.write_journal.new.pool in
+    volumes_spared shape c.args.journal old new (omega (arith, c.requires.last))
+    (runs_then all none all old (g.P.Pool.disk c.may_format.new.pool) new (λ u b apart. refl) (λ u b apart. apart) (c.may_format.ensures.runs told) (c.write_journal.ensures.runs told))
+
+pub returns-in-Err-write_journal-clause-any_moment : goal.returns-in-Err-write_journal-clause-any_moment
+returns-in-Err-write_journal-clause-any_moment g c = λ told.
+    let shape = g.P.Pool.shape c.args.pool.now in
+    let all = of_journal c.args.journal in
+    let old = g.P.Pool.disk c.args.pool.now in
+    let new = g.P.Pool.disk c.write_journal.new.pool in
+    volumes_spared shape c.args.journal old new (omega (arith, c.requires.last))
+    (runs_then all none all old (g.P.Pool.disk c.may_format.new.pool) new (λ u b apart. refl) (λ u b apart. apart) (c.may_format.ensures.runs told) (c.write_journal.ensures.runs told))

@@ -4,8 +4,8 @@ use Rattle.dasd_pool.specs.Disk.{none}
 use Rattle.dasd_pool.specs.Moments.{runs_then}
 use Rattle.redo_core.specs.declared.fault.JournalFault.{JournalFault}
 use Rattle.redo_core.specs.Reading.{journal_of}
-use Rattle.redo_core.specs.Faults.{IsShort, IsFormatFault}
-use Rattle.redo_core.proofs.Faulting.{err_weaker}
+use Rattle.redo_core.specs.Faults.{IsShort, IsFormatFault, MayFormat}
+use Rattle.redo_core.proofs.Faulting.{err_weaker, ok_always}
 use Rattle.redo_core.proofs.FormatFaults.{IsFree, labels_format, short_format, labels_fault_at, labels_are_at, short_at}
 use Rattle.redo_core.proofs.format.may_format.Goals as goal
 
@@ -41,3 +41,13 @@ returns-in-Ok-clause-runs g c = λ told.
 pub returns-in-Err-clause-runs : goal.returns-in-Err-clause-runs
 returns-in-Err-clause-runs g c = λ told.
     runs_then none none none (g.P.Pool.disk c.args.pool.now) (g.P.Pool.disk c.is_in_use.new.pool) (g.P.Pool.disk c.check_labels.new.pool) (λ u b apart. refl) (λ u b apart. refl) (c.is_in_use.ensures.runs told) (c.check_labels.ensures.runs told)
+
+pub returns-in-Ok-clause-allowed : goal.returns-in-Ok-clause-allowed
+returns-in-Ok-clause-allowed g c = λ told.
+    let shape = g.P.Pool.shape c.args.pool.now in
+    let state = (g.P.Pool.disk c.args.pool.now).state in
+    let unit : journal_of shape ≡ c.args.journal = omega (arith, c.requires.last) in
+    ok_always (MayFormat shape state.contents c.args.names.now) c.check_length.result (record {
+      unused = λ used. false≢true (sym c.if-branch.false ∙ (c.in_ok-is_in_use.ensures.used told).1 used);
+      labels = labels_are_at shape (g.P.Pool.shape c.is_in_use.new.pool) state (g.P.Pool.disk c.is_in_use.new.pool).state c.args.names.now c.args.journal c.in_ok-is_in_use.ensures.shape (c.in_ok-is_in_use.ensures.same told) unit (c.in-Ok.ensures.labels told);
+    })

@@ -1,7 +1,7 @@
 use Rattle.std.proofs.Common.{List, sym, ◌∙◌, subst}
 use Rattle.vol_label.specs.declared.serial.Serial.{Serial}
 use Rattle.redo_core.specs.declared.target.Target.{Target}
-use Rattle.redo_core.specs.Faults.{IsNameFault, IsLabelsFault}
+use Rattle.redo_core.specs.Faults.{IsNameFault, IsLabelsFault, LabelsAre}
 use Rattle.redo_core.proofs.Heads.{labelled}
 use Rattle.redo_core.proofs.Refusals.{who_names, who_labels, names_cause}
 use Rattle.redo_core.proofs.opening.check_who.Goals as goal
@@ -23,3 +23,9 @@ returns-in-Err-check_labels-clause-refused g c = λ told.
 
 pub returns-in-Ok-check_labels-clause-names : goal.returns-in-Ok-check_labels-clause-names
 returns-in-Ok-check_labels-clause-names g c = sym c.deref.ensures.value ∙ c.in-Ok.ensures.same
+
+pub returns-in-Ok-check_labels-clause-labels : goal.returns-in-Ok-check_labels-clause-labels
+returns-in-Ok-check_labels-clause-labels g c = λ told.
+    let shape = g.P.Pool.shape c.args.pool.now in
+    let state = (g.P.Pool.disk c.args.pool.now).state in
+    subst (λ (l : List Target). LabelsAre shape (labelled shape state c.args.journal l) c.args.names.now c.args.journal) c.deref-in-Ok.ensures.value (c.in-Ok-check_labels.ensures.labels told)

@@ -6,7 +6,7 @@ use Rattle.redo_core.specs.Format.{wide}
 use Rattle.redo_core.specs.Reading.{journal_of, overlay, fills_of, Reading, Reads}
 use Rattle.redo_core.specs.Steps.{HasTargets}
 use Rattle.redo_core.proofs.Openings.{targets_there, idle_reads}
-use Rattle.redo_core.proofs.Refusals.{open_at, who_open, who_at}
+use Rattle.redo_core.proofs.Refusals.{open_at, who_open, who_at, labels_at, may_at}
 use Rattle.redo_core.proofs.opening.look.Goals as goal
 
 pub returns-in-Err-clause-refused : goal.returns-in-Err-clause-refused
@@ -108,3 +108,22 @@ check_who-requires-clause-width g c =
     let unit : journal_of s1 ≡ c.args.journal = omega (arith, c.requires.last, ap (λ (s : Shape). s.units) c.sync.ensures.shape) in
     let wide1 : s1.block_size c.args.journal ≡ wide = subst (λ (j : ℕ). s1.block_size j ≡ wide) unit c.in-Ok.ensures.head.size in
     ap (λ (s : Shape). s.block_size c.args.journal) c.in-Ok.ensures.shape ∙ wide1
+
+pub returns-in-Ok-check_who-clause-allowed : goal.returns-in-Ok-check_who-clause-allowed
+returns-in-Ok-check_who-clause-allowed g c = λ told.
+    let shape = g.P.Pool.shape c.args.pool.now in
+    let contents = (g.P.Pool.disk c.args.pool.now).state.contents in
+    let s1 = g.P.Pool.shape c.sync.new.self in
+    let d1 = (g.P.Pool.disk c.sync.new.self).state in
+    let same : d1.contents ≡ contents = λ i u b. (c.sync.ensures.runs told).touches.contents u b refl i in
+    let unit : journal_of s1 ≡ c.args.journal = omega (arith, c.requires.last, ap (λ (s : Shape). s.units) c.sync.ensures.shape) in
+    let f = c.in-Ok.found in
+    let e = c.in-Ok.ensures in
+    let list = f.targets.items in
+    let long : 4 + f.room ≤ s1.blocks (journal_of s1) = subst (λ (j : ℕ). 4 + f.room ≤ s1.blocks j) (sym unit) e.long in
+    may_at shape s1 contents d1.contents c.args.names.now c.sync.ensures.shape same (record {
+      reading = record { volumes = d1.contents; names = f.names.items; room = f.room; control = f.control; fills = fills_of f.fills };
+      idle = e.idle told;
+      labels = labels_at s1 (g.P.Pool.shape c.find_idle.new.pool) d1 (g.P.Pool.disk c.find_idle.new.pool).state c.args.journal list c.args.names.now e.shape (e.same told) unit
+          (targets_there s1 d1.contents f.room list long e.few (e.targets told)) (c.in-Ok-check_who.ensures.labels told);
+    })
