@@ -22,7 +22,9 @@ use Rattle.vol_label.specs.Serial.{Spells}
 use Rattle.vol_label.proofs.OneLabel.{one_spelling}
 use Rattle.volume_model.specs.declared.format.Format.TheVariants.{F4}
 use Rattle.volume_model.specs.Dscbs.{format_of, is_f4, is_f5, number_at, extent_at, ExtentField, pointer_in}
-use Rattle.volume_model.specs.Directory.{Placed, same_place}
+use Rattle.std.specs.List.Sorted.{IsPermutation}
+use Rattle.std.proofs.lemmas.List.Sorted.{IsPermutation-refl}
+use Rattle.volume_model.specs.Directory.{Placed, DirectoryRow, same_place}
 use Rattle.volume_model.specs.Space.{has_track, track_at, is_run, run_of, is_free, entries_of}
 use Rattle.volume_model.specs.Check.{Vtoc, breaches_of, usable_in, records_of}
 use Rattle.volume_model.specs.Sound.{dscb_of, IsVtocTrack, IsTrackReading, IsVtoc, Volume}
@@ -274,7 +276,10 @@ volume_read name text head blocks slots label track four five usable free spelle
               let P : ℕ → Type 0 = λ n. AreMaximalRuns (λ t. IsTrue (is_free n (site_run site) [] t)) free in
               let Q : List Run → Type 0 = λ runs. AreMaximalRuns (λ t. IsTrue (is_free (usable_in vtoc) (site_run site) runs t)) free in
               subst Q (sym (no_extent_tracks site dscbs one.one bare)) (subst P usable-is space.free_are);
-          rows_are = sym (no_rows site dscbs one.one bare);
+          rows_are = record {
+            same = let P : List DirectoryRow → Type 0 = λ found. IsPermutation found [] in subst P (sym (no_rows site dscbs one.one bare)) (IsPermutation-refl []);
+            order = λ k d _ less. absurd (omega (arith, less));
+          };
         };
         device = refl;
         serial = let P : List ℕ → Type 0 = λ t. Spells name t in subst P (sym front.serial) spelled;

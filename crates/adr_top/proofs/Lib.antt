@@ -6,9 +6,12 @@ pub mod Overlaps
 pub mod Spaces
 pub mod BareTracks
 pub mod Signs
+pub mod SixWords
 pub mod Asked
 pub mod Placed
 pub mod NoBreach
 pub mod BareUnit
 pub mod Loads
 pub mod Ends
+pub mod Lines
+pub mod Made

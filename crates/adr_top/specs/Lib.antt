@@ -7,3 +7,4 @@ pub mod Loaded
 pub mod Causes
 pub mod Stops
 pub mod Listed
+pub mod Journals

@@ -13,13 +13,11 @@ pub record ListsVolume (name head : List ℕ) (blocks : ℕ) (slots : Slots) (te
   pub stands : IsBareUnit name head blocks slots volume
   pub text_is : text ≡ printed_run volume
 
--- words and text are of the form, and what was taken besides is what a run prints that lists the unit's volume
-pub record Prints (words : List (List ℕ)) (sysin : Option (List ℕ)) (tells : Type 0) (head : List ℕ) (blocks : ℕ) (slots : Slots) (before after : Option (List ℕ)) : Type 0 where
+-- words and text are of the form, and the text to write is what a run prints that lists the unit's volume
+pub record Prints (words : List (List ℕ)) (sysin : Option (List ℕ)) (tells : Type 0) (head : List ℕ) (blocks : ℕ) (slots : Slots) (text : List ℕ) : Type 0 where
   pub named : Named
   pub asked : HasTextForm words sysin named
-  pub text : List ℕ
   pub lists : tells → ListsVolume named.name head blocks slots text
-  pub taken : Appends before after text
 
 -- a line was taken, all of it where the count of faults didn't rise
 pub record Tells (before after : Option (List ℕ)) (faults_before faults_after : ℕ) (line : List ℕ) : Type 0 where

@@ -2,6 +2,8 @@
 #![tactic(auto)]
 
 mod bare;
+mod format;
+mod line;
 mod lists;
 mod load;
 mod print;
@@ -20,5 +22,7 @@ pub use words::{DdPaths, Run, UnitPaths, WordsFault, read_words};
 mod base;
 #[cfg(test)]
 mod base_tests;
+#[cfg(test)]
+mod format_tests;
 #[cfg(test)]
 mod tests;

@@ -2,23 +2,28 @@
 
 ghost use Rattle.std.specs.Prelude.{◌≡◌, ◌≢◌, ◌↔◌, ◌<◌, ◌≤◌, ℕ, List, [], None, length, take, IsTrue, MatchOption, IfSome, IfOk, OnOk, IfErr, string_bytes};
 ghost use Rattle.dasd_pool.specs.Count.{Rose};
+ghost use Rattle.dasd_pool.specs.Disk.{LeavesOnly};
+ghost use Rattle.dasd_pool.specs.Stream.{Appends, AppendsSome};
+ghost use Rattle.redo_core.specs.Opening.{SparesVolumes};
 ghost use Rattle.vol_label.specs.Serial.{IsSerialName, Spells};
 ghost use Rattle.adr_top.specs.Causes.{IsOutOfWords, HasStatusCause, SaysForm, last_line};
 ghost use Rattle.adr_top.specs.Form.{IsPrintText, HasTextForm, HasSomeTextForm, IsOutsideText, IsOutsideForm};
 ghost use Rattle.adr_top.specs.Listed.{ListsVolume, Prints, Tells, TakesFew};
 ghost use Rattle.adr_top.specs.Loaded.{IsVolumeWith};
 ghost use Rattle.adr_top.specs.Stops.{status_of, IsTextStop, IsStop};
-ghost use Rattle.adr_top.specs.Words.{Named};
-ghost use Rattle.adr_top.specs.Parts.{named_by};
+ghost use Rattle.adr_top.specs.Journals.{Does, RefusesJournal};
+ghost use Rattle.adr_top.specs.Words.{Named, FormatNamed, AreFormatWords};
+ghost use Rattle.adr_top.specs.Parts.{named_by, Lists};
 
+use crate::format::make_journal;
 use crate::lists::{Day, InDd, OutDd};
 use crate::load::load;
 use crate::print::{SpaceNumbers, run_text};
 use crate::space::Space;
 use crate::steps::Step;
-use crate::stop::Stop;
+use crate::stop::{Stop, tell};
 use crate::stream::{read_front, write_all};
-use crate::words::{UnitWords, unit_words};
+use crate::words::{UnitWords, format_words, unit_words};
 use ckd_image::Word;
 use ckd_image::text::{after, same};
 use dasd_pool::{Pool, Sink, Source};
@@ -71,7 +76,7 @@ fn read_text<S: Source>(sysin: &mut S, buffer: &mut [u8; 129]) -> Result<Option<
 /// What the words name, where words and text are of the form.
 fn asked<'a, S: Source>(words: &'a [Word], sysin: &mut S) -> Result<UnitWords<'a>, Stop>
     ensures asked { IfOk result (λ parts. HasTextForm words.now (S.left sysin.old) (named_by parts)) }
-    ensures spelled { IfOk result (λ parts. Spells parts.name.now parts.serial.text) }
+    ensures spelled { IfOk result (λ parts. Spells parts.files.name.now parts.files.serial.text) }
     ensures fault { IfErr result (IsTextStop (S.faults sysin.old) (S.faults sysin.new) (IsOutsideText words.now (S.left sysin.old))) }
     ensures few { IfErr result (λ stop. stop ≡ Stop.Form → TakesFew 129 (S.left sysin.old) (S.left sysin.new)) }
     ensures few_asked { OnOk result (TakesFew 129 (S.left sysin.old) (S.left sysin.new)) }
@@ -84,7 +89,7 @@ fn asked<'a, S: Source>(words: &'a [Word], sysin: &mut S) -> Result<UnitWords<'a
     let Some(count) = found else {
         return Err(Stop::Form);
     };
-    if !is_print(&buffer[..count], parts.name) {
+    if !is_print(&buffer[..count], parts.files.name) {
         return Err(Stop::Form);
     }
     Ok(parts)
@@ -125,21 +130,11 @@ fn lines<S: Source, P: Pool>(
     ensures same { P.tells → (P.disk pool.new).state ≡ (P.disk pool.old).state }
 {
     let parts = asked(words, sysin)?;
-    let Some(space) = load(alloc, pool, parts.serial)? else {
+    let Some(space) = load(alloc, pool, parts.files.serial)? else {
         return Err(Stop::Form);
     };
-    let text = volume_text(alloc, parts.name, &space)?;
+    let text = volume_text(alloc, parts.files.name, &space)?;
     Ok(text)
-}
-
-/// Tries to write the last line of a run that ended, and gives its status. A fault of that write changes no status.
-fn tell<O: Sink>(out: &mut O, stop: Stop) -> u8
-    ensures status { result ≡ status_of stop }
-    ensures told { Tells (O.taken out.old) (O.taken out.new) (O.faults out.old) (O.faults out.new) (last_line result) }
-    ensures later { O.faults out.old ≤ O.faults out.new }
-{
-    let _ = write_all(out, stop.line());
-    stop.status()
 }
 
 /// Runs the words, which are there, over a pool of one unit and a journal.
@@ -151,14 +146,15 @@ fn run<S: Source, O: Sink, P: Pool>(
     pool: &mut P,
 ) -> u8
     requires { 0 < (P.shape pool.old).units }
-    ensures listed { result ≡ 0 → Prints words.now (S.left sysin.old) P.tells ((P.shape pool.old).head 0) ((P.shape pool.old).blocks 0)
-        ((P.disk pool.old).state.contents 0) (O.taken out.old) (O.taken out.new) }
-    ensures form { SaysForm result words.now (S.left sysin.old) P.tells ((P.shape pool.old).head 0) ((P.shape pool.old).blocks 0) ((P.disk pool.old).state.contents 0) }
+    ensures done { result ≡ 0 → Lists words.now (S.left sysin.old) P.tells (P.shape pool.old) (P.disk pool.old).state (Appends (O.taken out.old) (O.taken out.new)) }
+    ensures cut { result ≡ 28 → Lists words.now (S.left sysin.old) P.tells (P.shape pool.old) (P.disk pool.old).state (AppendsSome (O.taken out.old) (O.taken out.new)) }
+    ensures asked { result ≡ 16 → HasSomeTextForm words.now (S.left sysin.old) }
+    ensures outside { result ≡ 48 → IsOutsideForm words.now (S.left sysin.old) P.tells ((P.shape pool.old).head 0) ((P.shape pool.old).blocks 0) ((P.disk pool.old).state.contents 0) }
     ensures told { result ≢ 0 → result ≢ 28 → Tells (O.taken out.old) (O.taken out.new) (O.faults out.old) (O.faults out.new) (last_line result) }
     ensures cause { HasStatusCause result (S.faults sysin.old) (S.faults sysin.new) (P.faults pool.old) (P.faults pool.new)
         (O.faults out.old) (O.faults out.new) }
     ensures few { result ≢ 24 → TakesFew 129 (S.left sysin.old) (S.left sysin.new) }
-    ensures not_words { result ≢ 36 }
+    ensures status { (result ≢ 20) × (result ≢ 36) }
     ensures shape { P.shape pool.new ≡ P.shape pool.old }
     ensures same { P.tells → (P.disk pool.new).state ≡ (P.disk pool.old).state }
 {
@@ -216,8 +212,8 @@ fn without_steps<P>(
 
 /// Runs the words of `adrdssu`: reads the text from `sysin`, runs it over the pool, and writes the lines to `out`.
 ///
-/// Built is one listing of a 3390 volume whose VTOC is one track without data sets; for other words, texts and volumes the
-/// status is 48. `held` isn't read, and neither is the pool's last unit, the journal.
+/// Built are one listing of a 3390 volume whose VTOC is one track without data sets, and the making of a journal; for other
+/// words, texts and volumes the status is 48. `held` isn't read.
 pub fn batch<S: Source, H: Source, O: Sink, P: Pool>(
     alloc: Global,
     words: &[Word],
@@ -236,22 +232,33 @@ pub fn batch<S: Source, H: Source, O: Sink, P: Pool>(
     ensures cause { HasStatusCause result.status (S.faults sysin.old) (S.faults sysin.new) (P.faults pool) (P.faults result.pool)
         (O.faults out.old) (O.faults out.new) }
 
-    // Where it answers 0, words and text are of the form, the image on unit 0 is a volume of the form, and `out` took its lines.
-    ensures listed { result.status ≡ 0 → Prints words.now (S.left sysin.old) P.tells ((P.shape pool).head 0) ((P.shape pool).blocks 0)
-        ((P.disk pool).state.contents 0) (O.taken out.old) (O.taken out.new) }
+    // Where it answers 0, `out` took the lines of the volume on unit 0, or the line of the journal that was made; with 28 a front of them.
+    ensures done { result.status ≡ 0 → Does words.now (S.left sysin.old) P.tells (P.shape pool) (P.disk pool).state (P.disk result.pool).state
+        (Appends (O.taken out.old) (O.taken out.new)) }
+    ensures cut { result.status ≡ 28 → Does words.now (S.left sysin.old) P.tells (P.shape pool) (P.disk pool).state (P.disk result.pool).state
+        (AppendsSome (O.taken out.old) (O.taken out.new)) }
 
-    // 48 only where words, text or unit aren't of the form; the pool is called only where words and text are.
+    // 20 only where a journal is asked and refused, by the first cause.
+    ensures refused_journal { result.status ≡ 20 → RefusesJournal words.now P.tells (P.shape pool) (P.disk pool).state
+        (O.taken out.old) (O.taken out.new) (O.faults out.old) (O.faults out.new) }
+
+    // 48 only where words, text or unit are of no form; the pool is called only where words and text are of one.
     ensures form { SaysForm result.status words.now (S.left sysin.old) P.tells ((P.shape pool).head 0) ((P.shape pool).blocks 0) ((P.disk pool).state.contents 0) }
 
     // Where it ends otherwise, `out` took the last line alone, as far as it could.
-    ensures told { result.status ≢ 0 → result.status ≢ 28 → Tells (O.taken out.old) (O.taken out.new) (O.faults out.old) (O.faults out.new) (last_line result.status) }
+    ensures told { result.status ≢ 0 → result.status ≢ 20 → result.status ≢ 28
+        → Tells (O.taken out.old) (O.taken out.new) (O.faults out.old) (O.faults out.new) (last_line result.status) }
 
-    // Of the text at most 129 bytes are read.
+    // Of the text at most 129 bytes are read, and none where a journal is made.
     ensures few { result.status ≢ 24 → TakesFew 129 (S.left sysin.old) (S.left sysin.new) }
+    ensures unread { (named : FormatNamed) → AreFormatWords words.now named → (S.left sysin.new ≡ S.left sysin.old) × (S.faults sysin.new ≡ S.faults sysin.old) }
 
-    // No volume changes.
+    // Only the making of a journal writes, and only blocks of the journal.
     ensures shape { P.shape result.pool ≡ P.shape pool }
-    ensures same { P.tells → (P.disk result.pool).state ≡ (P.disk pool).state }
+    ensures same { P.tells → ((named : FormatNamed) → ¬ AreFormatWords words.now named) → (P.disk result.pool).state ≡ (P.disk pool).state }
+    ensures unwritten { P.tells → result.status ≢ 0 → result.status ≢ 16 → result.status ≢ 28 → (P.disk result.pool).state ≡ (P.disk pool).state }
+    ensures any_moment { P.tells → (named : FormatNamed) → AreFormatWords words.now named
+        → LeavesOnly (P.disk pool) (P.disk result.pool) (SparesVolumes (P.shape pool) (P.disk pool).state) }
     ensures steps { result.steps.items ≡ [] }
     ensures pending { result.pending ≡ None }
     ensures outs { result.outs.items ≡ outs.items }
@@ -261,6 +268,10 @@ pub fn batch<S: Source, H: Source, O: Sink, P: Pool>(
     if !is_ready(words, pool.units(), &outs, &ins) {
         let status = tell(out, Stop::Words);
         return without_steps(alloc, pool, outs, ins, status);
+    }
+    if let Some(parts) = format_words(words) {
+        let made = make_journal(alloc, parts, out, pool);
+        return without_steps(alloc, made.pool, outs, ins, made.status);
     }
     let status = run(alloc, words, sysin, out, &mut pool);
     without_steps(alloc, pool, outs, ins, status)

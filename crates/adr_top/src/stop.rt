@@ -1,11 +1,14 @@
 //! Why a run ends before it has listed its volume.
 
 ghost use Rattle.adr_top.specs.declared.stop.Stop.TheVariants as stops;
-ghost use Rattle.std.specs.Prelude.{◌≡◌};
+ghost use Rattle.std.specs.Prelude.{◌≡◌, ◌≤◌};
+ghost use Rattle.adr_top.specs.Causes.{last_line};
+ghost use Rattle.adr_top.specs.Listed.{Tells};
 ghost use Rattle.adr_top.specs.Stops.{status_of, line_of};
 
+use crate::stream::write_all;
 use ckd_image::NoMemory;
-use dasd_pool::{PoolFault, ReadFault};
+use dasd_pool::{PoolFault, ReadFault, Sink};
 use std::alloc::AllocError;
 
 /// Why a run ends.
@@ -80,4 +83,14 @@ impl From<ReadFault> for Stop {
     fn from(_: ReadFault) -> Stop {
         Stop::Sysin
     }
+}
+
+/// Tries to write the last line of a run that ended, and gives its status. A fault of that write changes no status.
+pub(crate) fn tell<O: Sink>(out: &mut O, stop: Stop) -> u8
+    ensures status { result ≡ status_of stop }
+    ensures told { Tells (O.taken out.old) (O.taken out.new) (O.faults out.old) (O.faults out.new) (last_line result) }
+    ensures later { O.faults out.old ≤ O.faults out.new }
+{
+    let _ = write_all(out, stop.line());
+    stop.status()
 }

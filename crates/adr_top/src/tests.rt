@@ -43,13 +43,13 @@ const NONE: Failing = Failing {
 
 /// A volume, of whose head and blocks some bytes are changed.
 #[derive(Clone, Copy)]
-struct Given {
-    vtoc: Vtoc,
-    head: &'static [(usize, u8)],
-    blocks: &'static [(usize, u8)],
+pub(crate) struct Given {
+    pub vtoc: Vtoc,
+    pub head: &'static [(usize, u8)],
+    pub blocks: &'static [(usize, u8)],
 }
 
-const GIVEN: Given = Given {
+pub(crate) const GIVEN: Given = Given {
     vtoc: BASE,
     head: &[],
     blocks: &[],
@@ -65,7 +65,7 @@ fn with_head(head: &'static [(usize, u8)]) -> Given {
 }
 
 /// The bytes of a unit of one cylinder of a 3390.
-fn volume(rt: &HostRuntime, given: Given) -> Result<UnitText, Fail> {
+pub(crate) fn volume(rt: &HostRuntime, given: Given) -> Result<UnitText, Fail> {
     let mut head = [0; 512];
     head[..8].copy_from_slice(b"CKD_P370");
     head[8] = 15;
@@ -219,13 +219,45 @@ fn is_refused(rt: &HostRuntime, words: &[&str], text: &[u8], given: Given) -> Re
 
 #[test]
 fn other_words_are_refused_with_one_line(rt: HostRuntime) -> Result<(), Fail> {
-    let cases: [&[&str]; 6] = [
+    let cases: [&[&str]; 10] = [
         &["--unit", "VOL001=a", "--journal", "b"],
         &["--journal", "b", "--unit", "VOL001=a", "--sysin", "c"],
         &["--unit", "VOL001", "--journal", "b", "--sysin", "c"],
         &["--unit", "VOL001=", "--journal", "b", "--sysin", "c"],
         &["--unit", "vol001=a", "--journal", "b", "--sysin", "c"],
         &["--unit", "VOL001=a", "--journal", "b", "--sysin", ""],
+        &[
+            "--unit",
+            "VOL001=a",
+            "--journal",
+            "b",
+            "--format-journal",
+            "2",
+        ],
+        &[
+            "--unit",
+            "VOL001=a",
+            "--journal",
+            "b",
+            "--format-journal",
+            "8192",
+        ],
+        &[
+            "--unit",
+            "VOL001=a",
+            "--journal",
+            "b",
+            "--format-journal",
+            "+64",
+        ],
+        &[
+            "--unit",
+            "VOL001=a",
+            "--journal",
+            "b",
+            "--format-journal",
+            "",
+        ],
     ];
     for words in cases {
         assert!(rt; is_refused(&rt, words, TEXT, GIVEN)?);

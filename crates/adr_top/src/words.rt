@@ -1,11 +1,13 @@
 //! The words of the command line.
 
-ghost use Rattle.std.specs.Prelude.{◌≡◌, ◌≢◌, ◌↔◌, ℕ, List, [], ◌∷◌, ◌++◌, IsTrue, IfOk, IfErr, IfSome, IfNone, All};
+ghost use Rattle.std.specs.Prelude.{◌≡◌, ◌≢◌, ◌↔◌, ◌≤◌, ℕ, List, [], ◌∷◌, ◌++◌, IsTrue, IfOk, IfErr, IfSome, IfNone, All};
 ghost use Rattle.vol_label.specs.Serial.{IsSerialName, Spells};
-ghost use Rattle.adr_top.specs.Words.{Named, AreUnitWords, IsRunOf};
+ghost use Rattle.adr_top.specs.Words.{Named, FormatNamed, AreUnitWords, AreFormatWords, IsRoom, IsRunOf, IsFormatOf, IsNamedRun, AreOtherWords};
+ghost use Rattle.adr_top.specs.Parts.{NameFiles, named_by, format_named_by};
 ghost use Rattle.adr_top.specs.declared.words.WordsFault.TheVariants as faults;
 
 use crate::lists::DdName;
+use by_rules::number_of;
 use ckd_image::{Listed, NoMemory, Word};
 use std::alloc::Global;
 use thiserror::Error;
@@ -53,15 +55,33 @@ impl From<NoMemory> for WordsFault {
     }
 }
 
-/// What words of the form name: one unit by its serial and path, a journal and a text.
+/// What all words name: one unit by its serial and path, and a journal.
 #[derive(Clone, Copy, Debug)]
-pub(crate) struct UnitWords<'a> {
+pub(crate) struct FileWords<'a> {
     pub name: &'a str,
     pub serial: Serial,
     pub path: &'a str,
     pub journal: &'a str,
+}
+
+/// What the words of a text name.
+#[derive(Clone, Copy, Debug)]
+pub(crate) struct UnitWords<'a> {
+    pub files: FileWords<'a>,
     pub sysin: &'a str,
 }
+
+/// What the words of a format name: its files, and how many entries a commit may have.
+#[derive(Clone, Copy, Debug)]
+pub(crate) struct FormatWords<'a> {
+    pub files: FileWords<'a>,
+    pub room: u32,
+}
+
+/// The least and the largest room of a journal.
+const LEAST_ROOM: u32 = 3;
+
+const MOST_ROOM: u32 = 8191;
 
 /// The parts of a word around its first equals sign.
 fn split_at_sign(word: &str) -> Option<(&str, &str)>
@@ -93,14 +113,13 @@ fn is_word(word: &Word, text: &str) -> bool
     word.as_str() == text
 }
 
-/// What words of the form `--unit S=PATH --journal PATH --sysin PATH`, in this order, name.
-pub(crate) fn unit_words(words: &[Word]) -> Option<UnitWords<'_>>
-    ensures found { IfSome result (λ parts. AreUnitWords words.now
-        (record { name = parts.name.now; path = parts.path.now; journal = parts.journal.now; sysin = parts.sysin.now })) }
-    ensures spelled { IfSome result (λ parts. Spells parts.name.now parts.serial.text) }
-    ensures none { IfNone result ((named : Named) → ¬ AreUnitWords words.now named) }
+/// What words of the form `--unit S=PATH --journal PATH OPTION VALUE`, in this order, name, with the last two words.
+fn file_words(words: &[Word]) -> Option<(FileWords<'_>, &Word, &Word)>
+    ensures found { IfSome result (λ x. NameFiles words.now x.0.name.now x.0.path.now x.0.journal.now x.1.now x.2.now) }
+    ensures spelled { IfSome result (λ x. Spells x.0.name.now x.0.serial.text) }
+    ensures none { IfNone result ((name path journal option value : List ℕ) → ¬ NameFiles words.now name path journal option value) }
 {
-    let [unit, value, journal_word, journal, sysin_word, sysin] = words else {
+    let [unit, value, journal_word, journal, option, last] = words else {
         return None;
     };
     if !is_word(unit, "--unit") {
@@ -109,47 +128,116 @@ pub(crate) fn unit_words(words: &[Word]) -> Option<UnitWords<'_>>
     if !is_word(journal_word, "--journal") {
         return None;
     }
-    if !is_word(sysin_word, "--sysin") {
-        return None;
-    }
     let (name, serial, path) = unit_word(value.as_str())?;
     let journal = journal.as_str();
-    let sysin = sysin.as_str();
     if journal.is_empty() {
         return None;
     }
-    if sysin.is_empty() {
-        return None;
-    }
-    Some(UnitWords {
+    let files = FileWords {
         name,
         serial,
         path,
         journal,
-        sysin,
-    })
+    };
+    Some((files, option, last))
 }
 
-/// Reads words of the form `--unit S=PATH --journal PATH --sysin PATH`, in this order.
-pub fn read_words(alloc: Global, words: &[Word]) -> Result<Run, WordsFault>
-    // What the words name is what the run has.
-    ensures read { IfOk result (λ run. (named : Named) × AreUnitWords words.now named × IsRunOf named run) }
-
-    // A refusal for another cause than memory says that the words are of no such form.
-    ensures refused { IfErr result (λ fault. fault ≡ WordsFault.BadWords → (named : Named) → ¬ AreUnitWords words.now named) }
+/// What words of the form `--unit S=PATH --journal PATH --sysin PATH`, in this order, name.
+pub(crate) fn unit_words(words: &[Word]) -> Option<UnitWords<'_>>
+    ensures found { IfSome result (λ parts. AreUnitWords words.now (named_by parts)) }
+    ensures spelled { IfSome result (λ parts. Spells parts.files.name.now parts.files.serial.text) }
+    ensures none { IfNone result ((named : Named) → ¬ AreUnitWords words.now named) }
 {
-    let Some(parts) = unit_words(words) else {
-        return Err(WordsFault::BadWords);
-    };
-    let path = Word::copy_of(alloc, parts.path)?;
+    let (files, option, value) = file_words(words)?;
+    if !is_word(option, "--sysin") {
+        return None;
+    }
+    let sysin = value.as_str();
+    if sysin.is_empty() {
+        return None;
+    }
+    Some(UnitWords { files, sysin })
+}
+
+/// The room of a journal that a word of decimal digits spells.
+fn room_of(word: &[u8]) -> Option<u32>
+    ensures found { IfSome result (IsRoom word.now) }
+    ensures within { IfSome result (λ room. (3 ≤ room) × (room ≤ 8191)) }
+    ensures none { IfNone result ((room : ℕ) → ¬ IsRoom word.now room) }
+{
+    let room = number_of(MOST_ROOM, word)?;
+    if room < LEAST_ROOM {
+        return None;
+    }
+    Some(room)
+}
+
+/// What words of the form `--unit S=PATH --journal PATH --format-journal ROOM`, in this order, name.
+pub(crate) fn format_words(words: &[Word]) -> Option<FormatWords<'_>>
+    ensures found { IfSome result (λ parts. AreFormatWords words.now (format_named_by parts)) }
+    ensures spelled { IfSome result (λ parts. Spells parts.files.name.now parts.files.serial.text) }
+    ensures room { IfSome result (λ parts. (3 ≤ parts.room) × (parts.room ≤ 8191)) }
+    ensures none { IfNone result ((named : FormatNamed) → ¬ AreFormatWords words.now named) }
+{
+    let (files, option, value) = file_words(words)?;
+    if !is_word(option, "--format-journal") {
+        return None;
+    }
+    let room = room_of(value.as_str().as_bytes())?;
+    Some(FormatWords { files, room })
+}
+
+/// The one unit that words name.
+fn one_unit(alloc: Global, files: FileWords<'_>) -> Result<UnitPaths, NoMemory>
+    ensures { IfOk result (λ units. units ≡ (files.entry.serial, files.entry.path.now) ∷ []) }
+{
+    let path = Word::copy_of(alloc, files.path)?;
     let mut units = UnitPaths::new(alloc);
-    units.push((parts.serial, path))?;
+    units.push((files.serial, path))?;
+    Ok(units)
+}
+
+/// The run of a text over the one unit that is named.
+fn jobs_of(alloc: Global, parts: UnitWords<'_>) -> Result<Run, NoMemory>
+    requires { Spells parts.files.name.now parts.files.serial.text }
+    ensures { IfOk result (IsRunOf (named_by parts.entry)) }
+{
     Ok(Run::Jobs {
-        units,
-        journal: Word::copy_of(alloc, parts.journal)?,
+        units: one_unit(alloc, parts.files)?,
+        journal: Word::copy_of(alloc, parts.files.journal)?,
         sysin: Word::copy_of(alloc, parts.sysin)?,
         held: None,
         outs: DdPaths::new(alloc),
         ins: DdPaths::new(alloc),
     })
+}
+
+/// The run that makes a journal for the one unit that is named.
+fn format_of(alloc: Global, parts: FormatWords<'_>) -> Result<Run, NoMemory>
+    requires { Spells parts.files.name.now parts.files.serial.text }
+    ensures { IfOk result (IsFormatOf (format_named_by parts.entry)) }
+{
+    Ok(Run::Format {
+        units: one_unit(alloc, parts.files)?,
+        journal: Word::copy_of(alloc, parts.files.journal)?,
+        room: parts.room,
+    })
+}
+
+/// Reads words of the form `--unit S=PATH --journal PATH --sysin PATH` or `--unit S=PATH --journal PATH --format-journal ROOM`,
+/// in this order.
+pub fn read_words(alloc: Global, words: &[Word]) -> Result<Run, WordsFault>
+    // What the words name is what the run has.
+    ensures read { IfOk result (λ run. IsNamedRun words.now run) }
+
+    // A refusal for another cause than memory says that the words are of neither form.
+    ensures refused { IfErr result (λ fault. fault ≡ WordsFault.BadWords → AreOtherWords words.now) }
+{
+    if let Some(parts) = format_words(words) {
+        return Ok(format_of(alloc, parts)?);
+    }
+    match unit_words(words) {
+        Some(parts) => Ok(jobs_of(alloc, parts)?),
+        None => Err(WordsFault::BadWords),
+    }
 }

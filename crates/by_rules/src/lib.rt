@@ -18,6 +18,7 @@ pub use day::Day;
 pub use fault::ByFault;
 pub use laws::{criteria_laws, day_laws, token_laws};
 pub use row::{AllocKind, RowFacts};
+pub use words::number_of;
 
 #[cfg(test)]
 mod tests;

@@ -136,8 +136,8 @@ pub(crate) fn shift_of(word: &[u8]) -> Option<i32>
     Some(days as i32)
 }
 
-/// The number that decimal digits spell, up to a limit.
-fn number_of(limit: u32, word: &[u8]) -> Option<u32>
+/// The number that a word of decimal digits spells, where it is at most the limit; leading zeros may stand.
+pub fn number_of(limit: u32, word: &[u8]) -> Option<u32>
     requires { limit < 10000000 }
     ensures number { result ≡ words.number_of limit word.now }
     ensures limit { IfSome result (λ number. number ≤ limit) }

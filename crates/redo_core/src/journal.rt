@@ -2,7 +2,7 @@
 
 ghost use Rattle.std.specs.Prelude.{◌≡◌, ◌≢◌, ◌≤◌, ◌<◌, ℕ, All, AllPairs, length, IfOk, IfErr, OnOk};
 ghost use Rattle.dasd_pool.specs.Count.{Rose, HasCause};
-ghost use Rattle.dasd_pool.specs.Disk.{Image, LeavesOnly, Runs, IsSynced, none, is_at};
+ghost use Rattle.dasd_pool.specs.Disk.{Image, LeavesOnly, Runs, Touches, IsSynced, none, is_at};
 ghost use Rattle.redo_core.specs.Reading.{journal_of, fills_of};
 ghost use Rattle.redo_core.specs.Phases.{targets, of_commit, IsAtRest, IsEntry, OldOrNew, IsCommitted};
 ghost use Rattle.redo_core.specs.Opening.{AreNames, IsFormatted, IsJournalSynced, IsOpened, ReadsSame, SparesVolumes};
@@ -110,11 +110,10 @@ impl<P: Pool> Journal<P> {
         ensures opened { P.tells → IfOk result (λ journal.
             IsOpened (P.shape pool) (P.disk pool).state names.now journal.room journal.control journal.fills (P.disk journal.pool).state) }
 
-        // It opens only where nothing stands against it. A refusal names the first cause, and nothing was written.
+        // It opens only where nothing stands against it. A refusal names the first cause; nothing was written, and what was synced still is.
         ensures allowed { P.tells → OnOk result (MayOpen (P.shape pool) (P.disk pool).state.contents names.now) }
         ensures refused { P.tells → IfErr result (λ stop. IsOpenFault (P.shape pool) (P.disk pool).state.contents names.now stop.cause) }
-        ensures unwritten { P.tells → IfErr result (λ stop. (stop.cause ≡ JournalFault.Pool → ⊥)
-            → (u b : ℕ) → (P.disk stop.pool).state.contents u b ≡ (P.disk pool).state.contents u b) }
+        ensures unwritten { P.tells → IfErr result (λ stop. (stop.cause ≡ JournalFault.Pool → ⊥) → Touches none (P.disk pool).state (P.disk stop.pool).state) }
 
         // At every moment, whatever the answer.
         ensures any_moment { P.tells → IsJournalSynced (P.shape pool) (P.disk pool).state

@@ -2,7 +2,7 @@
 
 ghost use Rattle.std.specs.Prelude.{◌≡◌, ◌≢◌, ◌⊎◌, ◌↔◌, true, IsTrue, ◌<◌, ◌≤◌, ◌+◌, ◌==◌, ◌&&◌, ℕ, List, Bool, Some, All, length, take, false, IfSome, IfOk, IfErr, OnOk, if◌then◌else◌};
 ghost use Rattle.dasd_pool.specs.Count.{Rose, HasCause};
-ghost use Rattle.dasd_pool.specs.Disk.{Image, IsSynced, LeavesOnly, Runs, none, is_at};
+ghost use Rattle.dasd_pool.specs.Disk.{Image, IsSynced, LeavesOnly, Runs, none, is_at, Touches};
 ghost use Rattle.vol_label.specs.declared.serial.Serial.{Serial};
 ghost use Rattle.redo_core.specs.declared.control.Control.TheVariants.{Idle};
 ghost use Rattle.redo_core.specs.declared.fault.JournalRule.{JournalRule};
@@ -384,7 +384,7 @@ pub fn open_on<P: Pool>(
     ensures opened { P.tells → IfOk result (λ f. IsOpened (P.shape pool.old) (P.disk pool.old).state names.now f.room f.control f.fills (P.disk pool.new).state) }
     ensures allowed { P.tells → OnOk result (MayOpen (P.shape pool.old) (P.disk pool.old).state.contents names.now) }
     ensures refused { P.tells → IfErr result (IsOpenFault (P.shape pool.old) (P.disk pool.old).state.contents names.now) }
-    ensures unwritten { P.tells → IfErr result (λ fault. (fault ≡ JournalFault.Pool → ⊥) → (u b : ℕ) → (P.disk pool.new).state.contents u b ≡ (P.disk pool.old).state.contents u b) }
+    ensures unwritten { P.tells → IfErr result (λ fault. (fault ≡ JournalFault.Pool → ⊥) → Touches none (P.disk pool.old).state (P.disk pool.new).state) }
     ensures any_moment { P.tells → IsJournalSynced (P.shape pool.old) (P.disk pool.old).state
         → LeavesOnly (P.disk pool.old) (P.disk pool.new) (ReadsSame (P.shape pool.old) (P.disk pool.old).state) }
     ensures faults { P.faults pool.old ≤ P.faults pool.new }

@@ -1,6 +1,9 @@
 -- The records of a VTOC with their places, and the data sets that they describe.
-use Rattle.std.specs.Prelude.{ℕ, zero, suc, ◌+◌, ◌*◌, Bool, ◌==◌, ◌&&◌, if◌then◌else◌, List, [], ◌∷◌, ◌++◌, length, map, filter, find, Option, Some, None}
+use Rattle.std.specs.Prelude.{ℕ, zero, suc, ◌+◌, ◌*◌, Bool, ◌==◌, ◌&&◌, if◌then◌else◌, List, [], ◌∷◌, ◌++◌, length, map, filter, find, take, Option, Some, None}
 use Rattle.std.specs.List.{flat_map}
+use Rattle.std.specs.List.Sorted.{IsPermutation, IsSortedBy}
+use Rattle.std.specs.Ordering.{is_lt, nat_cmp}
+use Rattle.std.specs.Cmp.Lexicographic.{slice_cmp}
 use Rattle.ckd_image.specs.declared.track.Cchhr.{Cchhr}
 use Rattle.volume_model.specs.declared.format.Format.{Format}
 use Rattle.volume_model.specs.Dscbs.{format_of, is_f1, is_f3, ExtentField, extents_of, pointer_in}
@@ -75,3 +78,14 @@ row_of heads records placed =
 -- each format 1 gives one row
 abbrev pub rows_of : ℕ → List Placed → List DirectoryRow
 rows_of heads records = map (row_of heads records) (filter (λ placed. is_f1 (format_of placed.bytes)) records)
+
+-- ---- the order of names
+
+-- the name of the first comes before that of the second
+abbrev pub name_before : DirectoryRow → DirectoryRow → Bool
+name_before a b = is_lt (slice_cmp nat_cmp (take 44 a.format_1) (take 44 b.format_1))
+
+-- the same rows in the order of their names
+pub record AreInOrder (found rows : List DirectoryRow) : Type 0 where
+  pub same : IsPermutation found rows
+  pub order : IsSortedBy name_before rows

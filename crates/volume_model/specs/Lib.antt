@@ -4,3 +4,6 @@ pub mod Directory
 pub mod Space
 pub mod Check
 pub mod Sound
+pub mod Unit
+pub mod Reads
+pub mod Pinned

@@ -15,7 +15,7 @@ use Rattle.volume_model.specs.declared.rule.VtocRule.{VtocRule}
 use Rattle.volume_model.specs.declared.rule.VtocRule.TheVariants as rules
 use Rattle.volume_model.specs.declared.format.Format.TheVariants.{F4}
 use Rattle.volume_model.specs.Dscbs.{format_of, number_at, extent_at}
-use Rattle.volume_model.specs.Directory.{named_place, DirectoryRow, rows_of}
+use Rattle.volume_model.specs.Directory.{named_place, DirectoryRow, AreInOrder, rows_of}
 use Rattle.free_map.specs.declared.run.Run.{Run}
 use Rattle.free_map.specs.Runs.{AreMaximalRuns}
 use Rattle.volume_model.specs.Space.{has_track, track_at, is_run, run_of, is_free}
@@ -138,4 +138,4 @@ pub record IsVolume (head : List ℕ) (blocks : ℕ) (slots : Slots) (sliding : 
   pub sound : breaches_of vtoc ≡ []
   pub usable_is : volume.usable ≡ usable_in vtoc
   pub free_are : AreMaximalRuns (λ track. IsTrue (is_free (usable_in vtoc) vtoc.run (extents_in vtoc) track)) volume.free
-  pub rows_are : volume.rows ≡ rows_of vtoc.heads (records_of vtoc)
+  pub rows_are : AreInOrder (rows_of vtoc.heads (records_of vtoc)) volume.rows

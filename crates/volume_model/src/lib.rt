@@ -3,6 +3,8 @@
 
 mod format;
 mod rule;
+mod why;
 
 pub use format::Format;
 pub use rule::VtocRule;
+pub use why::Why;

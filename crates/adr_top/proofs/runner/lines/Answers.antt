@@ -9,7 +9,7 @@ pub returns-in_default-clause-fault : goal.returns-in_default-clause-fault
 returns-in_default-clause-fault g c = inr (λ named stands told unit.
     let P : Named → Type 0 = λ n. HasBareUnit n.name ((g.P.Pool.shape c.args.pool.now).head 0) ((g.P.Pool.shape c.args.pool.now).blocks 0) ((g.P.Pool.disk c.args.pool.now).state.contents 0) in
     let none = rw c.in_default.is at (c.in_ok-space.ensures.volume told) in
-    none c.in_ok-parts.parts.name.now c.in_ok-parts.ensures.spelled
+    none c.in_ok-parts.parts.files.name.now c.in_ok-parts.ensures.spelled
     (subst P (one_named c.args.words.now named (named_by c.in_ok-parts.parts) stands c.in_ok-parts.ensures.asked.0) unit))
 
 pub returns-clause-listed : goal.returns-clause-listed
@@ -19,5 +19,5 @@ returns-clause-listed g c = (
   λ told.
       let found = rw c.in-Some.is at (c.in_ok-space.ensures.volume told) in
       c.in_ok-text.ensures ((g.P.Pool.shape c.args.pool.now).head 0) ((g.P.Pool.shape c.args.pool.now).blocks 0) ((g.P.Pool.disk c.args.pool.now).state.contents 0)
-      (found c.in_ok-parts.parts.name.now c.in_ok-parts.ensures.spelled),
+      (found c.in_ok-parts.parts.files.name.now c.in_ok-parts.ensures.spelled),
 )

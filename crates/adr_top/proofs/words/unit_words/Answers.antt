@@ -1,23 +1,24 @@
-use Rattle.std.proofs.Common.{◌≡◌, ◌∷◌, ◌++◌, [], sym, ◌∙◌, length, refl, arith}
-use Rattle.std.specs.Prelude.{codes}
-use Rattle.adr_top.proofs.Signs.{six_words, is_filled}
+use Rattle.std.proofs.Common.{sym, ◌∙◌, refl}
+use Rattle.adr_top.specs.Words.{Named, AreUnitWords}
+use Rattle.adr_top.proofs.BareTracks.{if_none}
+use Rattle.adr_top.proofs.Signs.{is_empty, is_filled}
+use Rattle.adr_top.proofs.SixWords.{not_true, unit_files, unit_named, no_unit_option, no_unit_value}
 use Rattle.adr_top.proofs.words.unit_words.Goals as goal
 
 pub returns-clause-found : goal.returns-clause-found
-returns-clause-found c = record {
-  spelled =
-      let six : length c.args.words.now ≡ 6 = omega (arith, c.in-len6.len_at_least, c.in-len6.len_below) in
-      let all = six_words c.args.words.now c.unit-item.result c.value-item.result c.journal_word-item.result c.journal-item.result c.sysin_word-item.result c.sysin-item.result
-      six c.unit-item.is c.value-item.is c.journal_word-item.is c.journal-item.is c.sysin_word-item.is c.sysin-item.is in
-      let unit : c.unit-item.result ≡ codes "--unit" = c.if-not-is_word.ensures.0 refl in
-      let value : c.value-item.result ≡ c.in_ok-name.name.now ++ 61 ∷ c.in_ok-name.path.now = sym c.as_str.ensures ∙ c.in_ok-name.ensures.found.0 in
-      let journal_word : c.journal_word-item.result ≡ codes "--journal" = c.if-not-is_word-2.ensures.0 refl in
-      let journal : c.journal-item.result ≡ c.as_str-journal.result.now = sym c.as_str-journal.ensures in
-      let sysin_word : c.sysin_word-item.result ≡ codes "--sysin" = c.if-not-is_word-3.ensures.0 refl in
-      let sysin : c.sysin-item.result ≡ c.as_str-sysin.result.now = sym c.as_str-sysin.ensures in
-      all ∙ (λ i. unit i ∷ value i ∷ journal_word i ∷ journal i ∷ sysin_word i ∷ sysin i ∷ []);
-  serial = c.in_ok-name.ensures.found.1;
-  some_path = c.in_ok-name.ensures.found.3;
-  some_journal = is_filled c.as_str-journal.result.now c.if-is_empty.ensures;
-  some_sysin = is_filled c.as_str-sysin.result.now c.if-is_empty-2.ensures;
-}
+returns-clause-found c =
+    unit_named c.args.words.now _ _ _ _ _ c.as_str-sysin.result.now c.in_ok-files.ensures.found (c.if-not-is_word.ensures.0 refl) c.as_str-sysin.ensures
+    (is_filled c.as_str-sysin.result.now c.if-is_empty.ensures)
+
+pub returns-in_err-files-clause-none : goal.returns-in_err-files-clause-none
+returns-in_err-files-clause-none c =
+    let none : (named : Named) → ¬ AreUnitWords c.args.words.now named = λ named stands. c.in_err-files.ensures.none _ _ _ _ _ (unit_files c.args.words.now named stands) in
+    if_none _ _ none
+
+pub returns-then-not-is_word-clause-none : goal.returns-then-not-is_word-clause-none
+returns-then-not-is_word-clause-none c =
+    no_unit_option c.args.words.now _ _ _ _ _ c.in_ok-files.ensures.found (λ is. not_true (c.if-not-is_word.ensures.1 is))
+
+pub returns-then-is_empty-clause-none : goal.returns-then-is_empty-clause-none
+returns-then-is_empty-clause-none c =
+    no_unit_value c.args.words.now _ _ _ _ _ c.in_ok-files.ensures.found (sym c.as_str-sysin.ensures ∙ is_empty c.as_str-sysin.result.now c.if-is_empty.ensures)

@@ -84,4 +84,4 @@ returns-in-Ok-finish-clause-opened g c = λ told.
     (redone_at shape (g.P.Pool.shape c.look.new.pool) c.args.journal mid.state.contents old.state.contents new c.in-Ok.ensures.shape unit same (c.in-Ok-finish.ensures.redone told))
 
 pub returns-in-Err-clause-unwritten : goal.returns-in-Err-clause-unwritten
-returns-in-Err-clause-unwritten g c = λ told other u b. (c.look.ensures.runs told).touches.contents u b refl
+returns-in-Err-clause-unwritten g c = λ told other. (c.look.ensures.runs told).touches

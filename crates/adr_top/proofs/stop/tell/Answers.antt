@@ -4,7 +4,7 @@ use Rattle.dasd_pool.specs.Stream.{Appends}
 use Rattle.adr_top.specs.Listed.{Tells}
 use Rattle.adr_top.specs.Causes.{last_line}
 use Rattle.adr_top.proofs.Ends.{line_is, written_or}
-use Rattle.adr_top.proofs.runner.tell.Goals as goal
+use Rattle.adr_top.proofs.stop.tell.Goals as goal
 
 pub returns-clause-told : goal.returns-clause-told
 returns-clause-told g c =

@@ -1,0 +1,43 @@
+use Rattle.std.proofs.Common.{◌≡◌, ◌≢◌, ◌<◌, ◌≤◌, ◌-◌, ℕ, suc, take, length, get_or, sym, ap, ◌∙◌, arith}
+use Rattle.std.proofs.lemmas.List.{take_all, length-take-le}
+use Rattle.adr_top.specs.Print.{trimmed}
+use Rattle.adr_top.proofs.Lines.{trimmed_more, trimmed_to}
+use Rattle.adr_top.proofs.line.trimmed.Goals.{then-loop-end-test+else-text-end-eq-BLANK, else-loop-end-test}
+use Rattle.adr_top.proofs.line.trimmed.Goals as goal
+
+pub loop-end-init : goal.loop-end-init
+loop-end-init c = record {
+  within = omega arith;
+  text = ap trimmed (take_all 6 c.args.text.now (omega (arith, c.told-text)));
+}
+
+pub bounds-text-end : goal.bounds-text-end
+bounds-text-end c = omega (arith, c.loop-end.invariant.within, c.loop-end-test.true)
+
+pub loop-end-preserved : goal.loop-end-preserved
+loop-end-preserved c =
+    let end = c.loop-end.end in
+    let one : suc (end - 1) ≡ end = omega (arith, c.loop-end-test.true) in
+    let less : end - 1 < length c.args.text.now = omega (arith, c.loop-end.invariant.within, c.loop-end-test.true, c.told-text) in
+    record {
+      within = omega (arith, c.loop-end.invariant.within);
+      text =
+          sym (trimmed_more c.args.text.now (end - 1) less c.if-text-end-eq-BLANK.true)
+          ∙ ap (λ (n : ℕ). trimmed (take n c.args.text.now)) one ∙ c.loop-end.invariant.text;
+    }
+
+pub returns-clause-text : goal.returns-clause-text
+returns-clause-text c =
+    let within : c.loop-end.end ≤ length c.args.text.now = omega (arith, c.loop-end.invariant.within, c.told-text) in
+    sym (trimmed_to c.args.text.now c.loop-end.end within last) ∙ c.loop-end.invariant.text
+  where
+    last : 0 < c.loop-end.end → get_or c.args.text.now (c.loop-end.end - 1) 0 ≢ 0x40
+    last some =
+        elim c.loop-end-test.branch [
+          | then-loop-end-test+else-text-end-eq-BLANK w ↦ w.if-text-end-eq-BLANK.false
+          | else-loop-end-test w ↦ absurd (omega (arith, w.loop-end-test.false, some))
+        ]
+
+pub returns-clause-short : goal.returns-clause-short
+returns-clause-short c =
+    omega (arith, length-take-le c.loop-end.end c.args.text.now (omega (arith, c.loop-end.invariant.within, c.told-text)), c.loop-end.invariant.within)

@@ -1,0 +1,96 @@
+//! A line that is put together without memory.
+
+ghost use Rattle.std.specs.Prelude.{◌≡◌, ◌≤◌, ◌+◌, ◌++◌, [], length, take, unwrap_or};
+ghost use Rattle.std.specs.Fmt.{decimal};
+ghost use Rattle.vol_label.specs.CodePage.{ascii_of};
+ghost use Rattle.adr_top.specs.Print.{trimmed as trimmed_bytes, printed};
+
+use ckd_image::text::put;
+use itoa::Buffer;
+use std::marker::Model;
+use vol_label::{Serial, to_ascii};
+
+/// A blank in the code page.
+const BLANK: u8 = 0x40;
+
+/// The bytes of a line so far, at most 128. Contracts see the list of them.
+#[derive(Debug, Drop)]
+pub(crate) struct Line {
+    bytes: [u8; 128],
+    end: usize,
+}
+
+impl Model for Line {
+    ghost use Rattle.std.specs.Prelude.{ℕ, List, ◌≤◌, take};
+
+    ghost Value = { List ℕ };
+
+    ghost view = { λ l. take l.end l.bytes };
+
+    ghost invariant = { λ l. l.end ≤ 128 };
+}
+
+/// The bytes without trailing blanks.
+fn trimmed(text: &[u8; 6]) -> &[u8]
+    ensures text { result.now ≡ trimmed_bytes text.now }
+    ensures short { length result.now ≤ 6 }
+{
+    let mut end = 6;
+    while end > 0 && text[end - 1] == BLANK {
+        end -= 1;
+    }
+    &text[..end]
+}
+
+/// A byte of the code page in ASCII; a question mark for what the code page lacks.
+fn printed_byte(byte: u8) -> u8
+    ensures { result ≡ unwrap_or (ascii_of byte) 63 }
+{
+    to_ascii(byte).unwrap_or(b'?')
+}
+
+impl Line {
+    pub(crate) fn new() -> Line
+        ensures { result ≡ [] }
+    {
+        Line {
+            bytes: [0; 128],
+            end: 0,
+        }
+    }
+
+    pub(crate) fn as_slice(&self) -> &[u8]
+        ensures { result.now ≡ self.now }
+    {
+        &self.bytes[..self.end]
+    }
+
+    pub(crate) fn push(&mut self, piece: &[u8])
+        requires { length self.old + length piece.now ≤ 128 }
+        ensures text { self.new ≡ self.old ++ piece.now }
+        ensures length { length self.new ≡ length self.old + length piece.now }
+    {
+        self.end = put(&mut self.bytes, self.end, piece);
+    }
+
+    /// Adds a number, of ten digits at most.
+    pub(crate) fn push_number(&mut self, number: u32)
+        requires { length self.old ≤ 118 }
+        ensures text { self.new ≡ self.old ++ decimal number }
+        ensures length { length self.new ≤ length self.old + 10 }
+    {
+        self.push(Buffer::new().format(number).as_bytes());
+    }
+
+    /// Adds a serial as it is printed.
+    pub(crate) fn push_serial(&mut self, serial: Serial)
+        requires { length self.old ≤ 122 }
+        ensures text { self.new ≡ self.old ++ printed serial.text }
+        ensures length { length self.new ≤ length self.old + 6 }
+    {
+        let text = trimmed(&serial.text);
+        for byte in text {
+            self.push(&[printed_byte(*byte)]);
+        }
+    }
+}

@@ -1,0 +1,12 @@
+pub mod Below
+pub mod Frames
+pub mod Standing
+pub mod OneVtoc
+pub mod Online
+pub mod Reached
+pub mod Used
+pub mod Shrinking
+pub mod Replacing
+pub mod Releasing
+pub mod Kept
+pub mod Keeping

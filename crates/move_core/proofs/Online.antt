@@ -1,0 +1,108 @@
+-- A unit on which a loader finds a volume is online.
+use Rattle.std.proofs.Common.{◌≡◌, ◌⊎◌, inl, inr, ℕ, ◌≤◌, List, [], length, false, refl, sym, ap, subst, ◌∙◌, arith}
+use Rattle.std.specs.Prelude.{Contains}
+use Rattle.std.proofs.lemmas.Bool.{false≢true}
+use Rattle.ckd_image.specs.declared.head.Head.{Head}
+use Rattle.ckd_image.specs.declared.fault.CkdFault.TheVariants.{BadHead}
+use Rattle.ckd_image.specs.declared.track.Track.{Track}
+use Rattle.ckd_image.specs.Address.{address_of}
+use Rattle.ckd_image.specs.Device.{heads_of}
+use Rattle.ckd_image.proofs.OneText.{one_text}
+use Rattle.vol_label.specs.declared.label.Label.{Label}
+use Rattle.vol_label.specs.declared.fault.LabelFault.TheVariants.{BadLabel}
+use Rattle.vol_label.specs.Label.{IsLabelFault, IsLabel}
+use Rattle.vol_label.proofs.OneLabel.{one_label, no_label}
+use Rattle.redo_core.proofs.Heads.{one_device, no_head}
+use Rattle.volume_model.specs.declared.why.Why.TheVariants as whys
+use Rattle.volume_model.specs.declared.rule.VtocRule.{VtocRule}
+use Rattle.volume_model.specs.declared.rule.VtocRule.TheVariants as rules
+use Rattle.volume_model.specs.Check.{Breach, breaches_of}
+use Rattle.volume_model.specs.Space.{track_at}
+use Rattle.volume_model.specs.Sound.{Slots, IsFormat4, HasGeometry, HasVtocExtent, IsFirstRuleBroken, IsCheckFault, Volume, IsVolume}
+use Rattle.volume_model.specs.Unit.{OnlineVolume, UnitModel, online, offline}
+use Rattle.volume_model.specs.Reads.{IsOnline, HasImage, IsFirstText, HasBadLabel, HasLabelOf, HasBadVtoc, IsUnit}
+use Rattle.move_core.specs.Shrinking.{AreShort}
+use Rattle.move_core.proofs.Frames.{pointer_held}
+use Rattle.move_core.proofs.OneVtoc.{address_fits, one_format4, one_vtoc}
+
+module _ (head : List ℕ) (blocks : ℕ) (slots : Slots) (found : Volume) (is : IsVolume head blocks slots false found) (first_short : length (slots 0) ≤ 65536)
+    (short : AreShort slots is.vtoc.run) where
+  -- ---- the head and the label
+
+  pub one_image : (image : Head) → HasImage head blocks image → image ≡ is.image
+  one_image image has =
+      let device : image.device ≡ is.image.device = one_device head image.device is.image.device has.stands.named is.head_stands.named in
+      let tracks : image.tracks ≡ is.image.tracks = has.tracks_are ∙ sym is.tracks_are in
+      (λ i. record { device = device i; tracks = tracks i })
+
+  first_text : (text : Track) → IsFirstText is.image slots text → text ≡ is.track_0
+  first_text text stands =
+      one_text (address_of (heads_of is.image.device) 0) (slots 0) text is.track_0 (address_fits is.image.device 0 (omega arith)) first_short stands is.track_0_stands
+
+  no_bad_label : (why : ℕ) → ¬ HasBadLabel head blocks slots why
+  no_bad_label why bad =
+      let P : Head → Type 0 = λ image.
+      (((text : Track) → ¬ IsFirstText image slots text) × (why ≡ 1)) ⊎ ((text : Track) × IsFirstText image slots text × IsLabelFault image text.recs (BadLabel why)) in
+      let Q : Track → Type 0 = λ text. IsLabelFault is.image text.recs (BadLabel why) in
+      elim (subst P (one_image bad.image bad.head_stands) bad.fault) [
+        | inl none ↦ none.0 is.track_0 is.track_0_stands
+        | inr broken ↦ no_label is.image is.track_0.recs (BadLabel why) (subst Q (first_text broken.0 broken.1) broken.2) found.label is.label_stands
+      ]
+
+  pub same_label : (label : Label) → HasLabelOf head blocks slots is.image label → label ≡ found.label
+  same_label label has =
+      let Q : Track → Type 0 = λ text. IsLabel is.image text.recs label in
+      one_label is.image is.track_0.recs label found.label (subst Q (first_text has.text has.text_stands) has.stands) is.label_stands
+
+  -- ---- the VTOC
+
+  same_four : (bytes : List ℕ) → IsFormat4 (heads_of is.image.device) slots found.label.vtoc bytes → bytes ≡ is.vtoc_stands.bytes
+  same_four bytes stands =
+      one_format4 (heads_of is.image.device) slots found.label.vtoc bytes is.vtoc_stands.bytes is.label_stands.text.numbers.0
+      (short (track_at (heads_of is.image.device) found.label.vtoc.at) (pointer_held is.image found.label.vtoc slots false is.vtoc is.vtoc_stands))
+      stands is.vtoc_stands.format_4
+
+  no_rule : (rule : VtocRule) → ¬ IsFirstRuleBroken is.image slots found.label.vtoc rule
+  no_rule rules.NoFormat4 broken = broken is.vtoc_stands.bytes is.vtoc_stands.format_4
+  no_rule rules.Geometry broken = broken.2 (subst (HasGeometry (heads_of is.image.device)) (sym (same_four broken.0 broken.1)) is.vtoc_stands.geometry)
+  no_rule rules.VtocExtent broken = broken.3 (subst (HasVtocExtent is.image found.label.vtoc) (sym (same_four broken.0 broken.1)) is.vtoc_stands.extent)
+  no_rule rules.Track broken = broken
+  no_rule rules.Dscb broken = broken
+  no_rule rules.Name broken = broken
+  no_rule rules.Pointer broken = broken
+  no_rule rules.Range broken = broken
+  no_rule rules.Overlap broken = broken
+  no_rule rules.Free broken = broken
+
+  pub few_tracks : is.image.tracks ≤ 65535
+  few_tracks = omega (arith, is.tracks_are, is.head_stands.cylinders.1)
+
+  no_fault : (told : Breach) → ¬ IsCheckFault is.image slots found.label.vtoc false told
+  no_fault told (inl first) = no_rule told.rule first.0
+  no_fault told (inr other) =
+      let same : is.vtoc ≡ other.0 =
+      (one_vtoc is.image slots found.label.vtoc false is.vtoc other.0 short few_tracks is.label_stands.text.numbers is.vtoc_stands other.1).0 in
+      let none : Contains [] told = subst (λ (all : List Breach). Contains all told) (ap breaches_of (sym same) ∙ is.sound) other.2.is_there in
+      absurd (omega (arith, none.1))
+
+  no_bad_vtoc : (track number why : ℕ) → ¬ HasBadVtoc false head blocks slots track number why
+  no_bad_vtoc track number why bad =
+      let image : bad.image ≡ is.image = one_image bad.image bad.labelled.head_stands in
+      let label : bad.label ≡ found.label = same_label bad.label (subst (λ (i : Head). HasLabelOf head blocks slots i bad.label) image bad.labelled) in
+      let fault = subst (λ (i : Head). IsCheckFault i slots bad.label.vtoc false bad.told) image bad.fault in
+      no_fault bad.told (subst (λ (l : Label). IsCheckFault is.image slots l.vtoc false bad.told) label fault)
+
+  -- ---- the unit
+
+  pub is_online : (unit : UnitModel) → IsUnit false false (λ track. track) head blocks slots unit
+      → (volume : OnlineVolume) × (unit ≡ online volume) × IsOnline false (λ track. track) head blocks slots volume
+  is_online (online volume) stands = (volume, refl, stands.1)
+  is_online (offline (whys.Head why) kept) stands = absurd (no_head head blocks (BadHead why) stands.0 is.image.device is.head_stands)
+  is_online (offline whys.Filling kept) stands = absurd (false≢true stands.0)
+  is_online (offline (whys.Label why) kept) stands = absurd (no_bad_label why stands.1)
+  is_online (offline (whys.Vtoc track number why) kept) stands = absurd (no_bad_vtoc track number why stands.1)
+
+pub loaded_is_online : (head : List ℕ) (blocks : ℕ) (slots : Slots) (unit : UnitModel) (found : Volume) → (stands : IsVolume head blocks slots false found)
+    → length (slots 0) ≤ 65536 → AreShort slots stands.vtoc.run → IsUnit false false (λ track. track) head blocks slots unit
+    → (volume : OnlineVolume) × (unit ≡ online volume) × IsOnline false (λ track. track) head blocks slots volume
+loaded_is_online head blocks slots unit found stands first short is = is_online head blocks slots found stands first short unit is

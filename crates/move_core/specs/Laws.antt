@@ -1,0 +1,57 @@
+-- What a stop, an opening and a commit leave of the units that a pool stands for.
+use Rattle.std.specs.Prelude.{◌≡◌, ◌⊎◌, ℕ, ◌<◌, List, Bool, false}
+use Rattle.dasd_pool.specs.Disk.{Image, Shape, State, MayLeave}
+use Rattle.vol_label.specs.declared.serial.Serial.{Serial}
+use Rattle.redo_core.specs.declared.control.Control.{Control}
+use Rattle.redo_core.specs.declared.entries.Entry.{Entry}
+use Rattle.redo_core.specs.Format.{is_open}
+use Rattle.redo_core.specs.Reading.{journal_of, placed, Reading}
+use Rattle.redo_core.specs.Faults.{LabelsAre}
+use Rattle.redo_core.specs.Phases.{OldOrNew, IsCommitted}
+use Rattle.redo_core.specs.Opening.{ReadsSame, IsOpened}
+use Rattle.volume_model.specs.Unit.{UnitModel}
+use Rattle.move_core.specs.Stands.{Means, RestsOn, Stands, IsSettled}
+
+-- Blocks on which the meaning of a reading doesn't rest may be others.
+abbrev pub KeepsMeaning : Type 0
+KeepsMeaning =
+    (shape : Shape) (reading : Reading) (volumes : Image) (units : List UnitModel) → (means : Means shape reading units)
+    → ((u b : ℕ) → u < journal_of shape → RestsOn shape reading means.found u b → volumes u b ≡ reading.volumes u b)
+    → Means shape (record reading { volumes = volumes }) units
+
+-- What a stop now leaves of a settled pool stands for the same units.
+abbrev pub EachImageStands : Type 0
+EachImageStands =
+    (shape : Shape) (names : List Serial) (state : State) (units : List UnitModel) (image : Image)
+    → IsSettled shape names state units → MayLeave state image → Stands shape names image units
+
+-- So does what a stop leaves within an opening.
+abbrev pub OpeningStands : Type 0
+OpeningStands =
+    (shape : Shape) (names : List Serial) (state : State) (units : List UnitModel) (image : Image)
+    → IsSettled shape names state units → ReadsSame shape state image → Stands shape names image units
+
+-- A pool that was opened stands for what it stood for, and is settled.
+abbrev pub OpenedIsSettled : Type 0
+OpenedIsSettled =
+    (shape : Shape) (names : List Serial) (old new : State) (units : List UnitModel) (room : ℕ) (control : Control) (fills : List Bool)
+    → Stands shape names old.contents units → IsOpened shape old names room control fills new → IsSettled shape names new units
+
+-- with all entries in place a reading means these units, and each label that reads has its name
+pub record WillStand (shape : Shape) (names : List Serial) (reading : Reading) (entries : List Entry) (units : List UnitModel) : Type 0 where
+  pub labels : LabelsAre shape (placed reading.volumes entries) names (journal_of shape)
+  pub means : Means shape (record reading { volumes = placed reading.volumes entries }) units
+
+-- What a stop leaves within a commit stands for the units before it, or for those that the commit makes. Its gate is closed before.
+abbrev pub CommitStands : Type 0
+CommitStands =
+    (shape : Shape) (names : List Serial) (state : State) (before after : List UnitModel) (entries : List Entry) (image : Image)
+    → (settled : IsSettled shape names state before) → is_open (state.contents (journal_of shape) 1) ≡ false
+    → WillStand shape names settled.stands.reading entries after → OldOrNew shape state entries image → Stands shape names image before ⊎ Stands shape names image after
+
+-- After a commit a pool stands for those, and is settled.
+abbrev pub CommittedIsSettled : Type 0
+CommittedIsSettled =
+    (shape : Shape) (names : List Serial) (old new : State) (before after : List UnitModel) (entries : List Entry)
+    → (settled : IsSettled shape names old before) → WillStand shape names settled.stands.reading entries after
+    → IsCommitted shape old entries new → IsSettled shape names new after

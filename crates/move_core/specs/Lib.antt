@@ -1,0 +1,6 @@
+pub mod Steps
+pub mod Stands
+pub mod Laws
+pub mod Shrinking
+pub mod Releasing
+pub mod Runs

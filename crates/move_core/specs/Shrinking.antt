@@ -1,0 +1,48 @@
+-- A loaded volume is what its unit is, and a VTOC that is shrunk makes the unit another volume.
+use Rattle.std.specs.Prelude.{◌≡◌, ℕ, ◌≤◌, Bool, false, List, ◌∷◌, ◌++◌, length}
+use Rattle.ckd_image.specs.declared.head.Head.{Head}
+use Rattle.ckd_image.specs.declared.track.Cchhr.{Cchhr}
+use Rattle.ckd_image.specs.Address.{IsCchhr}
+use Rattle.free_map.specs.declared.run.Run.{Run}
+use Rattle.free_map.specs.Runs.{Holds}
+use Rattle.volume_model.specs.Check.{Vtoc}
+use Rattle.volume_model.specs.Directory.{DirectoryRow}
+use Rattle.volume_model.specs.Sound.{Slots, IsVtoc, Volume, IsVolume}
+use Rattle.volume_model.specs.Unit.{DataSet, OnlineVolume, UnitModel, online}
+use Rattle.volume_model.specs.Reads.{IsOnline, IsUnit}
+use Rattle.vtoc_core.specs.Plain.{HasPlainVtoc}
+use Rattle.vtoc_core.specs.Shrink.{ShrinksVtoc}
+use Rattle.move_core.specs.Steps.{shrunk, Changes}
+
+-- the slots of a run's tracks are no longer than a track's slot can be
+abbrev pub AreShort : Slots → Run → Type 0
+AreShort slots run = (track : ℕ) → Holds run track → length (slots track) ≤ 65536
+
+-- A VTOC reads in one way. The track of the format 4 is one of its run.
+abbrev pub OneVtoc : Type 0
+OneVtoc =
+    (head : Head) (slots : Slots) (pointer : Cchhr) (sliding : Bool) (a b : Vtoc) → AreShort slots a.run
+    → head.tracks ≤ 65535 → IsCchhr pointer → (one : IsVtoc head slots pointer sliding a) → (other : IsVtoc head slots pointer sliding b)
+    → (a ≡ b) × (one.bytes ≡ other.bytes)
+
+-- A unit on which a loader finds a volume is online.
+abbrev pub LoadedIsOnline : Type 0
+LoadedIsOnline =
+    (head : List ℕ) (blocks : ℕ) (slots : Slots) (unit : UnitModel) (found : Volume) → (stands : IsVolume head blocks slots false found)
+    → length (slots 0) ≤ 65536 → AreShort slots stands.vtoc.run → IsUnit false false (λ track. track) head blocks slots unit
+    → (volume : OnlineVolume) × (unit ≡ online volume) × IsOnline false (λ track. track) head blocks slots volume
+
+-- Where the VTOC of an online volume is shrunk for the data set of a row, and no other track changes, the volume has that data
+-- set with its first tracks alone.
+abbrev pub ShrinkStands : Type 0
+ShrinkStands =
+    (head : List ℕ) (blocks : ℕ) (slots later : Slots) (old : OnlineVolume) (keep : ℕ) (front back : List DataSet) (set : DataSet)
+    (rows_front rows_back : List DirectoryRow) (row : DirectoryRow)
+    → (h : IsOnline false (λ track. track) head blocks slots old)
+    → (before : HasPlainVtoc h.stands.image slots h.found.label.vtoc h.stands.vtoc) → before.stands.bytes ≡ h.stands.vtoc_stands.bytes
+    → ShrinksVtoc before later row.format_1 keep
+    → ((track : ℕ) → ¬ Holds h.stands.vtoc.run track → later track ≡ slots track)
+    → old.sets ≡ front ++ (set ∷ back)
+    → h.found.rows ≡ rows_front ++ (row ∷ rows_back) → length rows_front ≡ length front
+    → 1 ≤ keep
+    → (new : OnlineVolume) × IsOnline false (λ track. track) head blocks later new × Changes old new set (shrunk keep set)

@@ -1,0 +1,73 @@
+-- What each step changes on the volumes.
+use Rattle.std.specs.Prelude.{◌≡◌, ℕ, ◌-◌, ◌<◌, ◌≤◌, false, ◌==◌, nat_le, if◌then◌else◌, List, [], ◌∷◌, ◌++◌, length, take}
+use Rattle.free_map.specs.declared.run.Run.{Run}
+use Rattle.dsn_filter.specs.declared.dsn.Dsn.{Dsn}
+use Rattle.volume_model.specs.Unit.{Extent, DataSet, OnlineVolume, UnitModel, online, tracks_of, AreFreeRunsOf, fives_for}
+use Rattle.volume_model.specs.Pinned.{IsNameOf}
+use Rattle.move_core.specs.declared.steps.Step.{Step}
+use Rattle.move_core.specs.declared.steps.Step.TheVariants.{Shrink}
+
+-- so many tracks from the front of extents
+abbrev pub cut : ℕ → List Extent → List Extent
+cut count [] = []
+cut count (extent ∷ extents) =
+    if count == 0 then []
+    else if nat_le extent.run.len count then extent ∷ cut (count - extent.run.len) extents
+    else record { run = record { first = extent.run.first; len = count }; kind = extent.kind } ∷ []
+
+-- the format 3s that a changed data set of so many extents uses
+abbrev pub threes_for : ℕ → ℕ
+threes_for extents = if nat_le 4 extents then 1 else 0
+
+-- a data set of which only so many tracks stay
+abbrev pub shrunk : ℕ → DataSet → DataSet
+shrunk keep set = record {
+  name = set.name;
+  fields = set.fields;
+  extents = cut keep set.extents;
+  texts = take keep set.texts;
+  threes = threes_for (length (cut keep set.extents));
+}
+
+-- the format 5s of a volume are those that its free runs need
+pub record HasRightFives (volume : OnlineVolume) : Type 0 where
+  pub runs : List Run
+  pub runs_are : AreFreeRunsOf volume runs
+  pub fives_are : volume.fives ≡ fives_for (length runs)
+
+-- One data set becomes another. All else stays, but the free space is stated after each change.
+pub record Changes (before after : OnlineVolume) (old new : DataSet) : Type 0 where
+  pub front : List DataSet
+  pub back : List DataSet
+  pub old_is : before.sets ≡ front ++ (old ∷ back)
+  pub few : length new.extents ≤ 16
+  pub new_is : after ≡ record before { sets = front ++ (new ∷ back); repair = false; fives = after.fives }
+  pub fives : HasRightFives after
+
+-- a list with another element at one place
+pub record Replaces {X : Type 0} (place : ℕ) (old new : X) (before after : List X) : Type 0 where
+  pub front : List X
+  pub back : List X
+  pub long : length front ≡ place
+  pub before_is : before ≡ front ++ (old ∷ back)
+  pub after_is : after ≡ front ++ (new ∷ back)
+
+-- the tracks behind the first ones are given back
+pub record Shrinks (unit : ℕ) (name : Dsn) (keep : ℕ) (before after : List UnitModel) : Type 0 where
+  pub old : OnlineVolume
+  pub new : OnlineVolume
+  pub unit_is : Replaces unit (online old) (online new) before after
+  pub set : DataSet
+  pub name_is : IsNameOf name set.name
+  pub fewer : keep < length (tracks_of set.extents)
+  pub changes : Changes old new set (shrunk keep set)
+
+-- What a step changes. Of the steps, the shrinking of a data set is built.
+abbrev pub IsStep : Step → List UnitModel → List UnitModel → Type 0
+IsStep (Shrink unit name keep) before after = Shrinks unit name keep before after
+IsStep step before after = ⊥
+
+-- steps one after another
+abbrev pub Reaches : List UnitModel → List Step → List UnitModel → Type 0
+Reaches before [] after = after ≡ before
+Reaches before (step ∷ steps) after = (between : List UnitModel) × IsStep step before between × Reaches between steps after

@@ -1,0 +1,32 @@
+//! What holds of the units that a pool stands for, whatever reads or changes them.
+
+ghost use Rattle.move_core.specs.Laws.{KeepsMeaning, EachImageStands, OpeningStands, OpenedIsSettled, CommitStands, CommittedIsSettled};
+ghost use Rattle.move_core.specs.Shrinking.{OneVtoc, LoadedIsOnline, ShrinkStands};
+ghost use Rattle.move_core.specs.Releasing.{KeptOfTracks, ReleaseStands};
+
+/// A stop, an opening and a commit leave what a pool stands for, or what the commit makes of it.
+pub fn standing_laws()
+    ensures meaning { KeepsMeaning }
+    ensures image { EachImageStands }
+    ensures opening { OpeningStands }
+    ensures opened { OpenedIsSettled }
+    ensures commit { CommitStands }
+    ensures committed { CommittedIsSettled }
+{}
+
+/// A VTOC reads in one way, and a unit on which a loader finds a volume is online.
+pub fn online_laws()
+    ensures vtoc { OneVtoc }
+    ensures online { LoadedIsOnline }
+{}
+
+/// A VTOC that is shrunk for a data set makes its unit a volume with that data set's first tracks alone.
+pub fn shrinking_laws()
+    ensures shrink { ShrinkStands }
+{}
+
+/// The entry of a VTOC that is shrunk for a data set releases the tracks behind its first ones, and a release keeps the used ones.
+pub fn releasing_laws()
+    ensures release { ReleaseStands }
+    ensures kept { KeptOfTracks }
+{}
