@@ -1,10 +1,6 @@
--- The last line of a run, and the lines of a volume.
-use Rattle.std.proofs.Common.{◌≡◌, ◌⊎◌, ℕ, ◌+◌, ◌≤◌, List, [], ◌∷◌, length, Result, Ok, Err, refl, inl, inr, arith}
-use Rattle.std.specs.Prelude.{IfOk, OnOk, IsErr}
-use Rattle.std.proofs.lemmas.List.Sums.{sum_by-cons}
-use Rattle.free_map.specs.declared.run.Run.{Run}
-use Rattle.free_map.specs.Runs.{AreApart}
-use Rattle.free_map.specs.Free.{count_of}
+-- The last line of a run, and what a call's answer says.
+use Rattle.std.proofs.Common.{◌≡◌, ◌⊎◌, Option, Some, None, Result, Ok, Err, refl, inl, inr}
+use Rattle.std.specs.Prelude.{IfOk, OnOk, IsErr, IfNone}
 use Rattle.adr_top.specs.declared.stop.Stop.{Stop}
 use Rattle.adr_top.specs.declared.stop.Stop.TheVariants as stops
 use Rattle.adr_top.specs.Causes.{last_line}
@@ -26,7 +22,6 @@ pub if_ok : {X E : Type 0} (r : Result X E) (P Q : X → Type 0) → ((x : X) �
 if_ok (Ok x) P Q h p = h x p
 if_ok (Err e) P Q h p = tt
 
--- as many runs as tracks at most
-pub few_runs : (from : ℕ) (runs : List Run) → AreApart from runs → length runs ≤ count_of runs
-few_runs from [] h = omega arith
-few_runs from (run ∷ runs) h = omega (arith, h.1, few_runs (run.first + run.len + 1) runs h.2, sum_by-cons (λ (r : Run). r.len) run runs)
+pub if_none : {X : Type 0} (r : Option X) (Q : Type 0) → Q → IfNone r Q
+if_none None Q q = q
+if_none (Some x) Q q = tt

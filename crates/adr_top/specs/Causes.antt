@@ -1,7 +1,7 @@
 -- Why a run ends.
 use Rattle.std.specs.Prelude.{◌≡◌, ◌⊎◌, ◌≢◌, ◌==◌, if◌then◌else◌, ℕ, List, [], Option, codes}
 use Rattle.dasd_pool.specs.Count.{Rose}
-use Rattle.volume_model.specs.Sound.{Slots}
+use Rattle.dasd_pool.specs.Disk.{Image, Shape}
 use Rattle.adr_top.specs.Words.{FormatNamed, AreFormatWords}
 use Rattle.adr_top.specs.Form.{HasSomeTextForm, IsOutsideForm}
 use Rattle.adr_top.specs.Print.{status_line}
@@ -19,9 +19,9 @@ pub record HasStatusCause (status source_before source_now pool_before pool_now 
 
 -- What a status says of words, text and unit: the pool is called only where words and text are of a form, and 48 comes only where
 -- they are of none, or the unit isn't of its form.
-pub record SaysForm (status : ℕ) (words : List (List ℕ)) (text : Option (List ℕ)) (tells : Type 0) (head : List ℕ) (blocks : ℕ) (slots : Slots) : Type 0 where
+pub record SaysForm (status : ℕ) (words : List (List ℕ)) (text : Option (List ℕ)) (tells : Type 0) (shape : Shape) (contents : Image) : Type 0 where
   pub asked : status ≡ 16 → HasSomeTextForm words text ⊎ ((named : FormatNamed) × AreFormatWords words named)
-  pub outside : status ≡ 48 → IsOutsideForm words text tells head blocks slots × ((named : FormatNamed) → ¬ AreFormatWords words named)
+  pub outside : status ≡ 48 → IsOutsideForm words text tells shape contents × ((named : FormatNamed) → ¬ AreFormatWords words named)
 
 -- the last line of a run with this status, where it isn't 0, 20 or 28
 abbrev pub last_line : ℕ → List ℕ

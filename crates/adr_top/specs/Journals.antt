@@ -6,9 +6,10 @@ use Rattle.vol_label.specs.declared.serial.Serial.{Serial}
 use Rattle.vol_label.specs.Serial.{Spells}
 use Rattle.redo_core.specs.declared.fault.JournalFault.{JournalFault}
 use Rattle.redo_core.specs.declared.fault.JournalFault.TheVariants.{Pool, BadJournal, WrongUnit, JournalSmall, NoMemory}
-use Rattle.redo_core.specs.Faults.{IsFormatFault, MayFormat}
+use Rattle.redo_core.specs.Faults.{IsFormatFault, IsOpenFault, MayFormat}
 use Rattle.redo_core.specs.Opening.{IsFormatted}
-use Rattle.adr_top.specs.Words.{FormatNamed, AreFormatWords}
+use Rattle.adr_top.specs.Words.{Named, FormatNamed, AreFormatWords}
+use Rattle.adr_top.specs.Form.{HasTextForm}
 use Rattle.adr_top.specs.Print.{message, letter_i, printed, status_line}
 use Rattle.adr_top.specs.Listed.{Tells, Prints}
 
@@ -33,9 +34,13 @@ IsRefusal Pool = ⊥
 IsRefusal NoMemory = ⊥
 IsRefusal _ = Unit {0}
 
--- the one serial that the words name
+-- the one serial of a name
+abbrev pub IsOnlySerial : List ℕ → List Serial → Type 0
+IsOnlySerial name names = (text : List ℕ) × Spells name text × (names ≡ record { text = text } ∷ [])
+
+-- the one serial that the words of a format name
 abbrev pub IsOnlyName : FormatNamed → List Serial → Type 0
-IsOnlyName named names = (text : List ℕ) × Spells named.name text × (names ≡ record { text = text } ∷ [])
+IsOnlyName named names = IsOnlySerial named.name names
 
 -- The words ask for a journal, nothing stood against it, and it was made for the unit that they name.
 pub record MakesJournal (words : List (List ℕ)) (tells : Type 0) (shape : Shape) (old new : State) (line : List ℕ) : Type 0 where
@@ -58,8 +63,19 @@ pub record RefusesJournal (words : List (List ℕ)) (tells : Type 0) (shape : Sh
   pub cause : tells → IsFormatFault shape old.contents names named.room fault
   pub told : Tells before after faults_before faults_after (refusal_line fault)
 
+-- The words name a unit, whose journal is refused by the first cause when it is opened; its line was tried.
+pub record RefusesOpening (words : List (List ℕ)) (sysin : Option (List ℕ)) (tells : Type 0) (shape : Shape) (old : State) (before after : Option (List ℕ)) (faults_before faults_after : ℕ) : Type 0 where
+  pub named : Named
+  pub asked : HasTextForm words sysin named
+  pub names : List Serial
+  pub names_are : IsOnlySerial named.name names
+  pub fault : JournalFault
+  pub is_refusal : IsRefusal fault
+  pub cause : tells → IsOpenFault shape old.contents names fault
+  pub told : Tells before after faults_before faults_after (refusal_line fault)
+
 -- What a run does that ends well, before its text is written: it lists a volume, or makes a journal. So much is taken of the text.
 abbrev pub Does : List (List ℕ) → Option (List ℕ) → Type 0 → Shape → State → State → (List ℕ → Type 0) → Type 0
 Does words sysin tells shape old new Taken =
-    ((text : List ℕ) × Prints words sysin tells (shape.head 0) (shape.blocks 0) (old.contents 0) text × Taken text)
+    ((text : List ℕ) × Prints words sysin tells shape old.contents text × Taken text)
     ⊎ ((line : List ℕ) × MakesJournal words tells shape old new line × Taken line)

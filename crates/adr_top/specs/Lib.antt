@@ -2,9 +2,9 @@ pub mod Print
 pub mod Words
 pub mod Parts
 pub mod Form
-pub mod BareTrack
 pub mod Loaded
 pub mod Causes
 pub mod Stops
 pub mod Listed
 pub mod Journals
+pub mod AsLoaded

@@ -1,6 +1,5 @@
--- What is read of a unit that has the form.
-use Rattle.std.specs.Prelude.{◌≡◌, ℕ, List, []}
-use Rattle.free_map.specs.declared.run.Run.{Run}
+-- What is read of a unit.
+use Rattle.std.specs.Prelude.{◌≡◌, ℕ, ◌≤◌, List, length}
 use Rattle.ckd_image.specs.declared.device.Device.TheVariants.{D3390}
 use Rattle.ckd_image.specs.declared.head.Head.{Head}
 use Rattle.ckd_image.specs.declared.track.Track.{Track}
@@ -8,34 +7,29 @@ use Rattle.ckd_image.specs.Head.{IsHead}
 use Rattle.ckd_image.specs.Track.{IsTrackText}
 use Rattle.vol_label.specs.declared.label.Label.{Label}
 use Rattle.vol_label.specs.Label.{IsLabel}
-use Rattle.volume_model.specs.Space.{track_at, entries_of}
-use Rattle.volume_model.specs.Sound.{Slots, Volume}
-use Rattle.adr_top.specs.Form.{IsBareUnit}
-use Rattle.adr_top.specs.BareTrack.{IsBareTrack, IsBareSpace, end_in, vtoc_run}
+use Rattle.volume_model.specs.Space.{track_at}
+use Rattle.volume_model.specs.Sound.{Slots}
+use Rattle.vtoc_core.specs.Loaded.{IsLoaded}
+use Rattle.adr_top.specs.declared.load.Loaded.{Loaded}
+
+-- a label with this serial stands in the slot of track 0
+pub record IsLabelAt (text : List ℕ) (image : Head) (slot : List ℕ) (label : Label) : Type 0 where
+  pub track_0 : Track
+  pub stands : IsTrackText (record { cylinder = 0; head = 0 }) slot track_0
+  pub label_stands : IsLabel image track_0.recs label
+  pub serial : label.serial.text ≡ text
 
 -- head and track 0 of a unit: a 3390, and a label with this serial
 pub record IsFront (text head : List ℕ) (blocks : ℕ) (slots : Slots) (image : Head) (label : Label) : Type 0 where
   pub device : image.device ≡ D3390
   pub tracks : image.tracks ≡ blocks
   pub head_stands : IsHead head blocks image.device
-  pub track_0 : Track
-  pub stands : IsTrackText (record { cylinder = 0; head = 0 }) (slots 0) track_0
-  pub label_stands : IsLabel image track_0.recs label
-  pub serial : label.serial.text ≡ text
+  pub labelled : IsLabelAt text image (slots 0) label
 
--- the track that the label's pointer names holds the VTOC
-pub record IsBack (slots : Slots) (image : Head) (label : Label) (track : Track) (four five : List ℕ) : Type 0 where
-  pub stands : IsTrackText label.vtoc.at (slots (track_at 15 label.vtoc.at)) track
-  pub vtoc : IsBareTrack track.recs label.vtoc image.tracks four five
-
--- the usable tracks and the free ones
-abbrev pub IsSpaceOf : Head → Label → List ℕ → List ℕ → ℕ → List Run → Type 0
-IsSpaceOf image label four five usable free = IsBareSpace (end_in four image.tracks) (vtoc_run label.vtoc) (entries_of 15 five) usable free
-
--- a volume of the form with so many usable tracks and these free ones, and no data set
-pub record IsVolumeWith (name head : List ℕ) (blocks : ℕ) (slots : Slots) (usable : ℕ) (free : List Run) : Type 0 where
-  pub volume : Volume
-  pub stands : IsBareUnit name head blocks slots volume
-  pub usable_is : volume.usable ≡ usable
-  pub free_are : volume.free ≡ free
-  pub no_rows : volume.rows ≡ []
+-- a unit as it was read: its head and label, the slot of its VTOC's track, and its volume
+pub record IsLoadedUnit (text head : List ℕ) (blocks : ℕ) (slots : Slots) (loaded : Loaded) : Type 0 where
+  pub front : IsFront text head blocks slots loaded.head loaded.label
+  pub slot_is : loaded.slot.items ≡ slots (track_at 15 loaded.label.vtoc.at)
+  pub short : length (slots 0) ≤ 65536
+  pub short_vtoc : length loaded.slot.items ≤ 65536
+  pub volume : IsLoaded loaded.head loaded.label slots loaded.volume

@@ -36,11 +36,10 @@ IsTextStop before now outside stops.Memory = ⊥
 IsTextStop before now outside stops.Words = ⊥
 IsTextStop before now outside stops.Form = outside
 
--- Why a run ends that was begun: a count rose, memory ran out, or something isn't of the form. The pool is called only where
--- words and text are.
-abbrev pub IsStop : ℕ → ℕ → ℕ → ℕ → Type 0 → Type 0 → Stop → Type 0
-IsStop source_before source_now pool_before pool_now asked outside stops.Pool = asked × Rose pool_before pool_now
-IsStop source_before source_now pool_before pool_now asked outside stops.Sysin = Rose source_before source_now
-IsStop source_before source_now pool_before pool_now asked outside stops.Memory = Unit {0}
-IsStop source_before source_now pool_before pool_now asked outside stops.Words = ⊥
-IsStop source_before source_now pool_before pool_now asked outside stops.Form = outside
+-- while a unit is listed: the pool's count rose, memory ran out, or the unit isn't of the form
+abbrev pub IsListStop : ℕ → ℕ → Type 0 → Stop → Type 0
+IsListStop before now other stops.Pool = Rose before now
+IsListStop before now other stops.Sysin = ⊥
+IsListStop before now other stops.Memory = Unit {0}
+IsListStop before now other stops.Words = ⊥
+IsListStop before now other stops.Form = other

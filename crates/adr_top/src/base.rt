@@ -22,6 +22,8 @@ pub(crate) struct Vtoc {
     pub five: u8,
     /// The entries of the format 5: a track, and how many from it on.
     pub entries: &'static [(u8, u8)],
+    /// Whether record 3 is the data set A.B on tracks 2 to 11, of which three are used.
+    pub set: bool,
 }
 
 /// The VTOC of a volume without data sets.
@@ -31,6 +33,7 @@ pub(crate) const BASE: Vtoc = Vtoc {
     four: 1,
     five: 2,
     entries: &[(2, 13)],
+    set: false,
 };
 
 /// Adds a record to a track of cylinder 0. Its lengths are below 256.
@@ -100,6 +103,27 @@ fn format_5_key(vtoc: Vtoc) -> [u8; 44] {
     key
 }
 
+/// The name A.B.
+fn set_name() -> [u8; 44] {
+    let mut key = [0x40; 44];
+    key[..3].copy_from_slice(&[0xc1, 0x4b, 0xc2]);
+    key
+}
+
+/// The data of its format 1: PS, with one extent of tracks, and the last block.
+fn format_1() -> [u8; 96] {
+    let mut body = [0; 96];
+    body[0] = 0xf1;
+    body[15] = 1; // extents
+    body[38] = 0x40; // organization
+    body[55] = 2; // the last block's track, counted from the first
+    body[56] = 3; // and its record
+    body[61] = 1; // kind of the extent
+    body[66] = 2; // its first head
+    body[70] = 11; // its last head
+    body
+}
+
 /// The track of the VTOC.
 pub(crate) fn vtoc_slot(rt: &HostRuntime, vtoc: Vtoc) -> Result<Vec<u8>, Fail> {
     let mut track = new_track(rt, vtoc.head)?;
@@ -110,6 +134,8 @@ pub(crate) fn vtoc_slot(rt: &HostRuntime, vtoc: Vtoc) -> Result<Vec<u8>, Fail> {
             push_record(&mut track, vtoc.head, r, &[4; 44], &format_4(vtoc))?;
         } else if r == vtoc.five {
             push_record(&mut track, vtoc.head, r, &format_5_key(vtoc), &format_5)?;
+        } else if vtoc.set && r == 3 {
+            push_record(&mut track, vtoc.head, r, &set_name(), &format_1())?;
         } else {
             push_record(&mut track, vtoc.head, r, &[0; 44], &[0; 96])?;
         }

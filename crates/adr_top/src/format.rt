@@ -11,6 +11,7 @@ ghost use Rattle.adr_top.specs.Listed.{Tells};
 ghost use Rattle.adr_top.specs.Parts.{format_named_by, fault_line, fault_status, Formats};
 ghost use Rattle.adr_top.specs.Words.{AreFormatWords};
 
+use crate::left::Left;
 use crate::line::Line;
 use crate::stop::{Stop, tell};
 use crate::stream::write_all;
@@ -19,13 +20,6 @@ use dasd_pool::{Pool, Sink};
 use redo_core::{Journal, JournalFault};
 use std::alloc::Global;
 use vol_label::Serial;
-
-/// What is left of a run that made a journal, or tried to.
-#[derive(Drop)]
-pub(crate) struct Formatted<P> {
-    pub pool: P,
-    pub status: u8,
-}
 
 /// The line of a journal for one volume that was made.
 fn format_text(room: u32) -> Line
@@ -99,8 +93,8 @@ fn refusal_text(fault: JournalFault) -> Line
     line
 }
 
-/// Tries to write the last line of a run whose journal isn't made, and gives its status.
-fn tell_fault<O: Sink>(out: &mut O, fault: JournalFault) -> u8
+/// Tries to write the last line of a run whose journal isn't made or opened, and gives its status.
+pub(crate) fn tell_fault<O: Sink>(out: &mut O, fault: JournalFault) -> u8
     ensures status { result ≡ fault_status fault }
     ensures told { Tells (O.taken out.old) (O.taken out.new) (O.faults out.old) (O.faults out.new) (fault_line fault) }
     ensures later { O.faults out.old ≤ O.faults out.new }
@@ -135,7 +129,7 @@ pub(crate) fn make_journal<O: Sink, P: Pool>(
     parts: FormatWords<'_>,
     out: &mut O,
     pool: P,
-) -> Formatted<P>
+) -> Left<P>
     requires units { (P.shape pool).units ≡ 2 }
     requires serial { IsSerialName parts.files.name.now × Spells parts.files.name.now parts.files.serial.text }
     requires room { (3 ≤ parts.room) × (parts.room ≤ 8191) }
@@ -149,11 +143,11 @@ pub(crate) fn make_journal<O: Sink, P: Pool>(
     match Journal::format(alloc, pool, &[parts.files.serial], parts.room) {
         Ok(pool) => {
             let status = tell_made(out, parts.room);
-            Formatted { pool, status }
+            Left { pool, status }
         }
         Err(stop) => {
             let status = tell_fault(out, stop.cause);
-            Formatted {
+            Left {
                 pool: stop.pool,
                 status,
             }

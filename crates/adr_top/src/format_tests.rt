@@ -15,7 +15,7 @@ const FORMATTED: &str = "ADR104I (000) JOURNAL FORMATTED UNITS 1 ROOM 64\n";
 const BLOCK: usize = 65_536;
 
 /// A byte of blocks, and what it is in place of zero.
-type Change = (usize, u8);
+pub(crate) type Change = (usize, u8);
 
 /// A registration that stands, and an open gate.
 const IN_USE: [Change; 9] = [
@@ -85,7 +85,11 @@ const CASES: [Case; 5] = [
 ];
 
 /// A journal of so many blocks, of which these bytes aren't zero.
-fn journal(rt: &HostRuntime, blocks: usize, changes: &[Change]) -> Result<UnitText, Fail> {
+pub(crate) fn journal(
+    rt: &HostRuntime,
+    blocks: usize,
+    changes: &[Change],
+) -> Result<UnitText, Fail> {
     let mut bytes = Vec::new(rt.alloc());
     bytes.resize(blocks.min(100) * BLOCK, 0)?;
     for (place, byte) in changes {

@@ -1,20 +1,21 @@
 //! One run of `adrdssu`: words and text in, lines and a status out (DFSMSdss Storage Administration).
 #![tactic(auto)]
 
-mod bare;
 mod format;
+mod left;
 mod line;
+mod listing;
 mod lists;
 mod load;
+mod names;
 mod print;
 mod runner;
-mod space;
-pub mod steps;
 mod stop;
 mod stream;
 mod words;
 
-pub use lists::{Day, DdName, InDd, OutDd, OutState};
+pub use lists::{Day, InDd, OutDd, OutState};
+pub use move_core::{DdName, Dsn, Origin, Runs, Step};
 pub use runner::{Ended, batch};
 pub use words::{DdPaths, Run, UnitPaths, WordsFault, read_words};
 
@@ -24,5 +25,7 @@ mod base;
 mod base_tests;
 #[cfg(test)]
 mod format_tests;
+#[cfg(test)]
+mod print_tests;
 #[cfg(test)]
 mod tests;

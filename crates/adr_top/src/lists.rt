@@ -2,13 +2,7 @@
 
 pub use by_rules::Day;
 use dasd_pool::{Medium, Reel};
-
-/// A DD name in ASCII: its characters, and zeros behind them.
-#[derive(Clone, Copy, Debug, PartialEq, Eq)]
-pub struct DdName {
-    pub len: u8,
-    pub text: [u8; 8],
-}
+use move_core::DdName;
 
 /// What became of an output.
 #[derive(Clone, Copy, Debug, PartialEq, Eq)]

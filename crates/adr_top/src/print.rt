@@ -2,18 +2,14 @@
 
 ghost use Rattle.std.specs.Prelude.{◌≡◌, ◌++◌, ◌∷◌, [], IfOk, OnOk, OnErr, string_bytes, codes};
 ghost use Rattle.std.specs.Fmt.{decimal};
-ghost use Rattle.adr_top.specs.Print.{three, message};
+ghost use Rattle.vol_label.specs.Serial.{IsSerialName};
+ghost use Rattle.volume_model.specs.Sound.{Volume as ShownVolume};
+ghost use Rattle.adr_top.specs.Print.{printed_run};
+ghost use Rattle.adr_top.specs.AsLoaded.{IsListedAs, space_line};
 
+use crate::listing::push_rows;
 use std::alloc::{AllocError, Global};
-
-/// The numbers of a volume's line.
-#[derive(Clone, Copy, Debug)]
-pub(crate) struct SpaceNumbers {
-    pub usable: u32,
-    pub free: u32,
-    pub runs: u32,
-    pub index: u32,
-}
+use vtoc_core::Volume;
 
 /// How many tracks are usable, and how many of them free.
 fn tracks_text(alloc: Global, usable: u32, free: u32) -> Result<String, AllocError>
@@ -23,33 +19,37 @@ fn tracks_text(alloc: Global, usable: u32, free: u32) -> Result<String, AllocErr
 }
 
 /// How many free runs there are, and their fragmentation index.
-fn runs_text(alloc: Global, runs: u32, index: u32) -> Result<String, AllocError>
+fn runs_text(alloc: Global, runs: usize, index: u32) -> Result<String, AllocError>
     ensures { IfOk result (λ text. string_bytes text ≡ codes " IN " ++ (decimal runs ++ (codes " RUNS INDEX " ++ decimal index))) }
 {
     format!(in alloc; " IN {runs} RUNS INDEX {index}")
 }
 
-/// The four lines of a run that lists one volume without data sets.
-pub(crate) fn run_text(
-    alloc: Global,
-    serial: &str,
-    device: &str,
-    numbers: SpaceNumbers,
-) -> Result<String, AllocError>
-    ensures { IfOk result (λ text. string_bytes text ≡
-        ((((((codes "ADR101I (001) PRINT STARTED\nADR110I (001) VOLUME " ++ serial.now) ++ codes " ") ++ device.now)
-        ++ (codes " USABLE " ++ (decimal numbers.usable ++ (codes " FREE " ++ decimal numbers.free))))
-        ++ (codes " IN " ++ (decimal numbers.runs ++ (codes " RUNS INDEX " ++ decimal numbers.index))))
-        ++ codes "\nADR102I (001) PRINT ENDED CODE 0\nADR103I (000) MAXIMUM CODE 0\n")) }
+/// The line of a 3390 whose serial has this name.
+fn volume_line(alloc: Global, name: &str, volume: &Volume) -> Result<String, AllocError>
+    ensures { IfOk result (λ text. string_bytes text ≡ space_line name.now volume.now.usable volume.now.free.runs) }
 {
-    let tracks = tracks_text(alloc, numbers.usable, numbers.free)?;
-    let runs = runs_text(alloc, numbers.runs, numbers.index)?;
-    let mut text = String::from_str(alloc, "ADR101I (001) PRINT STARTED\nADR110I (001) VOLUME ")?;
-    text.push_str(serial)?;
-    text.push_str(" ")?;
-    text.push_str(device)?;
+    let free = &volume.free;
+    let tracks = tracks_text(alloc, volume.usable, free.count())?;
+    let runs = runs_text(alloc, free.runs().len(), free.index())?;
+    let mut text = String::from_str(alloc, "ADR110I (001) VOLUME ")?;
+    text.push_str(name)?;
+    text.push_str(" 3390")?;
     text.push_str(tracks.as_str())?;
     text.push_str(runs.as_str())?;
-    text.push_str("\nADR102I (001) PRINT ENDED CODE 0\nADR103I (000) MAXIMUM CODE 0\n")?;
+    text.push_str("\n")?;
+    Ok(text)
+}
+
+/// The lines of a run that lists a 3390 with its data sets, where the serial has this name.
+pub(crate) fn listing_text(alloc: Global, name: &str, volume: &Volume) -> Result<String, AllocError>
+    requires { IsSerialName name.now }
+    ensures { IfOk result (λ text. (shown : ShownVolume) → IsListedAs name.now volume.now shown → string_bytes text ≡ printed_run shown) }
+{
+    let line = volume_line(alloc, name, volume)?;
+    let mut text = String::from_str(alloc, "ADR101I (001) PRINT STARTED\n")?;
+    text.push_str(line.as_str())?;
+    push_rows(alloc, &mut text, volume.rows.as_slice())?;
+    text.push_str("ADR102I (001) PRINT ENDED CODE 0\nADR103I (000) MAXIMUM CODE 0\n")?;
     Ok(text)
 }

@@ -1,5 +1,6 @@
 use super::*;
 use crate::base::{BASE, SLOT, Vtoc, label_slot, vtoc_slot};
+use crate::format_tests::{Change, journal};
 use ckd_image::{Bytes, Word};
 use dasd_pool::{MemoryPool, MemorySink, MemorySource, UnitText};
 use std::test::*;
@@ -90,22 +91,33 @@ pub(crate) fn volume(rt: &HostRuntime, given: Given) -> Result<UnitText, Fail> {
     Ok(UnitText { head, blocks })
 }
 
-fn journal(rt: &HostRuntime) -> UnitText {
-    let mut head = [0; 512];
-    head[..8].copy_from_slice(b"ADRJRNL1");
-    head[14] = 1;
-    UnitText {
-        head,
-        blocks: Bytes::new(rt.alloc()),
-    }
-}
+/// A registration of VOL001 with room 3.
+const REGISTERED: [Change; 16] = [
+    (0, b'A'),
+    (1, b'D'),
+    (2, b'R'),
+    (3, b'R'),
+    (4, b'E'),
+    (5, b'G'),
+    (6, b'0'),
+    (7, b'1'),
+    (11, 1),
+    (15, 3),
+    (16, 0xe5),
+    (17, 0xd6),
+    (18, 0xd3),
+    (19, 0xf0),
+    (20, 0xf0),
+    (21, 0xf1),
+];
 
-/// The status of a run of these words and this text over a volume, and the lines that it wrote.
-fn ends(
+/// The status of a run of these words and this text over a volume and a journal, and the lines that it wrote.
+fn ends_over(
     rt: &HostRuntime,
     words: &[&str],
     text: &[u8],
     given: Given,
+    registered: &[Change],
     failing: Failing,
 ) -> Result<(u8, Vec<u8>), Fail> {
     let alloc = rt.alloc();
@@ -122,8 +134,8 @@ fn ends(
     }
     let mut units = Vec::new(alloc);
     units.push(volume(rt, given)?)?;
-    units.push(journal(rt))?;
-    let pool = MemoryPool::new(alloc, units, first(failing.pool)?, 8)?;
+    units.push(journal(rt, 7, registered)?)?;
+    let pool = MemoryPool::new(alloc, units, first(failing.pool)?, 0)?;
     let mut sysin = MemorySource::new(Bytes::from_slice(alloc, text)?, first(failing.sysin)?);
     let mut held = MemorySource::new(Bytes::new(alloc), Vec::new(alloc));
     let mut out = MemorySink::new(alloc, 1000, first(failing.out)?)?;
@@ -134,12 +146,66 @@ fn ends(
     Ok((ended.status, out.text().to_vec(alloc)?))
 }
 
+/// The same over a journal that is registered for it.
+fn ends(
+    rt: &HostRuntime,
+    words: &[&str],
+    text: &[u8],
+    given: Given,
+    failing: Failing,
+) -> Result<(u8, Vec<u8>), Fail> {
+    ends_over(rt, words, text, given, &REGISTERED, failing)
+}
+
 #[test]
 fn a_volume_without_data_sets_is_listed(rt: HostRuntime) -> Result<(), Fail> {
     for text in [TEXT, b" PRINT VTOC INDDNAME(VOL001)"] {
         let (status, lines) = ends(&rt, &WORDS, text, GIVEN, NONE)?;
         assert_eq!(rt; status, 0);
         assert_eq!(rt; lines.as_slice(), LISTING.as_bytes());
+    }
+    Ok(())
+}
+
+const LISTING_OF_SET: &str = "ADR101I (001) PRINT STARTED
+ADR110I (001) VOLUME VOL001 3390 USABLE 15 FREE 3 IN 1 RUNS INDEX 0
+ADR111I (001) A.B PS EXTENTS 1 TRACKS 10 LAST 000203
+ADR112I (001) EXTENT 1 KIND 01 FROM 2 LENGTH 10
+ADR102I (001) PRINT ENDED CODE 0
+ADR103I (000) MAXIMUM CODE 0
+";
+
+#[test]
+fn a_volume_with_a_data_set_is_listed(rt: HostRuntime) -> Result<(), Fail> {
+    let vtoc = Vtoc {
+        set: true,
+        entries: &[(12, 3)],
+        ..BASE
+    };
+    let (status, lines) = ends(&rt, &WORDS, TEXT, Given { vtoc, ..GIVEN }, NONE)?;
+    assert_eq!(rt; status, 0);
+    assert_eq!(rt; lines.as_slice(), LISTING_OF_SET.as_bytes());
+    Ok(())
+}
+
+#[test]
+fn a_journal_that_is_not_of_the_volume_is_refused(rt: HostRuntime) -> Result<(), Fail> {
+    let cases: [(Given, &[Change], &str); 2] = [
+        (
+            with(&[(234, 0xf9)]),
+            &REGISTERED,
+            "ADR520T (000) RUN ENDED WITH STATUS 20: UNIT 0 SERIAL VOL001 FOUND VOL009\n",
+        ),
+        (
+            GIVEN,
+            &[],
+            "ADR520T (000) RUN ENDED WITH STATUS 20: JOURNAL 2\n",
+        ),
+    ];
+    for (given, registered, want) in cases {
+        let (status, lines) = ends_over(&rt, &WORDS, TEXT, given, registered, NONE)?;
+        assert_eq!(rt; status, 20);
+        assert_eq!(rt; lines.as_slice(), want.as_bytes());
     }
     Ok(())
 }
@@ -168,6 +234,7 @@ fn each_volume_of_the_form_is_listed_with_its_free_space(rt: HostRuntime) -> Res
                 four: 3,
                 five: 1,
                 entries: &[(6, 9), (1, 4)],
+                set: false,
             },
             b"ADR110I (001) VOLUME VOL001 3390 USABLE 15 FREE 13 IN 2 RUNS INDEX 308",
         ),
@@ -291,7 +358,6 @@ fn other_heads_and_labels_are_refused_with_one_line(rt: HostRuntime) -> Result<(
         with_head(&[(16, 0x80), (13, 0xba)]), // a 3380
         with(&[(4, 1)]), // track 0 at another address
         with(&[(221, 0)]), // the label's key
-        with(&[(234, 0xf2)]), // its serial
         with(&[(239, 2)]), // its pointer to a track without records
         with(&[(239, 0)]), // to track 0
         with(&[(240, 3)]), // to a free record
@@ -315,7 +381,6 @@ fn other_vtocs_are_refused_with_one_line(rt: HostRuntime) -> Result<(), Fail> {
         with(&[(FOUR + 114, 2)]), // two tracks
         with(&[(FIVE + 44, 0)]), // no format 5, and bytes that are none
         with(&[(FIVE + 139, 1)]), // a pointer
-        with(&[(THIRD + 44, 0xf1)]), // a data set
         with(&[(THIRD + 139, 1)]), // a record that is no DSCB
         with(&[(FIVE + 5, 1), (FIVE + 8, 14)]), // the VTOC is stated free
         with(&[(FIVE + 5, 3), (FIVE + 8, 12)]), // track 2 is neither used nor free

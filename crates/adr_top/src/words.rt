@@ -6,9 +6,9 @@ ghost use Rattle.adr_top.specs.Words.{Named, FormatNamed, AreUnitWords, AreForma
 ghost use Rattle.adr_top.specs.Parts.{NameFiles, named_by, format_named_by};
 ghost use Rattle.adr_top.specs.declared.words.WordsFault.TheVariants as faults;
 
-use crate::lists::DdName;
 use by_rules::number_of;
 use ckd_image::{Listed, NoMemory, Word};
+use move_core::DdName;
 use std::alloc::Global;
 use thiserror::Error;
 use vol_label::Serial;

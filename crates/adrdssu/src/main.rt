@@ -26,24 +26,24 @@ fn words(rt: &HostRuntime) -> io::Result<Vec<Word>> {
     Ok(words)
 }
 
-/// Opens volumes for reading, or for reading and writing.
-fn open_volumes(rt: &HostRuntime, units: &UnitPaths, writes: bool) -> io::Result<FilePool<File>> {
+/// Opens volumes for reading and writing.
+fn open_volumes(rt: &HostRuntime, units: &UnitPaths) -> io::Result<FilePool<File>> {
     let mut pool = FilePool::new(rt.alloc());
     for (_, path) in units.as_slice() {
-        pool.add(options(writes).open(rt, path.as_str())?)?;
+        pool.add(options().open(rt, path.as_str())?)?;
     }
     Ok(pool)
 }
 
-fn options(writes: bool) -> OpenOptions {
+fn options() -> OpenOptions {
     let mut options = File::options();
-    options.read(true).write(writes);
+    options.read(true).write(true);
     options
 }
 
 /// Makes a file for a journal with so much room: its head, and blocks of zeros.
 fn new_journal(rt: &HostRuntime, path: &str, room: u32) -> io::Result<File> {
-    let mut file = options(true).create_new(true).open(rt, path)?;
+    let mut file = options().create_new(true).open(rt, path)?;
     file.write_all(&journal_head())?;
     file.set_len(512 + (4 + u64::from(room)) * 65_536)?;
     Ok(file)
@@ -51,7 +51,7 @@ fn new_journal(rt: &HostRuntime, path: &str, room: u32) -> io::Result<File> {
 
 /// Opens the file for a journal, and makes one where there is none.
 fn journal_file(rt: &HostRuntime, path: &str, room: u32) -> io::Result<File> {
-    match options(true).open(rt, path) {
+    match options().open(rt, path) {
         Err(error) if error.kind() == io::ErrorKind::NotFound => new_journal(rt, path, room),
         opened => opened,
     }
@@ -92,7 +92,7 @@ fn refuse(rt: &HostRuntime, words: &[Word]) -> u8 {
     run(rt, words, FilePool::new(alloc), no_text(alloc))
 }
 
-/// Runs the text of a file over volumes, which are only read.
+/// Runs the text of a file over volumes.
 fn run_jobs(
     rt: &HostRuntime,
     words: &[Word],
@@ -100,8 +100,8 @@ fn run_jobs(
     journal: Word,
     sysin: Word,
 ) -> io::Result<u8> {
-    let mut pool = open_volumes(rt, &units, false)?;
-    pool.add(options(false).open(rt, journal.as_str())?)?;
+    let mut pool = open_volumes(rt, &units)?;
+    pool.add(options().open(rt, journal.as_str())?)?;
     let sysin = FileSource::new(File::open(rt, sysin.as_str())?);
     Ok(run(rt, words, pool, sysin))
 }
@@ -114,7 +114,7 @@ fn run_format(
     journal: Word,
     room: u32,
 ) -> io::Result<u8> {
-    let mut pool = open_volumes(rt, &units, true)?;
+    let mut pool = open_volumes(rt, &units)?;
     pool.add(journal_file(rt, journal.as_str(), room)?)?;
     Ok(run(rt, words, pool, no_text(rt.alloc())))
 }

@@ -1,46 +1,46 @@
-use Rattle.std.proofs.Common.{ap}
-use Rattle.dasd_pool.specs.Disk.{State}
-use Rattle.adr_top.proofs.Loads.{no_front, IsBegun, no_text, IsOnTrack, no_vtoc, not_stated, is_volume, match_map}
+use Rattle.std.proofs.Common.{sym, ap, ◌∙◌}
+use Rattle.dasd_pool.specs.Disk.{State, none}
+use Rattle.dasd_pool.specs.Moments.{runs_then}
+use Rattle.volume_model.specs.Sound.{Slots}
+use Rattle.adr_top.proofs.Loads.{no_front, no_vtoc, read_slot_is}
 use Rattle.adr_top.proofs.load.load.Goals as goal
 
-pub returns-in_default-clause-volume : goal.returns-in_default-clause-volume
-returns-in_default-clause-volume g c = λ told name spelled.
-    no_front name c.args.serial.text ((g.P.Pool.shape c.args.pool.now).head 0) ((g.P.Pool.shape c.args.pool.now).blocks 0) ((g.P.Pool.disk c.args.pool.now).state.contents 0) spelled
+pub returns-in_default-clause-unit : goal.returns-in_default-clause-unit
+returns-in_default-clause-unit g c = λ told name spelled.
+    no_front name c.args.serial.text ((g.P.Pool.shape c.args.journal.now.pool).head 0) ((g.P.Pool.shape c.args.journal.now.pool).blocks 0) ((g.P.Pool.disk c.args.journal.now.pool).state.contents 0) spelled
     (rw c.in_default.is at (c.in_ok-front.ensures.front told))
 
-pub returns-in_default-2-clause-volume : goal.returns-in_default-2-clause-volume
-returns-in_default-2-clause-volume g c = λ told name spelled.
-    let slots = (g.P.Pool.disk c.args.pool.now).state.contents 0 in
-    let later = (g.P.Pool.disk c.load_front.new.pool).state.contents 0 in
-    let front = rw c.in-Some.is at (c.in_ok-front.ensures.front told) in
-    let begun : IsBegun c.args.serial.text ((g.P.Pool.shape c.args.pool.now).head 0) ((g.P.Pool.shape c.args.pool.now).blocks 0) slots later c.in-Some.front.head c.in-Some.front.label c.track_number-track.result =
-    record { short = front.0; front = front.1; same = ap (λ (s : State). s.contents 0) (c.in_ok-front.ensures.same told); number_is = c.track_number-track.ensures } in
-    no_text name c.args.serial.text ((g.P.Pool.shape c.args.pool.now).head 0) ((g.P.Pool.shape c.args.pool.now).blocks 0) slots later c.in-Some.front.head c.in-Some.front.label c.track_number-track.result spelled begun
-    (rw c.in_default-2.is at (c.in_ok-text.ensures.read told))
+pub returns-in_err-volume-clause-runs : goal.returns-in_err-volume-clause-runs
+returns-in_err-volume-clause-runs g c = λ told.
+    runs_then none none none (g.P.Pool.disk c.args.journal.now.pool) (g.P.Pool.disk c.load_front.new.journal.pool) (g.P.Pool.disk c.read_slot.new.journal.pool) (λ u b apart. apart) (λ u b apart. apart)
+    (c.load_front.ensures.runs told) (c.read_slot.ensures.runs told)
 
-pub returns-in_default-bare_vtoc-clause-volume : goal.returns-in_default-bare_vtoc-clause-volume
-returns-in_default-bare_vtoc-clause-volume g c = λ told name spelled.
-    let slots = (g.P.Pool.disk c.args.pool.now).state.contents 0 in
-    let later = (g.P.Pool.disk c.load_front.new.pool).state.contents 0 in
-    let front = rw c.in-Some.is at (c.in_ok-front.ensures.front told) in
-    let begun : IsBegun c.args.serial.text ((g.P.Pool.shape c.args.pool.now).head 0) ((g.P.Pool.shape c.args.pool.now).blocks 0) slots later c.in-Some.front.head c.in-Some.front.label c.track_number-track.result =
-    record { short = front.0; front = front.1; same = ap (λ (s : State). s.contents 0) (c.in_ok-front.ensures.same told); number_is = c.track_number-track.ensures } in
-    let track : IsOnTrack later c.in-Some.front.label c.track_number-track.result c.in-Some-2.text = record { short = c.in_ok-text.ensures.short told; stands = rw c.in-Some-2.is at (c.in_ok-text.ensures.read told) } in
-    no_vtoc name c.args.serial.text ((g.P.Pool.shape c.args.pool.now).head 0) ((g.P.Pool.shape c.args.pool.now).blocks 0) slots later c.in-Some.front.head c.in-Some.front.label c.track_number-track.result c.in-Some-2.text
-    spelled begun track c.in_default-bare_vtoc.ensures.none
+pub returns-in_default-2-clause-runs : goal.returns-in_default-2-clause-runs
+returns-in_default-2-clause-runs g c = λ told.
+    runs_then none none none (g.P.Pool.disk c.args.journal.now.pool) (g.P.Pool.disk c.load_front.new.journal.pool) (g.P.Pool.disk c.read_slot.new.journal.pool) (λ u b apart. apart) (λ u b apart. apart)
+    (c.load_front.ensures.runs told) (c.read_slot.ensures.runs told)
 
-pub returns-clause-volume : goal.returns-clause-volume
-returns-clause-volume g c = λ told.
-    let slots = (g.P.Pool.disk c.args.pool.now).state.contents 0 in
-    let later = (g.P.Pool.disk c.load_front.new.pool).state.contents 0 in
+pub returns-in_default-2-clause-unit : goal.returns-in_default-2-clause-unit
+returns-in_default-2-clause-unit g c = λ told name spelled.
+    let slots : Slots = (g.P.Pool.disk c.args.journal.now.pool).state.contents 0 in
+    let later : Slots = (g.P.Pool.disk c.load_front.new.journal.pool).state.contents 0 in
     let front = rw c.in-Some.is at (c.in_ok-front.ensures.front told) in
-    let begun : IsBegun c.args.serial.text ((g.P.Pool.shape c.args.pool.now).head 0) ((g.P.Pool.shape c.args.pool.now).blocks 0) slots later c.in-Some.front.head c.in-Some.front.label c.track_number-track.result =
-    record { short = front.0; front = front.1; same = ap (λ (s : State). s.contents 0) (c.in_ok-front.ensures.same told); number_is = c.track_number-track.ensures } in
-    let track : IsOnTrack later c.in-Some.front.label c.track_number-track.result c.in-Some-2.text = record { short = c.in_ok-text.ensures.short told; stands = rw c.in-Some-2.is at (c.in_ok-text.ensures.read told) } in
-    match_map c.in_ok-bare_space.field-0 _ _ _ _
-    (λ none name spelled. not_stated name c.args.serial.text ((g.P.Pool.shape c.args.pool.now).head 0) ((g.P.Pool.shape c.args.pool.now).blocks 0) slots later c.in-Some.front.head c.in-Some.front.label
-    c.track_number-track.result c.volume_end-limit.result c.in-Some-2.text c.in-Some-bare_vtoc.vtoc.four c.in-Some-bare_vtoc.vtoc.five spelled begun track c.in-Some-bare_vtoc.ensures.found c.volume_end-limit.ensures none)
-    (λ space stands name spelled. is_volume name c.args.serial.text ((g.P.Pool.shape c.args.pool.now).head 0) ((g.P.Pool.shape c.args.pool.now).blocks 0) slots later c.in-Some.front.head c.in-Some.front.label
-    c.track_number-track.result c.volume_end-limit.result c.in-Some-2.text c.in-Some-bare_vtoc.vtoc.four c.in-Some-bare_vtoc.vtoc.five space.usable space.free.runs spelled begun track c.in-Some-bare_vtoc.ensures.found
-    c.volume_end-limit.ensures stands)
-    c.in_ok-bare_space.ensures
+    let slot = read_slot_is slots later c.in-Some.front.label c.in-Some.front.head.device c.track_number-track.result c.deref.result.now front.1.device c.track_number-track.ensures
+    (ap (λ (s : State). s.contents 0) (c.in_ok-front.ensures.same told)) (c.deref.ensures.value ∙ c.in_ok-slot.ensures.read told) in
+    no_vtoc name c.args.serial.text ((g.P.Pool.shape c.args.journal.now.pool).head 0) ((g.P.Pool.shape c.args.journal.now.pool).blocks 0) slots c.in-Some.front.head c.in-Some.front.label spelled front.0 front.1
+    (rw c.in_default-2.is at (c.in_ok-volume.ensures slots slot.0))
+
+pub returns-clause-unit : goal.returns-clause-unit
+returns-clause-unit g c = λ told.
+    let slots : Slots = (g.P.Pool.disk c.args.journal.now.pool).state.contents 0 in
+    let later : Slots = (g.P.Pool.disk c.load_front.new.journal.pool).state.contents 0 in
+    let front = rw c.in-Some.is at (c.in_ok-front.ensures.front told) in
+    let slot = read_slot_is slots later c.in-Some.front.label c.in-Some.front.head.device c.track_number-track.result c.deref.result.now front.1.device c.track_number-track.ensures
+    (ap (λ (s : State). s.contents 0) (c.in_ok-front.ensures.same told)) (c.deref.ensures.value ∙ c.in_ok-slot.ensures.read told) in
+    record {
+      front = front.1;
+      slot_is = sym c.deref.ensures.value ∙ slot.1;
+      short = front.0;
+      short_vtoc = c.in_ok-slot.ensures.short;
+      volume = rw c.in-Some-2.is at (c.in_ok-volume.ensures slots slot.0);
+    }

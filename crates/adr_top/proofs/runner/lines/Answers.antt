@@ -1,23 +1,20 @@
-use Rattle.std.proofs.Common.{subst, inr}
-use Rattle.adr_top.specs.Words.{Named}
-use Rattle.adr_top.specs.Form.{HasBareUnit}
-use Rattle.adr_top.specs.Parts.{named_by}
-use Rattle.adr_top.proofs.Signs.{one_named}
+use Rattle.adr_top.proofs.Loads.{shows}
 use Rattle.adr_top.proofs.runner.lines.Goals as goal
 
 pub returns-in_default-clause-fault : goal.returns-in_default-clause-fault
-returns-in_default-clause-fault g c = inr (λ named stands told unit.
-    let P : Named → Type 0 = λ n. HasBareUnit n.name ((g.P.Pool.shape c.args.pool.now).head 0) ((g.P.Pool.shape c.args.pool.now).blocks 0) ((g.P.Pool.disk c.args.pool.now).state.contents 0) in
-    let none = rw c.in_default.is at (c.in_ok-space.ensures.volume told) in
-    none c.in_ok-parts.parts.files.name.now c.in_ok-parts.ensures.spelled
-    (subst P (one_named c.args.words.now named (named_by c.in_ok-parts.parts) stands c.in_ok-parts.ensures.asked.0) unit))
+returns-in_default-clause-fault g c = λ told.
+    let none = rw c.in_default.is at (c.in_ok-loaded.ensures.unit told) in
+    let rest = c.requires.rest told in
+    (_, rest.reads, none c.args.files.name.now c.requires.serial.1)
 
 pub returns-clause-listed : goal.returns-clause-listed
-returns-clause-listed g c = (
-  named_by c.in_ok-parts.parts,
-  c.in_ok-parts.ensures.asked,
-  λ told.
-      let found = rw c.in-Some.is at (c.in_ok-space.ensures.volume told) in
-      c.in_ok-text.ensures ((g.P.Pool.shape c.args.pool.now).head 0) ((g.P.Pool.shape c.args.pool.now).blocks 0) ((g.P.Pool.disk c.args.pool.now).state.contents 0)
-      (found c.in_ok-parts.parts.files.name.now c.in_ok-parts.ensures.spelled),
-)
+returns-clause-listed g c = λ told.
+    let loaded = rw c.in-Some.is at (c.in_ok-loaded.ensures.unit told) in
+    let rest = c.requires.rest told in
+    let shown = shows c.args.files.name.now c.args.files.serial.text ((g.P.Pool.shape c.args.journal.now.pool).head 0) ((g.P.Pool.shape c.args.journal.now.pool).blocks 0)
+    ((g.P.Pool.disk c.args.journal.now.pool).state.contents 0) c.in-Some.loaded c.requires.serial.1 loaded in
+    record {
+      reading = _;
+      reads = rest.reads;
+      lists = record { volume = shown.volume; stands = shown.stands; text_is = c.in_ok-listing_text.ensures shown.volume shown.listed };
+    }

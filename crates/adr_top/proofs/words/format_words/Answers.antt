@@ -1,6 +1,6 @@
 use Rattle.std.proofs.Common.{◌∙◌, refl}
 use Rattle.adr_top.specs.Words.{FormatNamed, AreFormatWords}
-use Rattle.adr_top.proofs.BareTracks.{if_none}
+use Rattle.adr_top.proofs.Ends.{if_none}
 use Rattle.adr_top.proofs.SixWords.{not_true, format_files, format_named, no_format_option, no_format_room}
 use Rattle.adr_top.proofs.words.format_words.Goals as goal
 

@@ -1,6 +1,6 @@
 use Rattle.std.proofs.Common.{◌≡◌, ◌≢◌, ◌∷◌, ◌++◌, [], sym, subst, ◌∙◌, List, ℕ}
 use Rattle.vol_label.specs.Serial.{IsSerialName}
-use Rattle.adr_top.proofs.BareTracks.{if_none}
+use Rattle.adr_top.proofs.Ends.{if_none}
 use Rattle.adr_top.proofs.Signs.{no_unit_word, name_is, not_serial, is_empty}
 use Rattle.adr_top.proofs.words.unit_word.Goals as goal
 

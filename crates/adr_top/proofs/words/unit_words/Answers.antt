@@ -1,6 +1,6 @@
 use Rattle.std.proofs.Common.{sym, ◌∙◌, refl}
 use Rattle.adr_top.specs.Words.{Named, AreUnitWords}
-use Rattle.adr_top.proofs.BareTracks.{if_none}
+use Rattle.adr_top.proofs.Ends.{if_none}
 use Rattle.adr_top.proofs.Signs.{is_empty, is_filled}
 use Rattle.adr_top.proofs.SixWords.{not_true, unit_files, unit_named, no_unit_option, no_unit_value}
 use Rattle.adr_top.proofs.words.unit_words.Goals as goal
