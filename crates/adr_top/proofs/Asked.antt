@@ -3,8 +3,11 @@ use Rattle.std.proofs.Common.{◌≡◌, ◌⊎◌, ℕ, List, ◌++◌, Option,
 use Rattle.std.specs.Prelude.{IfSome, codes}
 use Rattle.ckd_image.specs.Bytes.{Begins}
 use Rattle.ckd_image.proofs.OneText.{split_same}
+use Rattle.adr_top.specs.declared.statement.Statement.{Statement}
+use Rattle.adr_top.specs.declared.statement.Statement.TheVariants.{Print, Release}
 use Rattle.adr_top.specs.Words.{Named, AreUnitWords}
-use Rattle.adr_top.specs.Form.{IsPrintText, IsOutsideText}
+use Rattle.adr_top.specs.Form.{IsOutsideText}
+use Rattle.adr_top.specs.Statement.{IsPrintText, IsStatementText, IsNamed}
 use Rattle.adr_top.proofs.Signs.{one_named}
 
 -- the text up to the unit's name
@@ -27,11 +30,22 @@ pub printed : (name text rest end : List ℕ) → text ≡ front ++ rest → res
 printed name text rest end p q (inl e) = inl (p ∙ ap (λ (r : List ℕ). front ++ r) (q ∙ ap (λ (t : List ℕ). name ++ t) e))
 printed name text rest end p q (inr e) = inr (p ∙ ap (λ (r : List ℕ). front ++ r) (q ∙ ap (λ (t : List ℕ). name ++ t) e))
 
--- another text than the statement for the unit that is named
+-- another text than a statement for the unit that is named
 pub other_text : (words : List (List ℕ)) (left : Option (List ℕ)) (named : Named) (bytes : List ℕ) → AreUnitWords words named
-    → IfSome left (λ text. text ≡ bytes) → ¬ IsPrintText named.name bytes → IsOutsideText words left
+    → IfSome left (λ text. text ≡ bytes) → ((statement : Statement) → ¬ IsStatementText statement named.name bytes) → IsOutsideText words left
 other_text words None named bytes stands is none = inr (λ named' stands'. tt)
-other_text words (Some text) named bytes stands is none = inr (λ named' stands' print.
-    let P : Named → Type 0 = λ n. IsPrintText n.name text in
-    let Q : List ℕ → Type 0 = λ t. IsPrintText named.name t in
-    none (subst Q is (subst P (one_named words named' named stands' stands) print)))
+other_text words (Some text) named bytes stands is none = inr (λ named' stands' statement asked.
+    let P : Named → Type 0 = λ n. IsStatementText statement n.name text in
+    let Q : List ℕ → Type 0 = λ t. IsStatementText statement named.name t in
+    none statement (subst Q is (subst P (one_named words named' named stands' stands) asked)))
+
+-- the text that was read is a statement
+pub asked_text : (left : Option (List ℕ)) (bytes name : List ℕ) (statement : Statement) → IfSome left (λ text. text ≡ bytes) → IsStatementText statement name bytes
+    → IfSome left (IsStatementText statement name)
+asked_text None bytes name statement is asked = tt
+asked_text (Some text) bytes name statement is asked = subst (IsStatementText statement name) (sym is) asked
+
+-- the data set that a statement names has a name
+pub named_text : (statement : Statement) (name text : List ℕ) → IsStatementText statement name text → IsNamed statement
+named_text Print name text asked = tt
+named_text (Release dsn) name text asked = (asked.0, asked.1.0, asked.1.1)

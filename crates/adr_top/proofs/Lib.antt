@@ -10,3 +10,9 @@ pub mod Lines
 pub mod Made
 pub mod Openings
 pub mod Ran
+pub mod ReleaseLines
+pub mod Releases
+pub mod GoodSets
+pub mod Puts
+pub mod Dsns
+pub mod Plans

@@ -1,17 +1,27 @@
 -- What a pool's blocks read before and after an opening.
-use Rattle.std.proofs.Common.{◌≡◌, ℕ, ◌<◌, List, [], Bool, None, refl, sym, subst, ◌∙◌, arith}
-use Rattle.dasd_pool.specs.Disk.{Image, Shape, State, Disk, LeavesOnly, Touches, Runs, none}
+use Rattle.std.proofs.Common.{◌≡◌, ℕ, ◌<◌, List, [], ◌∷◌, Bool, None, refl, sym, subst, ◌∙◌, arith, inl, inr}
+use Rattle.dasd_pool.specs.Disk.{Image, Shape, State, Disk, LeavesOnly, Touches, none}
+use Rattle.dasd_pool.specs.Moments.{runs_start}
 use Rattle.vol_label.specs.declared.serial.Serial.{Serial}
 use Rattle.redo_core.specs.declared.control.Control.{Control}
 use Rattle.redo_core.specs.Format.{directory_in}
 use Rattle.redo_core.specs.Reading.{journal_of, Reading, Reads, IsRegistration, IsDirectory}
 use Rattle.redo_core.specs.Opening.{IsOpened, ReadsSame}
-use Rattle.volume_model.specs.Sound.{Slots}
+use Rattle.redo_core.specs.Phases.{ReadsNew}
+use Rattle.volume_model.specs.Directory.{DirectoryRow}
+use Rattle.volume_model.specs.Sound.{Slots, Volume}
 use Rattle.volume_model.specs.Unit.{UnitModel}
 use Rattle.move_core.specs.Stands.{IsSettled}
 use Rattle.move_core.specs.Runs.{KeepsUnits}
-use Rattle.move_core.proofs.Keeping.{opened_run}
-use Rattle.adr_top.specs.Listed.{IsReadOnly}
+use Rattle.move_core.specs.declared.steps.Step.{Step}
+use Rattle.move_core.specs.Releasing.{vtoc_track, ShrinksTrack}
+use Rattle.move_core.proofs.Keeping.{opened_run, opened_is_settled}
+use Rattle.adr_top.specs.declared.statement.Statement.{Statement}
+use Rattle.adr_top.specs.declared.statement.Statement.TheVariants.{Print, Release}
+use Rattle.adr_top.specs.Form.{IsPlainUnit, IsOtherFor, IsOtherUnit}
+use Rattle.adr_top.specs.Listed.{ListsVolume, IsReadOnly}
+use Rattle.adr_top.specs.Meaning.{Means, ReadsAfter}
+use Rattle.adr_top.specs.Released.{IsRowOf, ReleasesOn, plain_of}
 
 -- a pool that nothing wrote to reads as it did
 pub untouched : (state : State) → Touches none state state
@@ -58,12 +68,68 @@ module _ (shape : Shape) (old new : State) (names : List Serial) (room : ℕ) (c
       let same : reading.volumes 0 ≡ opened.volumes 0 = (λ i b. (reads.volumes_are 0 b some ∙ sym (opened.after.volumes_are 0 b some)) i) in
       (_, opened.before, subst P same holds)
 
--- an opening under any names, and then reads
-pub opened_any : (shape : Shape) (names asked : List Serial) (old mid new : Disk) (before after : ℕ) (units : List UnitModel) (room : ℕ) (control : Control) (fills : List Bool)
+-- ---- what a statement means before and after an opening
+
+module _ (shape : Shape) (old new : State) (names : List Serial) (room : ℕ) (control : Control) (fills : List Bool) (opened : IsOpened shape old names room control fills new)
+    (some : 0 < journal_of shape) where
+  pub means_back : (statement : Statement) (name : List ℕ) (code : ℕ) (steps : List Step) (text : List ℕ)
+      → Means statement name shape new.contents code steps text → Means statement name shape old.contents code steps text
+  means_back Print name code steps text (zero, nothing, lists) =
+      let back = reads_back shape old new names room control fills opened some (λ slots. ListsVolume name (shape.head 0) (shape.blocks 0) slots text) lists.reading lists.reads lists.lists in
+      (zero, nothing, record { reading = back.0; reads = back.1; lists = back.2 })
+  means_back (Release dsn) name code steps text releases =
+      let P : Slots → Type 0 = λ slots. (volume : Volume) × IsPlainUnit name (shape.head 0) (shape.blocks 0) slots volume × ReleasesOn slots dsn volume code steps text in
+      let back = reads_back shape old new names room control fills opened some P releases.reading releases.reads (releases.volume, releases.stands, releases.releases) in
+      record { reading = back.0; reads = back.1; volume = back.2.0; stands = back.2.1; releases = back.2.2 }
+
+  pub other_back : (statement : Statement) (name : List ℕ) → IsOtherUnit name statement shape new.contents → IsOtherUnit name statement shape old.contents
+  other_back statement name (reading, reads, other) =
+      reads_back shape old new names room control fills opened some (λ slots. IsOtherFor name statement (shape.head 0) (shape.blocks 0) slots) reading reads other
+
+  -- what is read after steps behind an opening
+  pub reads_after : (name : List ℕ) (steps : List Step) (last : State) → ReadsAfter name steps shape new last → ReadsAfter name steps shape old last
+  reads_after name steps last (inl (nothing, same)) = inl (nothing, λ reading reads. same reading (opened_reads shape old new names room control fills opened reading reads))
+  reads_after name steps last (inr (dsn, keep, is, shrunk)) =
+      let P : Slots → Type 0 = λ slots.
+      (volume : Volume) × (stands : IsPlainUnit name (shape.head 0) (shape.blocks 0) slots volume) × (row : DirectoryRow) × IsRowOf dsn volume row
+      × (slot : List ℕ) × ShrinksTrack (plain_of stands) slot row.format_1 keep
+      × ReadsNew shape new (record { unit = 0; block = vtoc_track stands.stands.image volume.label.vtoc; slot = slot } ∷ []) last.contents in
+      let back = reads_back shape old new names room control fills opened some P shrunk.reading shrunk.reads
+      (shrunk.volume, shrunk.stands, shrunk.row, shrunk.row_is, shrunk.slot, shrunk.shrinks, shrunk.now) in
+      inr (
+        dsn,
+        keep,
+        is,
+        record {
+          reading = back.0;
+          reads = back.1;
+          volume = back.2.0;
+          stands = back.2.1;
+          row = back.2.2;
+          row_is = back.2.3;
+          slot = back.2.4;
+          shrinks = back.2.5;
+          now = λ reading reads. back.2.6 reading (opened_reads shape old new names room control fills opened reading reads);
+        },
+      )
+
+-- ---- an opening under any names
+
+-- the serials that are registered are those of each settled pool
+registered : (shape : Shape) (names asked : List Serial) (old mid : State) (units : List UnitModel) (room : ℕ) (control : Control) (fills : List Bool)
+    → IsSettled shape names old units → IsOpened shape old asked room control fills mid → IsOpened shape old names room control fills mid
+registered shape names asked old mid units room control fills settled opened =
+    let same : asked ≡ names = sym (one_registration shape old mid asked room control fills opened settled.stands.reading settled.stands.reads) ∙ settled.stands.names_are in
+    subst (λ (n : List Serial). IsOpened shape old n room control fills mid) same opened
+
+pub settled_any : (shape : Shape) (names asked : List Serial) (old mid : State) (units : List UnitModel) (room : ℕ) (control : Control) (fills : List Bool)
+    → IsSettled shape names old units → IsOpened shape old asked room control fills mid → IsSettled shape names mid units
+settled_any shape names asked old mid units room control fills settled opened =
+    opened_is_settled shape names old mid units room control fills settled (registered shape names asked old mid units room control fills settled opened)
+
+pub opened_any : (shape : Shape) (names asked : List Serial) (old mid : Disk) (before after : ℕ) (units : List UnitModel) (room : ℕ) (control : Control) (fills : List Bool)
     → IsSettled shape names old.state units → LeavesOnly old mid (ReadsSame shape old.state) → IsOpened shape old.state asked room control fills mid.state
-    → Runs none mid new → KeepsUnits shape names old new before after units [] None
-opened_any shape names asked old mid new before after units room control fills settled moments opened run =
-    let registered : asked ≡ names =
-    sym (one_registration shape old.state mid.state asked room control fills opened settled.stands.reading settled.stands.reads) ∙ settled.stands.names_are in
-    opened_run shape names old mid new before after units room control fills settled moments
-    (subst (λ (n : List Serial). IsOpened shape old.state n room control fills mid.state) registered opened) run
+    → KeepsUnits shape names old mid before after units [] None
+opened_any shape names asked old mid before after units room control fills settled moments opened =
+    opened_run shape names old mid mid before after units room control fills settled moments
+    (registered shape names asked old.state mid.state units room control fills settled opened) (runs_start none mid)

@@ -1,5 +1,6 @@
 -- How a run of a text ends.
-use Rattle.std.proofs.Common.{◌≡◌, ◌≢◌, ◌⊎◌, ℕ, ◌<◌, ◌≤◌, List, Bool, Option, refl, sym, subst, ◌∙◌, arith, inl, inr}
+use Rattle.std.proofs.Common.{◌≡◌, ◌≢◌, ◌⊎◌, ℕ, ◌<◌, ◌≤◌, List, [], ◌∷◌, ◌++◌, Bool, Option, Some, None, refl, sym, subst, ◌∙◌, arith, inl, inr}
+use Rattle.std.specs.Prelude.{codes}
 use Rattle.dasd_pool.specs.Count.{Rose}
 use Rattle.dasd_pool.specs.Disk.{Shape, State}
 use Rattle.dasd_pool.specs.Stream.{Appends, AppendsSome}
@@ -10,230 +11,340 @@ use Rattle.redo_core.specs.declared.fault.JournalFault.TheVariants.{Pool, BadJou
 use Rattle.redo_core.specs.Faults.{IsOpenFault}
 use Rattle.redo_core.specs.Opening.{IsOpened}
 use Rattle.redo_core.specs.Reading.{journal_of}
+use Rattle.move_core.specs.declared.steps.Step.{Step}
 use Rattle.move_core.proofs.Keeping.{rose_since}
+use Rattle.adr_top.specs.declared.statement.Statement.{Statement}
 use Rattle.adr_top.specs.declared.stop.Stop.{Stop}
 use Rattle.adr_top.specs.declared.stop.Stop.TheVariants as stops
-use Rattle.adr_top.specs.Words.{Named, AreUnitWords}
-use Rattle.adr_top.specs.Form.{HasTextForm, HasPlainUnit, IsOtherUnit, IsOutsideText}
-use Rattle.adr_top.specs.Listed.{ListsVolume, ListsUnit, Tells}
+use Rattle.adr_top.specs.Words.{Named}
+use Rattle.adr_top.specs.Form.{Asks, IsOtherUnit, IsOutsideText}
+use Rattle.adr_top.specs.Listed.{Tells}
 use Rattle.adr_top.specs.Causes.{last_line}
-use Rattle.adr_top.specs.Stops.{status_of, IsListStop, IsTextStop}
+use Rattle.adr_top.specs.Meaning.{Means}
+use Rattle.adr_top.specs.Print.{started}
+use Rattle.adr_top.specs.Stops.{status_of, IsUnitStop, IsTextStop}
 use Rattle.adr_top.specs.Journals.{IsOnlySerial, IsRefusal, refusal_line}
-use Rattle.adr_top.specs.Parts.{fault_status, fault_line, EndsListing, EndsRun}
-use Rattle.adr_top.proofs.Openings.{reads_back}
-use Rattle.adr_top.proofs.Signs.{one_named}
+use Rattle.adr_top.specs.Parts.{fault_status, fault_line, EndsStatement, EndsRun}
+use Rattle.adr_top.proofs.Openings.{means_back, other_back}
 
--- ---- a listing
+-- ---- statuses
 
-pub listing_written : (status : ℕ) (name : List ℕ) (tells : Type 0) (shape : Shape) (state : State) (pool_before pool_now : ℕ) (before after : Option (List ℕ)) (sink_before sink_now : ℕ) (text : List ℕ)
-    → (tells → ListsUnit name shape state.contents text) → (status ≡ 0) ⊎ (status ≡ 28) → (status ≡ 0 → Appends before after text)
-    → (status ≡ 28 → AppendsSome before after text × Rose sink_before sink_now) → EndsListing status name tells shape state pool_before pool_now before after sink_before sink_now
-listing_written status name tells shape state pool_before pool_now before after sink_before sink_now text lists either whole some = record {
-  known = known either;
-  done = λ e. (text, lists, whole e);
-  cut = λ e. (text, lists, (some e).0);
-  pool = λ e. absurd (other 16 either e (omega arith) (omega arith));
-  sink = λ e. (some e).1;
-  outside = λ e. absurd (other 48 either e (omega arith) (omega arith));
-  told = λ zero out. absurd (neither either zero out);
-}
-  where
-    known : ((status ≡ 0) ⊎ (status ≡ 28)) → (status ≡ 0) ⊎ (status ≡ 16) ⊎ (status ≡ 28) ⊎ (status ≡ 32) ⊎ (status ≡ 48)
-    known (inl e) = inl e
-    known (inr e) = inr (inr (inl e))
+not_done : (n : ℕ) → n ≢ 0 → n ≢ 4 → (n ≡ 0) ⊎ (n ≡ 4) → ⊥
+not_done n zero four (inl e) = zero e
+not_done n zero four (inr e) = four e
 
-    other : (n : ℕ) → ((status ≡ 0) ⊎ (status ≡ 28)) → status ≡ n → n ≢ 0 → n ≢ 28 → ⊥
-    other n (inl e) is p q = p (sym is ∙ e)
-    other n (inr e) is p q = q (sym is ∙ e)
+not_both : (status n : ℕ) → status ≡ n → n ≢ 20 → n ≢ 24 → (status ≡ 20) ⊎ (status ≡ 24) → ⊥
+not_both status n is p q (inl e) = p (sym is ∙ e)
+not_both status n is p q (inr e) = q (sym is ∙ e)
 
-    neither : ((status ≡ 0) ⊎ (status ≡ 28)) → status ≢ 0 → status ≢ 28 → ⊥
-    neither (inl e) p q = p e
-    neither (inr e) p q = q e
+-- a statement ends neither so
+pub not_20_24 : (status : ℕ) → (status ≡ 0) ⊎ (status ≡ 4) ⊎ (status ≡ 16) ⊎ (status ≡ 28) ⊎ (status ≡ 32) ⊎ (status ≡ 48) → (status ≡ 20) ⊎ (status ≡ 24) → ⊥
+not_20_24 status (inl e) = not_both status 0 e (omega arith) (omega arith)
+not_20_24 status (inr (inl e)) = not_both status 4 e (omega arith) (omega arith)
+not_20_24 status (inr (inr (inl e))) = not_both status 16 e (omega arith) (omega arith)
+not_20_24 status (inr (inr (inr (inl e)))) = not_both status 28 e (omega arith) (omega arith)
+not_20_24 status (inr (inr (inr (inr (inl e))))) = not_both status 32 e (omega arith) (omega arith)
+not_20_24 status (inr (inr (inr (inr (inr e))))) = not_both status 48 e (omega arith) (omega arith)
 
-pub listing_stopped : (stop : Stop) (name : List ℕ) (tells : Type 0) (shape : Shape) (state : State) (pool_before pool_now : ℕ) (before after : Option (List ℕ)) (sink_before sink_now : ℕ)
-    → IsListStop pool_before pool_now (tells → IsOtherUnit name shape state.contents) stop → Tells before after sink_before sink_now (last_line (status_of stop))
-    → EndsListing (status_of stop) name tells shape state pool_before pool_now before after sink_before sink_now
-listing_stopped stops.Pool name tells shape state pool_before pool_now before after sink_before sink_now why told = record {
-  known = inr (inl refl);
-  done = λ e. absurd (omega (arith, e));
-  cut = λ e. absurd (omega (arith, e));
-  pool = λ e. why;
-  sink = λ e. absurd (omega (arith, e));
-  outside = λ e. absurd (omega (arith, e));
-  told = λ zero out. told;
-}
-listing_stopped stops.Memory name tells shape state pool_before pool_now before after sink_before sink_now why told = record {
-  known = inr (inr (inr (inl refl)));
-  done = λ e. absurd (omega (arith, e));
-  cut = λ e. absurd (omega (arith, e));
-  pool = λ e. absurd (omega (arith, e));
-  sink = λ e. absurd (omega (arith, e));
-  outside = λ e. absurd (omega (arith, e));
-  told = λ zero out. told;
-}
-listing_stopped stops.Form name tells shape state pool_before pool_now before after sink_before sink_now why told = record {
-  known = inr (inr (inr (inr refl)));
-  done = λ e. absurd (omega (arith, e));
-  cut = λ e. absurd (omega (arith, e));
-  pool = λ e. absurd (omega (arith, e));
-  sink = λ e. absurd (omega (arith, e));
-  outside = λ e. why;
-  told = λ zero out. told;
-}
-listing_stopped stops.Sysin name tells shape state pool_before pool_now before after sink_before sink_now why told = absurd why
-listing_stopped stops.Words name tells shape state pool_before pool_now before after sink_before sink_now why told = absurd why
+-- ---- a statement
 
--- a listing ends neither so
-pub not_20_24 : (status : ℕ) → (status ≡ 0) ⊎ (status ≡ 16) ⊎ (status ≡ 28) ⊎ (status ≡ 32) ⊎ (status ≡ 48) → (status ≡ 20) ⊎ (status ≡ 24) → ⊥
-not_20_24 status (inl e) (inl s) = omega (arith, e, s)
-not_20_24 status (inl e) (inr s) = omega (arith, e, s)
-not_20_24 status (inr (inl e)) (inl s) = omega (arith, e, s)
-not_20_24 status (inr (inl e)) (inr s) = omega (arith, e, s)
-not_20_24 status (inr (inr (inl e))) (inl s) = omega (arith, e, s)
-not_20_24 status (inr (inr (inl e))) (inr s) = omega (arith, e, s)
-not_20_24 status (inr (inr (inr (inl e)))) (inl s) = omega (arith, e, s)
-not_20_24 status (inr (inr (inr (inl e)))) (inr s) = omega (arith, e, s)
-not_20_24 status (inr (inr (inr (inr e)))) (inl s) = omega (arith, e, s)
-not_20_24 status (inr (inr (inr (inr e)))) (inr s) = omega (arith, e, s)
+module _ (statement : Statement) (name : List ℕ) (tells : Type 0) (shape : Shape) (state : State) (pool_before pool_now : ℕ) (before after : Option (List ℕ)) (sink_before sink_now : ℕ) where
+  abbrev Ends : ℕ → List Step → Option Step → Type 0
+  Ends status steps pending = EndsStatement statement status name tells shape state pool_before pool_now before after sink_before sink_now steps pending
+
+  -- it ended with its code, or its lines weren't taken
+  module _ (status code : ℕ) (steps : List Step) (text : List ℕ) (means : tells → Means statement name shape state.contents code steps text)
+      (whole : status ≡ code → Appends before after text) (some : status ≡ 28 → AppendsSome before after text × Rose sink_before sink_now) where
+    known : ((code ≡ 0) ⊎ ((code ≡ 4) × (steps ≡ []))) → ((status ≡ code) ⊎ (status ≡ 28))
+        → (status ≡ 0) ⊎ (status ≡ 4) ⊎ (status ≡ 16) ⊎ (status ≡ 28) ⊎ (status ≡ 32) ⊎ (status ≡ 48)
+    known (inl zero) (inl e) = inl (e ∙ zero)
+    known (inr four) (inl e) = inr (inl (e ∙ four.0))
+    known code-is (inr e) = inr (inr (inr (inl e)))
+
+    other : (n : ℕ) → ((code ≡ 0) ⊎ ((code ≡ 4) × (steps ≡ []))) → ((status ≡ code) ⊎ (status ≡ 28)) → status ≡ n → n ≢ 0 → n ≢ 4 → n ≢ 28 → ⊥
+    other n (inl zero) (inl e) is p q r = p (sym is ∙ e ∙ zero)
+    other n (inr four) (inl e) is p q r = q (sym is ∙ e ∙ four.0)
+    other n code-is (inr e) is p q r = r (sym is ∙ e)
+
+    ended : ((status ≡ code) ⊎ (status ≡ 28)) → ((status ≡ 0) ⊎ (status ≡ 4)) → status ≡ code
+    ended (inl e) is = e
+    ended (inr e) (inl zero) = absurd (omega (arith, e, zero))
+    ended (inr e) (inr four) = absurd (omega (arith, e, four))
+
+    undone : ((code ≡ 0) ⊎ ((code ≡ 4) × (steps ≡ []))) → ((status ≡ code) ⊎ (status ≡ 28)) → status ≢ 0 → status ≢ 28 → steps ≡ []
+    undone (inl zero) (inl e) p q = absurd (p (e ∙ zero))
+    undone (inr four) (inl e) p q = four.1
+    undone code-is (inr e) p q = absurd (q e)
+
+    pub statement_written : ((code ≡ 0) ⊎ ((code ≡ 4) × (steps ≡ []))) → ((status ≡ code) ⊎ (status ≡ 28)) → Ends status steps None
+    statement_written code-is either = record {
+      known = known code-is either;
+      done = λ is.
+          let own = ended either is in
+          (text, subst (λ (c : ℕ). tells → Means statement name shape state.contents c steps text) (sym own) means, whole own);
+      cut = λ is. (code, text, means, (some is).0);
+      pool = λ is. absurd (other 16 code-is either is (omega arith) (omega arith) (omega arith));
+      sink = λ is. (some is).1;
+      outside = λ is. absurd (other 48 code-is either is (omega arith) (omega arith) (omega arith));
+      undone = undone code-is either;
+      under_way = λ step is. absurd (let e : None ≡ Some step = is in cc);
+      told = λ zero four out. absurd (other status code-is either refl zero four out);
+    }
+
+  -- it stopped before it did anything
+  pub statement_stopped : (stop : Stop) → IsUnitStop pool_before pool_now (tells → IsOtherUnit name statement shape state.contents) stop
+      → Tells before after sink_before sink_now (last_line (status_of stop)) → Ends (status_of stop) [] None
+  statement_stopped stops.Pool why told = record {
+    known = inr (inr (inl refl));
+    done = λ is. absurd (not_done 16 (omega arith) (omega arith) is);
+    cut = λ e. absurd (omega (arith, e));
+    pool = λ e. why;
+    sink = λ e. absurd (omega (arith, e));
+    outside = λ e. absurd (omega (arith, e));
+    undone = λ zero out. refl;
+    under_way = λ step is. absurd (let e : None ≡ Some step = is in cc);
+    told = λ zero four out. told;
+  }
+  statement_stopped stops.Memory why told = record {
+    known = inr (inr (inr (inr (inl refl))));
+    done = λ is. absurd (not_done 32 (omega arith) (omega arith) is);
+    cut = λ e. absurd (omega (arith, e));
+    pool = λ e. absurd (omega (arith, e));
+    sink = λ e. absurd (omega (arith, e));
+    outside = λ e. absurd (omega (arith, e));
+    undone = λ zero out. refl;
+    under_way = λ step is. absurd (let e : None ≡ Some step = is in cc);
+    told = λ zero four out. told;
+  }
+  statement_stopped stops.Form why told = record {
+    known = inr (inr (inr (inr (inr refl))));
+    done = λ is. absurd (not_done 48 (omega arith) (omega arith) is);
+    cut = λ e. absurd (omega (arith, e));
+    pool = λ e. absurd (omega (arith, e));
+    sink = λ e. absurd (omega (arith, e));
+    outside = λ e. why;
+    undone = λ zero out. refl;
+    under_way = λ step is. absurd (let e : None ≡ Some step = is in cc);
+    told = λ zero four out. told;
+  }
+  statement_stopped stops.Sysin why told = absurd why
+  statement_stopped stops.Words why told = absurd why
+
+  -- a fault of the pool cut its step short
+  pub statement_cut_short : (step : Step) (text : List ℕ) → (tells → Means statement name shape state.contents 0 (step ∷ []) text) → Rose pool_before pool_now
+      → Tells before after sink_before sink_now (started 1 (codes "RELEASE") ++ last_line 16) → Ends 16 [] (Some step)
+  statement_cut_short step text means rose told = record {
+    known = inr (inr (inl refl));
+    done = λ is. absurd (not_done 16 (omega arith) (omega arith) is);
+    cut = λ e. absurd (omega (arith, e));
+    pool = λ e. rose;
+    sink = λ e. absurd (omega (arith, e));
+    outside = λ e. absurd (omega (arith, e));
+    undone = λ zero out. refl;
+    under_way = λ other is.
+        let same : step ≡ other = cc in
+        (refl, (text, subst (λ (s : Step). tells → Means statement name shape state.contents 0 (s ∷ []) text) same means));
+    told = λ zero four out. told;
+  }
+
+-- the same from an earlier moment on, since which nothing was written
+module _ (statement : Statement) (name : List ℕ) (tells : Type 0) (shape mid_shape : Shape) (state mid : State) (pool_before pool_mid pool_now : ℕ) (before after : Option (List ℕ)) (sink_before sink_now : ℕ)
+    (same_shape : mid_shape ≡ shape) (same : tells → mid ≡ state) (later : pool_before ≤ pool_mid) where
+  meant_before : (code : ℕ) (steps : List Step) (text : List ℕ) → (tells → Means statement name mid_shape mid.contents code steps text)
+      → tells → Means statement name shape state.contents code steps text
+  meant_before code steps text means told =
+      subst (λ (s : Shape). Means statement name s state.contents code steps text) same_shape
+      (subst (λ (s : State). Means statement name mid_shape s.contents code steps text) (same told) (means told))
+
+  pub statement_since : (status : ℕ) (steps : List Step) (pending : Option Step)
+      → EndsStatement statement status name tells mid_shape mid pool_mid pool_now before after sink_before sink_now steps pending
+      → EndsStatement statement status name tells shape state pool_before pool_now before after sink_before sink_now steps pending
+  statement_since status steps pending ends = record {
+    known = ends.known;
+    done = λ is. let found = ends.done is in (found.0, meant_before status steps found.0 found.1, found.2);
+    cut = λ is. let found = ends.cut is in (found.0, found.1, meant_before found.0 steps found.1 found.2, found.3);
+    pool = λ is. rose_since pool_before pool_mid pool_now later (ends.pool is);
+    sink = ends.sink;
+    outside = λ is told.
+        subst (λ (s : Shape). IsOtherUnit name statement s state.contents) same_shape
+        (subst (λ (s : State). IsOtherUnit name statement mid_shape s.contents) (same told) (ends.outside is told));
+    undone = ends.undone;
+    under_way = λ step is. let found = ends.under_way step is in (found.0, (found.1.0, meant_before 0 (step ∷ []) found.1.0 found.1.1));
+    told = ends.told;
+  }
 
 -- ---- a run that ends before the journal is opened
 
-pub text_stopped : (stop : Stop) (words : List (List ℕ)) (sysin : Option (List ℕ)) (tells : Type 0) (shape : Shape) (state : State) (pool_before pool_now source_before source_now : ℕ)
-    (before after : Option (List ℕ)) (sink_before sink_now : ℕ)
-    → IsTextStop source_before source_now (IsOutsideText words sysin) stop → Tells before after sink_before sink_now (last_line (status_of stop))
-    → EndsRun (status_of stop) words sysin tells shape state pool_before pool_now source_before source_now before after sink_before sink_now
-text_stopped stops.Sysin words sysin tells shape state pool_before pool_now source_before source_now before after sink_before sink_now why told = record {
-  known = inr (inr (inr (inl refl)));
-  done = λ e. absurd (omega (arith, e));
-  cut = λ e. absurd (omega (arith, e));
-  pool = λ e. absurd (omega (arith, e));
-  source = λ e. why;
-  sink = λ e. absurd (omega (arith, e));
-  asked = λ e. absurd (omega (arith, e));
-  outside = λ e. absurd (omega (arith, e));
-  refused = λ e. absurd (omega (arith, e));
-  told = λ zero twenty out. told;
-}
-text_stopped stops.Form words sysin tells shape state pool_before pool_now source_before source_now before after sink_before sink_now why told = record {
-  known = inr (inr (inr (inr (inr (inr refl)))));
-  done = λ e. absurd (omega (arith, e));
-  cut = λ e. absurd (omega (arith, e));
-  pool = λ e. absurd (omega (arith, e));
-  source = λ e. absurd (omega (arith, e));
-  sink = λ e. absurd (omega (arith, e));
-  asked = λ e. absurd (omega (arith, e));
-  outside = λ e. inl why;
-  refused = λ e. absurd (omega (arith, e));
-  told = λ zero twenty out. told;
-}
-text_stopped stops.Pool words sysin tells shape state pool_before pool_now source_before source_now before after sink_before sink_now why told = absurd why
-text_stopped stops.Memory words sysin tells shape state pool_before pool_now source_before source_now before after sink_before sink_now why told = absurd why
-text_stopped stops.Words words sysin tells shape state pool_before pool_now source_before source_now before after sink_before sink_now why told = absurd why
-
--- ---- a run whose journal isn't opened
-
 module _ (words : List (List ℕ)) (sysin : Option (List ℕ)) (tells : Type 0) (shape : Shape) (state : State) (pool_before pool_now source_before source_now : ℕ)
-    (before after : Option (List ℕ)) (sink_before sink_now : ℕ) (named : Named) (asked : HasTextForm words sysin named) where
-  refusal : (names : List Serial) (fault : JournalFault) → IsOnlySerial named.name names → (fault_status fault ≡ 20) → (fault_line fault ≡ refusal_line fault) → IsRefusal fault
-      → (tells → IsOpenFault shape state.contents names fault) → Tells before after sink_before sink_now (fault_line fault)
-      → EndsRun (fault_status fault) words sysin tells shape state pool_before pool_now source_before source_now before after sink_before sink_now
-  refusal names fault names_are twenty line is_refusal cause told = record {
-    known = inr (inr (inl twenty));
-    done = λ e. absurd (omega (arith, e, twenty));
-    cut = λ e. absurd (omega (arith, e, twenty));
-    pool = λ e. absurd (omega (arith, e, twenty));
-    source = λ e. absurd (omega (arith, e, twenty));
-    sink = λ e. absurd (omega (arith, e, twenty));
-    asked = λ e. absurd (omega (arith, e, twenty));
-    outside = λ e. absurd (omega (arith, e, twenty));
-    refused = λ e. record {
-      named = named;
-      asked = asked;
-      names = names;
-      names_are = names_are;
-      fault = fault;
-      is_refusal = is_refusal;
-      cause = cause;
-      told = subst (Tells before after sink_before sink_now) line told;
-    };
-    told = λ zero not_20 out. absurd (not_20 twenty);
-  }
+    (before after : Option (List ℕ)) (sink_before sink_now : ℕ) where
+  abbrev Run : ℕ → List Step → Option Step → Type 0
+  Run status steps pending = EndsRun status words sysin tells shape state pool_before pool_now source_before source_now before after sink_before sink_now steps pending
 
-  pub not_opened : (names : List Serial) (fault : JournalFault) → IsOnlySerial named.name names → (tells → IsOpenFault shape state.contents names fault)
-      → (fault ≡ Pool → Rose pool_before pool_now) → Tells before after sink_before sink_now (fault_line fault)
-      → EndsRun (fault_status fault) words sysin tells shape state pool_before pool_now source_before source_now before after sink_before sink_now
-  not_opened names Pool names_are cause rose told = record {
-    known = inr (inl refl);
-    done = λ e. absurd (omega (arith, e));
+  pub text_stopped : (stop : Stop) → IsTextStop source_before source_now (IsOutsideText words sysin) stop → Tells before after sink_before sink_now (last_line (status_of stop))
+      → Run (status_of stop) [] None
+  text_stopped stops.Sysin why told = record {
+    known = inr (inr (inr (inr (inl refl))));
+    done = λ is. absurd (not_done 24 (omega arith) (omega arith) is);
     cut = λ e. absurd (omega (arith, e));
-    pool = λ e. rose refl;
-    source = λ e. absurd (omega (arith, e));
+    pool = λ e. absurd (omega (arith, e));
+    source = λ e. why;
     sink = λ e. absurd (omega (arith, e));
-    asked = λ e. (named, asked);
+    asked = λ e. absurd (omega (arith, e));
     outside = λ e. absurd (omega (arith, e));
     refused = λ e. absurd (omega (arith, e));
-    told = λ zero twenty out. told;
+    undone = λ zero out. refl;
+    under_way = λ step is. absurd (let e : None ≡ Some step = is in cc);
+    told = λ zero four twenty out. told;
   }
-  not_opened names NoMemory names_are cause rose told = record {
-    known = inr (inr (inr (inr (inr (inl refl)))));
-    done = λ e. absurd (omega (arith, e));
+  text_stopped stops.Form why told = record {
+    known = inr (inr (inr (inr (inr (inr (inr refl))))));
+    done = λ is. absurd (not_done 48 (omega arith) (omega arith) is);
     cut = λ e. absurd (omega (arith, e));
     pool = λ e. absurd (omega (arith, e));
     source = λ e. absurd (omega (arith, e));
     sink = λ e. absurd (omega (arith, e));
     asked = λ e. absurd (omega (arith, e));
-    outside = λ e. absurd (omega (arith, e));
+    outside = λ e. inl why;
     refused = λ e. absurd (omega (arith, e));
-    told = λ zero twenty out. told;
+    undone = λ zero out. refl;
+    under_way = λ step is. absurd (let e : None ≡ Some step = is in cc);
+    told = λ zero four twenty out. told;
   }
-  not_opened names (BadJournal why) names_are cause rose told = refusal names (BadJournal why) names_are refl refl tt cause told
-  not_opened names (WrongUnit unit kept found) names_are cause rose told = refusal names (WrongUnit unit kept found) names_are refl refl tt cause told
-  not_opened names (JournalSmall need have) names_are cause rose told = refusal names (JournalSmall need have) names_are refl refl tt cause told
+  text_stopped stops.Pool why told = absurd why
+  text_stopped stops.Memory why told = absurd why
+  text_stopped stops.Words why told = absurd why
 
-  -- ---- a run that lists over an open journal
+  -- ---- a run whose journal isn't opened
 
-  module _ (status : ℕ) (mid : State) (pool_mid : ℕ) (names : List Serial) (room : ℕ) (control : Control) (fills : List Bool) (some : 0 < journal_of shape) (later : pool_before ≤ pool_mid)
-      (opened : tells → IsOpened shape state names room control fills mid) (ends : EndsListing status named.name tells shape mid pool_mid pool_now before after sink_before sink_now) where
-    lists_before : (text : List ℕ) → (tells → ListsUnit named.name shape mid.contents text) → tells → ListsUnit named.name shape state.contents text
-    lists_before text lists tell =
-        let found = lists tell in
-        let back = reads_back shape state mid names room control fills (opened tell) some (λ slots. ListsVolume named.name (shape.head 0) (shape.blocks 0) slots text) found.reading found.reads found.lists in
-        record { reading = back.0; reads = back.1; lists = back.2 }
-
-    outside_before : (tells → IsOtherUnit named.name shape mid.contents) → (other : Named) → AreUnitWords words other → tells → IsOtherUnit other.name shape state.contents
-    outside_before outside other stands tell =
-        let found = outside tell in
-        let back = reads_back shape state mid names room control fills (opened tell) some (λ slots. ¬ HasPlainUnit named.name (shape.head 0) (shape.blocks 0) slots) found.0 found.1 found.2 in
-        subst (λ (n : Named). IsOtherUnit n.name shape state.contents) (one_named words named other asked.0 stands) back
-
-    statuses : (status ≡ 0) ⊎ (status ≡ 16) ⊎ (status ≡ 28) ⊎ (status ≡ 32) ⊎ (status ≡ 48) → (status ≡ 0) ⊎ (status ≡ 16) ⊎ (status ≡ 20) ⊎ (status ≡ 24) ⊎ (status ≡ 28) ⊎ (status ≡ 32) ⊎ (status ≡ 48)
-    statuses (inl e) = inl e
-    statuses (inr (inl e)) = inr (inl e)
-    statuses (inr (inr (inl e))) = inr (inr (inr (inr (inl e))))
-    statuses (inr (inr (inr (inl e)))) = inr (inr (inr (inr (inr (inl e)))))
-    statuses (inr (inr (inr (inr e)))) = inr (inr (inr (inr (inr (inr e)))))
-
-    pub listed_run : EndsRun status words sysin tells shape state pool_before pool_now source_before source_now before after sink_before sink_now
-    listed_run = record {
-      known = statuses ends.known;
-      done = λ e. let found = ends.done e in (found.0, record { named = named; asked = asked; lists = lists_before found.0 found.1 }, found.2);
-      cut = λ e. let found = ends.cut e in (found.0, record { named = named; asked = asked; lists = lists_before found.0 found.1 }, found.2);
-      pool = λ e. rose_since pool_before pool_mid pool_now later (ends.pool e);
-      source = λ e. absurd (not_20_24 status ends.known (inr e));
-      sink = ends.sink;
-      asked = λ e. (named, asked);
-      outside = λ e. inr (outside_before (ends.outside e));
-      refused = λ e. absurd (not_20_24 status ends.known (inl e));
-      told = λ zero twenty out. ends.told zero out;
+  module _ (named : Named) (statement : Statement) (asked : Asks words sysin named statement) where
+    refusal : (names : List Serial) (fault : JournalFault) → IsOnlySerial named.name names → (fault_status fault ≡ 20) → (fault_line fault ≡ refusal_line fault) → IsRefusal fault
+        → (tells → IsOpenFault shape state.contents names fault) → Tells before after sink_before sink_now (fault_line fault) → Run (fault_status fault) [] None
+    refusal names fault names_are twenty line is_refusal cause told = record {
+      known = inr (inr (inr (inl twenty)));
+      done = λ is. absurd (not_done (fault_status fault) (omega (arith, twenty)) (omega (arith, twenty)) is);
+      cut = λ e. absurd (omega (arith, e, twenty));
+      pool = λ e. absurd (omega (arith, e, twenty));
+      source = λ e. absurd (omega (arith, e, twenty));
+      sink = λ e. absurd (omega (arith, e, twenty));
+      asked = λ e. absurd (omega (arith, e, twenty));
+      outside = λ e. absurd (omega (arith, e, twenty));
+      refused = λ e. record {
+        named = named;
+        statement = statement;
+        asked = asked;
+        names = names;
+        names_are = names_are;
+        fault = fault;
+        is_refusal = is_refusal;
+        cause = cause;
+        told = subst (Tells before after sink_before sink_now) line told;
+      };
+      undone = λ zero out. refl;
+      under_way = λ step is. absurd (let e : None ≡ Some step = is in cc);
+      told = λ zero four not_20 out. absurd (not_20 twenty);
     }
+
+    pub not_opened : (names : List Serial) (fault : JournalFault) → IsOnlySerial named.name names → (tells → IsOpenFault shape state.contents names fault)
+        → (fault ≡ Pool → Rose pool_before pool_now) → Tells before after sink_before sink_now (fault_line fault) → Run (fault_status fault) [] None
+    not_opened names Pool names_are cause rose told = record {
+      known = inr (inr (inl refl));
+      done = λ is. absurd (not_done 16 (omega arith) (omega arith) is);
+      cut = λ e. absurd (omega (arith, e));
+      pool = λ e. rose refl;
+      source = λ e. absurd (omega (arith, e));
+      sink = λ e. absurd (omega (arith, e));
+      asked = λ e. (named, statement, asked);
+      outside = λ e. absurd (omega (arith, e));
+      refused = λ e. absurd (omega (arith, e));
+      undone = λ zero out. refl;
+      under_way = λ step is. absurd (let e : None ≡ Some step = is in cc);
+      told = λ zero four twenty out. told;
+    }
+    not_opened names NoMemory names_are cause rose told = record {
+      known = inr (inr (inr (inr (inr (inr (inl refl))))));
+      done = λ is. absurd (not_done 32 (omega arith) (omega arith) is);
+      cut = λ e. absurd (omega (arith, e));
+      pool = λ e. absurd (omega (arith, e));
+      source = λ e. absurd (omega (arith, e));
+      sink = λ e. absurd (omega (arith, e));
+      asked = λ e. absurd (omega (arith, e));
+      outside = λ e. absurd (omega (arith, e));
+      refused = λ e. absurd (omega (arith, e));
+      undone = λ zero out. refl;
+      under_way = λ step is. absurd (let e : None ≡ Some step = is in cc);
+      told = λ zero four twenty out. told;
+    }
+    not_opened names (BadJournal why) names_are cause rose told = refusal names (BadJournal why) names_are refl refl tt cause told
+    not_opened names (WrongUnit unit kept found) names_are cause rose told = refusal names (WrongUnit unit kept found) names_are refl refl tt cause told
+    not_opened names (JournalSmall need have) names_are cause rose told = refusal names (JournalSmall need have) names_are refl refl tt cause told
+
+    -- ---- a statement over an open journal
+
+    module _ (status : ℕ) (mid : State) (pool_mid : ℕ) (names : List Serial) (room : ℕ) (control : Control) (fills : List Bool) (steps : List Step) (pending : Option Step)
+        (some : 0 < journal_of shape) (later : pool_before ≤ pool_mid) (opened : tells → IsOpened shape state names room control fills mid)
+        (ends : EndsStatement statement status named.name tells shape mid pool_mid pool_now before after sink_before sink_now steps pending) where
+      meant : (code : ℕ) (did : List Step) (text : List ℕ) → (tells → Means statement named.name shape mid.contents code did text)
+          → tells → Means statement named.name shape state.contents code did text
+      meant code did text means tell = means_back shape state mid names room control fills (opened tell) some statement named.name code did text (means tell)
+
+      statuses : (status ≡ 0) ⊎ (status ≡ 4) ⊎ (status ≡ 16) ⊎ (status ≡ 28) ⊎ (status ≡ 32) ⊎ (status ≡ 48)
+          → (status ≡ 0) ⊎ (status ≡ 4) ⊎ (status ≡ 16) ⊎ (status ≡ 20) ⊎ (status ≡ 24) ⊎ (status ≡ 28) ⊎ (status ≡ 32) ⊎ (status ≡ 48)
+      statuses (inl e) = inl e
+      statuses (inr (inl e)) = inr (inl e)
+      statuses (inr (inr (inl e))) = inr (inr (inl e))
+      statuses (inr (inr (inr (inl e)))) = inr (inr (inr (inr (inr (inl e)))))
+      statuses (inr (inr (inr (inr (inl e))))) = inr (inr (inr (inr (inr (inr (inl e))))))
+      statuses (inr (inr (inr (inr (inr e))))) = inr (inr (inr (inr (inr (inr (inr e))))))
+
+      pub performed : Run status steps pending
+      performed = record {
+        known = statuses ends.known;
+        done = λ is.
+            let found = ends.done is in
+            (found.0, record { named = named; statement = statement; asked = asked; means = meant status steps found.0 found.1 }, found.2);
+        cut = λ is.
+            let found = ends.cut is in
+            (found.0, found.1, record { named = named; statement = statement; asked = asked; means = meant found.0 steps found.1 found.2 }, found.3);
+        pool = λ e. rose_since pool_before pool_mid pool_now later (ends.pool e);
+        source = λ e. absurd (not_20_24 status ends.known (inr e));
+        sink = ends.sink;
+        asked = λ e. (named, statement, asked);
+        outside = λ e. inr (named, statement, asked, λ tell. other_back shape state mid names room control fills (opened tell) some statement named.name (ends.outside e tell));
+        refused = λ e. absurd (not_20_24 status ends.known (inl e));
+        undone = ends.undone;
+        under_way = λ step is.
+            let found = ends.under_way step is in
+            (found.0, (found.1.0, record { named = named; statement = statement; asked = asked; means = meant 0 (step ∷ []) found.1.0 found.1.1 }));
+        told = λ zero four twenty out. ends.told zero four out;
+      }
 
 -- ---- which statuses a run that ends so doesn't have
 
-pub not_36 : (status : ℕ) → (status ≡ 0) ⊎ (status ≡ 16) ⊎ (status ≡ 20) ⊎ (status ≡ 24) ⊎ (status ≡ 28) ⊎ (status ≡ 32) ⊎ (status ≡ 48) → status ≡ 36 → ⊥
+pub not_36 : (status : ℕ) → (status ≡ 0) ⊎ (status ≡ 4) ⊎ (status ≡ 16) ⊎ (status ≡ 20) ⊎ (status ≡ 24) ⊎ (status ≡ 28) ⊎ (status ≡ 32) ⊎ (status ≡ 48) → status ≡ 36 → ⊥
 not_36 status (inl e) s = omega (arith, e, s)
 not_36 status (inr (inl e)) s = omega (arith, e, s)
 not_36 status (inr (inr (inl e))) s = omega (arith, e, s)
 not_36 status (inr (inr (inr (inl e)))) s = omega (arith, e, s)
 not_36 status (inr (inr (inr (inr (inl e))))) s = omega (arith, e, s)
 not_36 status (inr (inr (inr (inr (inr (inl e)))))) s = omega (arith, e, s)
-not_36 status (inr (inr (inr (inr (inr (inr e)))))) s = omega (arith, e, s)
+not_36 status (inr (inr (inr (inr (inr (inr (inl e))))))) s = omega (arith, e, s)
+not_36 status (inr (inr (inr (inr (inr (inr (inr e))))))) s = omega (arith, e, s)
+
+-- the same of the making of a journal
+pub not_48 : (status : ℕ) → (status ≡ 0) ⊎ (status ≡ 16) ⊎ (status ≡ 20) ⊎ (status ≡ 28) ⊎ (status ≡ 32) → status ≡ 48 → ⊥
+not_48 status (inl e) s = omega (arith, e, s)
+not_48 status (inr (inl e)) s = omega (arith, e, s)
+not_48 status (inr (inr (inl e))) s = omega (arith, e, s)
+not_48 status (inr (inr (inr (inl e)))) s = omega (arith, e, s)
+not_48 status (inr (inr (inr (inr e)))) s = omega (arith, e, s)
+
+not_4 : (status : ℕ) → (status ≡ 0) ⊎ (status ≡ 16) ⊎ (status ≡ 20) ⊎ (status ≡ 28) ⊎ (status ≡ 32) → status ≡ 4 → ⊥
+not_4 status (inl e) s = omega (arith, e, s)
+not_4 status (inr (inl e)) s = omega (arith, e, s)
+not_4 status (inr (inr (inl e))) s = omega (arith, e, s)
+not_4 status (inr (inr (inr (inl e)))) s = omega (arith, e, s)
+not_4 status (inr (inr (inr (inr e)))) s = omega (arith, e, s)
+
+pub only_made : (status : ℕ) → (status ≡ 0) ⊎ (status ≡ 16) ⊎ (status ≡ 20) ⊎ (status ≡ 28) ⊎ (status ≡ 32) → (status ≡ 0) ⊎ (status ≡ 4) → status ≡ 0
+only_made status known (inl e) = e
+only_made status known (inr e) = absurd (not_4 status known e)

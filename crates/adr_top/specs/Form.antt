@@ -1,17 +1,25 @@
--- The form of words, text and unit that is built: one listing of a 3390 whose VTOC is plain.
-use Rattle.std.specs.Prelude.{◌≡◌, ◌⊎◌, ℕ, List, ◌++◌, false, Option, IfSome, codes, slice_index}
+-- The form of words, text and unit that is built: one listing of a 3390 whose VTOC is plain, or one release on it.
+use Rattle.std.specs.Prelude.{◌≡◌, ◌⊎◌, ℕ, List, [], ◌∷◌, false, Option, IfSome, Contains, take, slice_index}
 use Rattle.ckd_image.specs.declared.device.Device.TheVariants.{D3390}
 use Rattle.dasd_pool.specs.Disk.{Image, Shape}
+use Rattle.dsn_filter.specs.declared.dsn.Dsn.{Dsn}
 use Rattle.vol_label.specs.Serial.{Spells}
+use Rattle.volume_model.specs.Check.{Vtoc}
+use Rattle.volume_model.specs.Directory.{DirectoryRow}
+use Rattle.volume_model.specs.Dscbs.{ExtentField}
+use Rattle.volume_model.specs.Pinned.{IsNameOf, kept_tracks}
+use Rattle.volume_model.specs.Reads.{IsDataSet}
 use Rattle.volume_model.specs.Sound.{Slots, Volume, IsVolume}
+use Rattle.volume_model.specs.Space.{run_of}
+use Rattle.volume_model.specs.Unit.{DataSet}
 use Rattle.vtoc_core.specs.Plain.{IsPlainVtoc}
+use Rattle.vtoc_core.specs.Shrink.{HasManyRuns}
 use Rattle.redo_core.specs.Reading.{Reading, Reads}
+use Rattle.move_core.specs.Release.{MayRelease}
+use Rattle.adr_top.specs.declared.statement.Statement.{Statement}
+use Rattle.adr_top.specs.declared.statement.Statement.TheVariants.{Print, Release}
+use Rattle.adr_top.specs.Statement.{IsStatementText}
 use Rattle.adr_top.specs.Words.{Named, AreUnitWords}
-
--- the one line ` PRINT VTOC INDDNAME(S)` for the unit of this name, with or without its line's end
-abbrev pub IsPrintText : List ℕ → List ℕ → Type 0
-IsPrintText name text =
-    (text ≡ codes " PRINT VTOC INDDNAME(" ++ (name ++ codes ")")) ⊎ (text ≡ codes " PRINT VTOC INDDNAME(" ++ (name ++ codes ")\n"))
 
 -- The unit is a 3390 volume with this serial's name, whose VTOC is one track of data sets of at most one extent, with one format 5
 -- and no indicator on.
@@ -26,28 +34,55 @@ pub record IsPlainUnit (name head : List ℕ) (blocks : ℕ) (slots : Slots) (vo
 abbrev pub HasPlainUnit : List ℕ → List ℕ → ℕ → Slots → Type 0
 HasPlainUnit name head blocks slots = (volume : Volume) × IsPlainUnit name head blocks slots volume
 
+-- ---- a data set that isn't released today
+
+-- once the data set of this row keeps the tracks that a release keeps, more runs of tracks are free than one format 5 states
+pub record LeavesManyRuns (slots : Slots) (vtoc : Vtoc) (row : DirectoryRow) : Type 0 where
+  pub set : DataSet
+  pub set_is : IsDataSet 15 (λ track. track) slots row set
+  pub field : ExtentField
+  pub only : row.extents ≡ field ∷ []
+  pub many : HasManyRuns vtoc (run_of 15 field) (kept_tracks 15 set)
+
+-- The unit is of the form and has a data set of this name, but a release doesn't change it: it is pinned, or neither sequential nor
+-- partitioned, or has an extent of another type, or a track that says nothing, or too many runs would be free.
+pub record Withholds (name head : List ℕ) (blocks : ℕ) (slots : Slots) (dsn : Dsn) : Type 0 where
+  pub volume : Volume
+  pub stands : IsPlainUnit name head blocks slots volume
+  pub row : DirectoryRow
+  pub is_there : Contains volume.rows row
+  pub name_is : IsNameOf dsn (take 44 row.format_1)
+  pub why : ((set : DataSet) → IsDataSet 15 (λ track. track) slots row set → ¬ MayRelease 15 set) ⊎ LeavesManyRuns slots stands.stands.vtoc row
+
 -- ---- the whole form: the words, then the text, then the unit, the last two where they are told
 
--- words and text are of the form, for the unit that is named
-abbrev pub HasTextForm : List (List ℕ) → Option (List ℕ) → Named → Type 0
-HasTextForm words text named = AreUnitWords words named × IfSome text (IsPrintText named.name)
+-- words and text ask for a statement, for the unit that is named
+abbrev pub Asks : List (List ℕ) → Option (List ℕ) → Named → Statement → Type 0
+Asks words text named statement = AreUnitWords words named × IfSome text (IsStatementText statement named.name)
 
-abbrev pub HasSomeTextForm : List (List ℕ) → Option (List ℕ) → Type 0
-HasSomeTextForm words text = (named : Named) × HasTextForm words text named
+abbrev pub AsksSome : List (List ℕ) → Option (List ℕ) → Type 0
+AsksSome words text = (named : Named) × (statement : Statement) × Asks words text named statement
 
--- words and text aren't
+-- they ask for none
 abbrev pub IsOutsideText : List (List ℕ) → Option (List ℕ) → Type 0
 IsOutsideText words text =
-    ((named : Named) → ¬ AreUnitWords words named) ⊎ ((named : Named) → AreUnitWords words named → IfSome text (λ bytes. ¬ IsPrintText named.name bytes))
+    ((named : Named) → ¬ AreUnitWords words named)
+    ⊎ ((named : Named) → AreUnitWords words named → IfSome text (λ bytes. (statement : Statement) → ¬ IsStatementText statement named.name bytes))
 
--- unit 0 isn't, as the pool's blocks read
-abbrev pub IsOtherUnit : List ℕ → Shape → Image → Type 0
-IsOtherUnit name shape contents = (reading : Reading) × Reads shape contents reading × ¬ HasPlainUnit name (shape.head 0) (shape.blocks 0) (reading.volumes 0)
+-- unit 0 isn't of the form for a statement, as the pool's blocks read
+abbrev pub IsOtherFor : List ℕ → Statement → List ℕ → ℕ → Slots → Type 0
+IsOtherFor name Print head blocks slots = ¬ HasPlainUnit name head blocks slots
+IsOtherFor name (Release dsn) head blocks slots = (¬ HasPlainUnit name head blocks slots) ⊎ Withholds name head blocks slots dsn
 
--- the unit that the words name isn't
-abbrev pub IsOutsideUnit : List (List ℕ) → Type 0 → Shape → Image → Type 0
-IsOutsideUnit words tells shape contents = (named : Named) → AreUnitWords words named → tells → IsOtherUnit named.name shape contents
+abbrev pub IsOtherUnit : List ℕ → Statement → Shape → Image → Type 0
+IsOtherUnit name statement shape contents =
+    (reading : Reading) × Reads shape contents reading × IsOtherFor name statement (shape.head 0) (shape.blocks 0) (reading.volumes 0)
+
+-- what words and text ask for isn't of the form on the unit that is named
+abbrev pub IsOutsideUnit : List (List ℕ) → Option (List ℕ) → Type 0 → Shape → Image → Type 0
+IsOutsideUnit words text tells shape contents =
+    (named : Named) × (statement : Statement) × Asks words text named statement × (tells → IsOtherUnit named.name statement shape contents)
 
 -- one of the three isn't
 abbrev pub IsOutsideForm : List (List ℕ) → Option (List ℕ) → Type 0 → Shape → Image → Type 0
-IsOutsideForm words text tells shape contents = IsOutsideText words text ⊎ IsOutsideUnit words tells shape contents
+IsOutsideForm words text tells shape contents = IsOutsideText words text ⊎ IsOutsideUnit words text tells shape contents

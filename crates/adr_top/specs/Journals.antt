@@ -1,5 +1,5 @@
 -- A run that makes a journal.
-use Rattle.std.specs.Prelude.{◌≡◌, ◌⊎◌, ℕ, List, [], ◌∷◌, ◌++◌, Option, codes}
+use Rattle.std.specs.Prelude.{◌≡◌, ℕ, List, [], ◌∷◌, ◌++◌, Option, codes}
 use Rattle.std.specs.Fmt.{decimal}
 use Rattle.dasd_pool.specs.Disk.{Shape, State}
 use Rattle.vol_label.specs.declared.serial.Serial.{Serial}
@@ -8,10 +8,11 @@ use Rattle.redo_core.specs.declared.fault.JournalFault.{JournalFault}
 use Rattle.redo_core.specs.declared.fault.JournalFault.TheVariants.{Pool, BadJournal, WrongUnit, JournalSmall, NoMemory}
 use Rattle.redo_core.specs.Faults.{IsFormatFault, IsOpenFault, MayFormat}
 use Rattle.redo_core.specs.Opening.{IsFormatted}
+use Rattle.adr_top.specs.declared.statement.Statement.{Statement}
 use Rattle.adr_top.specs.Words.{Named, FormatNamed, AreFormatWords}
-use Rattle.adr_top.specs.Form.{HasTextForm}
+use Rattle.adr_top.specs.Form.{Asks}
 use Rattle.adr_top.specs.Print.{message, letter_i, printed, status_line}
-use Rattle.adr_top.specs.Listed.{Tells, Prints}
+use Rattle.adr_top.specs.Listed.{Tells}
 
 -- the line of a journal that was made, for one volume
 abbrev pub format_line : ℕ → List ℕ
@@ -66,16 +67,11 @@ pub record RefusesJournal (words : List (List ℕ)) (tells : Type 0) (shape : Sh
 -- The words name a unit, whose journal is refused by the first cause when it is opened; its line was tried.
 pub record RefusesOpening (words : List (List ℕ)) (sysin : Option (List ℕ)) (tells : Type 0) (shape : Shape) (old : State) (before after : Option (List ℕ)) (faults_before faults_after : ℕ) : Type 0 where
   pub named : Named
-  pub asked : HasTextForm words sysin named
+  pub statement : Statement
+  pub asked : Asks words sysin named statement
   pub names : List Serial
   pub names_are : IsOnlySerial named.name names
   pub fault : JournalFault
   pub is_refusal : IsRefusal fault
   pub cause : tells → IsOpenFault shape old.contents names fault
   pub told : Tells before after faults_before faults_after (refusal_line fault)
-
--- What a run does that ends well, before its text is written: it lists a volume, or makes a journal. So much is taken of the text.
-abbrev pub Does : List (List ℕ) → Option (List ℕ) → Type 0 → Shape → State → State → (List ℕ → Type 0) → Type 0
-Does words sysin tells shape old new Taken =
-    ((text : List ℕ) × Prints words sysin tells shape old.contents text × Taken text)
-    ⊎ ((line : List ℕ) × MakesJournal words tells shape old new line × Taken line)

@@ -8,3 +8,8 @@ pub mod Stops
 pub mod Listed
 pub mod Journals
 pub mod AsLoaded
+pub mod Tracks
+pub mod Statement
+pub mod Released
+pub mod Meaning
+pub mod Planned

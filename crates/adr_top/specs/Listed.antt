@@ -3,10 +3,9 @@ use Rattle.std.specs.Prelude.{◌≡◌, ◌⊎◌, ℕ, ◌≤◌, List, length
 use Rattle.dasd_pool.specs.Count.{Rose}
 use Rattle.dasd_pool.specs.Stream.{Takes, Appends, AppendsSome}
 use Rattle.volume_model.specs.Sound.{Slots, Volume}
-use Rattle.adr_top.specs.Words.{Named}
 use Rattle.dasd_pool.specs.Disk.{Image, Shape, State}
 use Rattle.redo_core.specs.Reading.{Reading, Reads}
-use Rattle.adr_top.specs.Form.{HasTextForm, IsPlainUnit}
+use Rattle.adr_top.specs.Form.{IsPlainUnit}
 use Rattle.adr_top.specs.Print.{printed_run}
 
 -- the unit with this head and these slots is a volume of the form, and the text is what a run prints that lists it
@@ -20,12 +19,6 @@ pub record ListsUnit (name : List ℕ) (shape : Shape) (contents : Image) (text 
   pub reading : Reading
   pub reads : Reads shape contents reading
   pub lists : ListsVolume name (shape.head 0) (shape.blocks 0) (reading.volumes 0) text
-
--- words and text are of the form, and the text to write is what a run prints that lists the unit's volume
-pub record Prints (words : List (List ℕ)) (sysin : Option (List ℕ)) (tells : Type 0) (shape : Shape) (contents : Image) (text : List ℕ) : Type 0 where
-  pub named : Named
-  pub asked : HasTextForm words sysin named
-  pub lists : tells → ListsUnit named.name shape contents text
 
 -- whatever the blocks read before, they read now
 abbrev pub IsReadOnly : Shape → State → State → Type 0

@@ -1,18 +1,21 @@
 -- What the words name, as the code holds it, and what the parts of a run do.
-use Rattle.std.specs.Prelude.{◌≡◌, ◌≢◌, ◌⊎◌, ℕ, List, [], ◌∷◌, ◌++◌, Option, codes}
+use Rattle.std.specs.Prelude.{◌≡◌, ◌≢◌, ◌⊎◌, ℕ, List, [], ◌∷◌, ◌++◌, Option, Some, codes}
 use Rattle.dasd_pool.specs.Count.{Rose}
 use Rattle.dasd_pool.specs.Disk.{Shape, State}
 use Rattle.dasd_pool.specs.Stream.{Appends, AppendsSome}
+use Rattle.move_core.specs.declared.steps.Step.{Step}
 use Rattle.vol_label.specs.Serial.{IsSerialName}
 use Rattle.redo_core.specs.declared.fault.JournalFault.{JournalFault}
 use Rattle.redo_core.specs.declared.fault.JournalFault.TheVariants.{Pool, NoMemory}
 use Rattle.adr_top.specs.declared.words.UnitWords.{UnitWords}
 use Rattle.adr_top.specs.declared.words.FormatWords.{FormatWords}
 use Rattle.adr_top.specs.Words.{Named, FormatNamed}
-use Rattle.adr_top.specs.Form.{HasSomeTextForm, IsOtherUnit, IsOutsideForm}
-use Rattle.adr_top.specs.Listed.{ListsUnit, Prints, Tells}
+use Rattle.adr_top.specs.declared.statement.Statement.{Statement}
+use Rattle.adr_top.specs.Form.{AsksSome, IsOtherUnit, IsOutsideForm}
+use Rattle.adr_top.specs.Listed.{Tells}
 use Rattle.adr_top.specs.Causes.{last_line}
 use Rattle.adr_top.specs.Journals.{refusal_line, MakesJournal, RefusesJournal, RefusesOpening}
+use Rattle.adr_top.specs.Meaning.{Means, MeansText, IsCutShort, last_lines}
 
 -- six words, of which the first four name a unit and a journal
 pub record NameFiles (words : List (List ℕ)) (name path journal option value : List ℕ) : Type 0 where
@@ -26,10 +29,6 @@ named_by parts = record { name = parts.files.name.now; path = parts.files.path.n
 
 abbrev pub format_named_by : FormatWords → FormatNamed
 format_named_by parts = record { name = parts.files.name.now; path = parts.files.path.now; journal = parts.files.journal.now; room = parts.room }
-
--- a run lists a volume, and so much of its text is taken
-abbrev pub Lists : List (List ℕ) → Option (List ℕ) → Type 0 → Shape → State → (List ℕ → Type 0) → Type 0
-Lists words sysin tells shape state Taken = (text : List ℕ) × Prints words sysin tells shape state.contents text × Taken text
 
 -- the status of a run whose journal isn't made, and its last line
 abbrev pub fault_status : JournalFault → ℕ
@@ -52,26 +51,32 @@ pub record Formats (status : ℕ) (words : List (List ℕ)) (tells : Type 0) (sh
   pub refused : status ≡ 20 → RefusesJournal words tells shape old before after sink_before sink_now
   pub told : status ≢ 0 → status ≢ 20 → status ≢ 28 → Tells before after sink_before sink_now (last_line status)
 
--- How a listing over an open journal ended, by its status: the pool's count, what the sink took and its count, each before and after.
-pub record EndsListing (status : ℕ) (name : List ℕ) (tells : Type 0) (shape : Shape) (state : State) (pool_before pool_now : ℕ) (before after : Option (List ℕ)) (sink_before sink_now : ℕ) : Type 0 where
-  pub known : (status ≡ 0) ⊎ (status ≡ 16) ⊎ (status ≡ 28) ⊎ (status ≡ 32) ⊎ (status ≡ 48)
-  pub done : status ≡ 0 → (text : List ℕ) × (tells → ListsUnit name shape state.contents text) × Appends before after text
-  pub cut : status ≡ 28 → (text : List ℕ) × (tells → ListsUnit name shape state.contents text) × AppendsSome before after text
+-- How a statement over an open journal ended, by its status: the pool's count, what the sink took and its count, each before and
+-- after, the steps that were done, and the one that was under way.
+pub record EndsStatement (statement : Statement) (status : ℕ) (name : List ℕ) (tells : Type 0) (shape : Shape) (state : State) (pool_before pool_now : ℕ)
+    (before after : Option (List ℕ)) (sink_before sink_now : ℕ) (steps : List Step) (pending : Option Step) : Type 0 where
+  pub known : (status ≡ 0) ⊎ (status ≡ 4) ⊎ (status ≡ 16) ⊎ (status ≡ 28) ⊎ (status ≡ 32) ⊎ (status ≡ 48)
+  pub done : (status ≡ 0) ⊎ (status ≡ 4) → (text : List ℕ) × (tells → Means statement name shape state.contents status steps text) × Appends before after text
+  pub cut : status ≡ 28 → (code : ℕ) × (text : List ℕ) × (tells → Means statement name shape state.contents code steps text) × AppendsSome before after text
   pub pool : status ≡ 16 → Rose pool_before pool_now
   pub sink : status ≡ 28 → Rose sink_before sink_now
-  pub outside : status ≡ 48 → tells → IsOtherUnit name shape state.contents
-  pub told : status ≢ 0 → status ≢ 28 → Tells before after sink_before sink_now (last_line status)
+  pub outside : status ≡ 48 → tells → IsOtherUnit name statement shape state.contents
+  pub undone : status ≢ 0 → status ≢ 28 → steps ≡ []
+  pub under_way : (step : Step) → pending ≡ Some step → (status ≡ 16) × ((text : List ℕ) × (tells → Means statement name shape state.contents 0 (step ∷ []) text))
+  pub told : status ≢ 0 → status ≢ 4 → status ≢ 28 → Tells before after sink_before sink_now (last_lines status pending)
 
 -- How a run of a text ended, by its status: besides, the source's count before and after.
 pub record EndsRun (status : ℕ) (words : List (List ℕ)) (sysin : Option (List ℕ)) (tells : Type 0) (shape : Shape) (state : State) (pool_before pool_now source_before source_now : ℕ)
-    (before after : Option (List ℕ)) (sink_before sink_now : ℕ) : Type 0 where
-  pub known : (status ≡ 0) ⊎ (status ≡ 16) ⊎ (status ≡ 20) ⊎ (status ≡ 24) ⊎ (status ≡ 28) ⊎ (status ≡ 32) ⊎ (status ≡ 48)
-  pub done : status ≡ 0 → Lists words sysin tells shape state (Appends before after)
-  pub cut : status ≡ 28 → Lists words sysin tells shape state (AppendsSome before after)
+    (before after : Option (List ℕ)) (sink_before sink_now : ℕ) (steps : List Step) (pending : Option Step) : Type 0 where
+  pub known : (status ≡ 0) ⊎ (status ≡ 4) ⊎ (status ≡ 16) ⊎ (status ≡ 20) ⊎ (status ≡ 24) ⊎ (status ≡ 28) ⊎ (status ≡ 32) ⊎ (status ≡ 48)
+  pub done : (status ≡ 0) ⊎ (status ≡ 4) → (text : List ℕ) × MeansText words sysin tells shape state.contents status steps text × Appends before after text
+  pub cut : status ≡ 28 → (code : ℕ) × (text : List ℕ) × MeansText words sysin tells shape state.contents code steps text × AppendsSome before after text
   pub pool : status ≡ 16 → Rose pool_before pool_now
   pub source : status ≡ 24 → Rose source_before source_now
   pub sink : status ≡ 28 → Rose sink_before sink_now
-  pub asked : status ≡ 16 → HasSomeTextForm words sysin
+  pub asked : status ≡ 16 → AsksSome words sysin
   pub outside : status ≡ 48 → IsOutsideForm words sysin tells shape state.contents
   pub refused : status ≡ 20 → RefusesOpening words sysin tells shape state before after sink_before sink_now
-  pub told : status ≢ 0 → status ≢ 20 → status ≢ 28 → Tells before after sink_before sink_now (last_line status)
+  pub undone : status ≢ 0 → status ≢ 28 → steps ≡ []
+  pub under_way : (step : Step) → pending ≡ Some step → IsCutShort words sysin tells shape state.contents status step
+  pub told : status ≢ 0 → status ≢ 4 → status ≢ 20 → status ≢ 28 → Tells before after sink_before sink_now (last_lines status pending)

@@ -5,6 +5,8 @@ use Rattle.std.specs.Fmt.{decimal}
 use Rattle.ckd_image.specs.declared.device.Device.{Device}
 use Rattle.ckd_image.specs.declared.device.Device.TheVariants.{D3390, D3380}
 use Rattle.vol_label.specs.CodePage.{ascii_of}
+use Rattle.dsn_filter.specs.declared.dsn.Dsn.{Dsn}
+use Rattle.dsn_filter.specs.Dsn.{text_of}
 use Rattle.volume_model.specs.Dscbs.{ExtentField, number_at}
 use Rattle.volume_model.specs.Directory.{DirectoryRow}
 use Rattle.free_map.specs.declared.run.Run.{Run}
@@ -22,9 +24,12 @@ abbrev pub message : ℕ → ℕ → ℕ → List ℕ → List ℕ
 message number letter statement text =
     codes "ADR" ++ three number ++ (letter ∷ []) ++ codes " (" ++ three statement ++ codes ") " ++ text ++ (10 ∷ [])
 
--- informational, and ending
+-- informational, a warning, and ending
 abbrev pub letter_i : ℕ
 letter_i = 73
+
+abbrev pub letter_w : ℕ
+letter_w = 87
 
 abbrev pub letter_t : ℕ
 letter_t = 84
@@ -111,6 +116,19 @@ maximum code = message 103 letter_i 0 (codes "MAXIMUM CODE " ++ decimal code)
 -- what a run prints that lists one volume
 abbrev pub printed_run : Volume → List ℕ
 printed_run volume = started 1 (codes "PRINT") ++ listing 1 volume ++ ended 1 (codes "PRINT") 0 ++ maximum 0
+
+-- ---- a run of one RELEASE
+
+abbrev pub released : ℕ → Dsn → ℕ → List ℕ
+released statement name given = message 120 letter_i statement (text_of name ++ codes " RELEASED " ++ decimal given)
+
+-- what a run prints that releases the data set of a name
+abbrev pub release_run : Dsn → ℕ → List ℕ
+release_run name given = started 1 (codes "RELEASE") ++ released 1 name given ++ ended 1 (codes "RELEASE") 0 ++ maximum 0
+
+-- and one that finds none
+abbrev pub nothing_run : List ℕ
+nothing_run = started 1 (codes "RELEASE") ++ message 201 letter_w 1 (codes "NOTHING SELECTED") ++ ended 1 (codes "RELEASE") 4 ++ maximum 4
 
 -- the last line of a run that was ended with a status
 abbrev pub status_line : ℕ → List ℕ → List ℕ

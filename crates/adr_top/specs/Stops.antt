@@ -36,10 +36,10 @@ IsTextStop before now outside stops.Memory = ⊥
 IsTextStop before now outside stops.Words = ⊥
 IsTextStop before now outside stops.Form = outside
 
--- while a unit is listed: the pool's count rose, memory ran out, or the unit isn't of the form
-abbrev pub IsListStop : ℕ → ℕ → Type 0 → Stop → Type 0
-IsListStop before now other stops.Pool = Rose before now
-IsListStop before now other stops.Sysin = ⊥
-IsListStop before now other stops.Memory = Unit {0}
-IsListStop before now other stops.Words = ⊥
-IsListStop before now other stops.Form = other
+-- while a unit is read for a statement: the pool's count rose, memory ran out, or the unit isn't of the form
+abbrev pub IsUnitStop : ℕ → ℕ → Type 0 → Stop → Type 0
+IsUnitStop before now other stops.Pool = Rose before now
+IsUnitStop before now other stops.Sysin = ⊥
+IsUnitStop before now other stops.Memory = Unit {0}
+IsUnitStop before now other stops.Words = ⊥
+IsUnitStop before now other stops.Form = other

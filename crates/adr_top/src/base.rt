@@ -142,3 +142,11 @@ pub(crate) fn vtoc_slot(rt: &HostRuntime, vtoc: Vtoc) -> Result<Vec<u8>, Fail> {
     }
     slot_of(track)
 }
+
+/// Adds the slots of the tracks of A.B, each with record 0 alone. They follow a VTOC on track 1.
+pub(crate) fn push_set(rt: &HostRuntime, blocks: &mut Vec<u8>) -> Result<(), Fail> {
+    for head in 2..12 {
+        blocks.extend_from_slice(&slot_of(new_track(rt, head)?)?)?;
+    }
+    Ok(())
+}

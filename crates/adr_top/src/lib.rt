@@ -8,10 +8,16 @@ mod listing;
 mod lists;
 mod load;
 mod names;
+mod perform;
 mod print;
+mod releasable;
+mod release;
+mod released;
 mod runner;
+mod statement;
 mod stop;
 mod stream;
+mod tracks;
 mod words;
 
 pub use lists::{Day, InDd, OutDd, OutState};
@@ -27,5 +33,9 @@ mod base_tests;
 mod format_tests;
 #[cfg(test)]
 mod print_tests;
+#[cfg(test)]
+mod release_base;
+#[cfg(test)]
+mod release_tests;
 #[cfg(test)]
 mod tests;

@@ -19,7 +19,7 @@ use vtoc_core::{Row, track_number};
 const UNMOVABLE: u16 = 0x0100;
 
 /// The organization of a data set, by its format 1.
-fn organization_of(f1: &[u8; 140]) -> u16
+pub(crate) fn organization_of(f1: &[u8; 140]) -> u16
     ensures { result ≡ number_at f1.now 82 }
 {
     u16::from_be_bytes([f1[82], f1[83]])
@@ -52,7 +52,7 @@ fn push_organization(text: &mut String, dsorg: u16) -> Result<(), AllocError>
 }
 
 /// How many tracks an extent has.
-fn track_count(extent: Extent) -> u32
+pub(crate) fn track_count(extent: Extent) -> u32
     ensures count { result ≡ (run_of 15 (field_of extent)).len }
     ensures few { result ≤ 2 ^ 20 }
 {

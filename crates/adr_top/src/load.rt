@@ -2,6 +2,7 @@
 
 ghost use Rattle.std.specs.Prelude.{◌≡◌, ◌<◌, ◌≤◌, ◌↔◌, ◌*◌, ◌+◌, ℕ, List, length, IsTrue, MatchOption, IfOk, OnOk, IfErr, IfSome};
 ghost use Rattle.ckd_image.specs.declared.head.Head.{Head};
+ghost use Rattle.ckd_image.specs.Address.{IsCchhr};
 ghost use Rattle.dasd_pool.specs.Disk.{Runs, none};
 ghost use Rattle.vol_label.specs.declared.label.Label.{Label};
 ghost use Rattle.vol_label.specs.Label.{IsInside};
@@ -9,7 +10,7 @@ ghost use Rattle.vol_label.specs.Serial.{Spells};
 ghost use Rattle.redo_core.specs.Reading.{journal_of};
 ghost use Rattle.redo_core.specs.Stops.{IsStatusOf};
 ghost use Rattle.adr_top.specs.Form.{HasPlainUnit};
-ghost use Rattle.adr_top.specs.Loaded.{IsLabelAt, IsFront, IsLoadedUnit};
+ghost use Rattle.adr_top.specs.Loaded.{IsLabelAt, IsFront, IsLawful, IsLoadedUnit};
 ghost use Rattle.adr_top.specs.Stops.{IsReadStop};
 
 use crate::stop::Stop;
@@ -37,11 +38,16 @@ pub(crate) struct Loaded {
 }
 
 /// Reads the slot of a track of unit 0.
-fn read_slot<P: Pool>(alloc: Global, journal: &mut Journal<P>, track: u32) -> Result<Vec<u8>, Stop>
+pub(crate) fn read_slot<P: Pool>(
+    alloc: Global,
+    journal: &mut Journal<P>,
+    track: u32,
+) -> Result<Vec<u8>, Stop>
     requires unit { 0 < journal_of (P.shape journal.old.pool) }
     requires track { track < (P.shape journal.old.pool).blocks 0 }
     ensures read { P.tells → IfOk result (λ slot. slot.items ≡ (P.disk journal.old.pool).state.contents 0 track) }
     ensures short { IfOk result (λ slot. length slot.items ≤ 65536) }
+    ensures long { IfOk result (λ slot. length slot.items ≡ (P.shape journal.old.pool).block_size 0) }
     ensures fault { IfErr result (IsReadStop (P.faults journal.old.pool) (P.faults journal.new.pool)) }
     ensures later { P.faults journal.old.pool ≤ P.faults journal.new.pool }
     ensures shape { P.shape journal.new.pool ≡ P.shape journal.old.pool }
@@ -105,7 +111,7 @@ fn load_front<P: Pool>(
         × IsFront serial.text ((P.shape journal.old.pool).head 0) ((P.shape journal.old.pool).blocks 0)
         ((P.disk journal.old.pool).state.contents 0) front.head front.label)) }
     ensures inside { IfOk result (λ found. IfSome found (λ front. (front.head.device ≡ Device.D3390) × (front.head.tracks ≤ 65535)
-        × (front.head.tracks ≡ (P.shape journal.old.pool).blocks 0) × IsInside front.head front.label.vtoc)) }
+        × (front.head.tracks ≡ (P.shape journal.old.pool).blocks 0) × IsInside front.head front.label.vtoc × IsCchhr front.label.vtoc)) }
     ensures fault { IfErr result (IsReadStop (P.faults journal.old.pool) (P.faults journal.new.pool)) }
     ensures later { P.faults journal.old.pool ≤ P.faults journal.new.pool }
     ensures shape { P.shape journal.new.pool ≡ P.shape journal.old.pool }
@@ -138,6 +144,7 @@ pub(crate) fn load<P: Pool>(
         → ¬ HasPlainUnit name ((P.shape journal.old.pool).head 0) ((P.shape journal.old.pool).blocks 0) ((P.disk journal.old.pool).state.contents 0))
         (IsLoadedUnit serial.text ((P.shape journal.old.pool).head 0) ((P.shape journal.old.pool).blocks 0)
         ((P.disk journal.old.pool).state.contents 0))) }
+    ensures lawful { IfOk result (λ found. IfSome found (IsLawful ((P.shape journal.old.pool).blocks 0) ((P.shape journal.old.pool).block_size 0))) }
     ensures fault { IfErr result (IsReadStop (P.faults journal.old.pool) (P.faults journal.new.pool)) }
     ensures later { P.faults journal.old.pool ≤ P.faults journal.new.pool }
     ensures shape { P.shape journal.new.pool ≡ P.shape journal.old.pool }

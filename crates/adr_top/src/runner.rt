@@ -1,35 +1,34 @@
 //! A run of one text.
 
-ghost use Rattle.std.specs.Prelude.{◌≡◌, ◌≢◌, ◌⊎◌, ◌↔◌, ◌<◌, ◌≤◌, ℕ, List, [], None, length, take, IsTrue, MatchOption, IfSome, IfOk, OnOk, IfErr, string_bytes};
+ghost use Rattle.std.specs.Prelude.{◌≡◌, ◌≢◌, ◌⊎◌, ◌↔◌, ◌<◌, ◌≤◌, List, [], Some, None, length, take, IsTrue, MatchOption, IfSome, IfOk, OnOk, IfErr};
 ghost use Rattle.dasd_pool.specs.Count.{Rose};
-ghost use Rattle.dasd_pool.specs.Disk.{LeavesOnly, Runs, Touches, none};
+ghost use Rattle.dasd_pool.specs.Disk.{LeavesOnly, Touches, none};
 ghost use Rattle.dasd_pool.specs.Stream.{Appends, AppendsSome};
 ghost use Rattle.redo_core.specs.Opening.{SparesVolumes};
-ghost use Rattle.redo_core.specs.Phases.{IsAtRest};
-ghost use Rattle.redo_core.specs.Reading.{journal_of};
 ghost use Rattle.vol_label.specs.declared.serial.Serial.{Serial};
-ghost use Rattle.vol_label.specs.Serial.{IsSerialName, Spells};
+ghost use Rattle.vol_label.specs.Serial.{Spells};
 ghost use Rattle.volume_model.specs.Unit.{UnitModel};
 ghost use Rattle.move_core.specs.Stands.{IsSettled};
 ghost use Rattle.move_core.specs.Runs.{KeepsUnits};
-ghost use Rattle.adr_top.specs.Causes.{IsOutOfWords, HasStatusCause, SaysForm, last_line};
-ghost use Rattle.adr_top.specs.Form.{IsPrintText, HasTextForm, IsOutsideText, IsOtherUnit};
-ghost use Rattle.adr_top.specs.Listed.{ListsUnit, IsReadOnly, Tells, TakesFew};
-ghost use Rattle.adr_top.specs.Stops.{IsTextStop, IsListStop};
-ghost use Rattle.adr_top.specs.Journals.{Does, RefusesJournal, RefusesOpening};
-ghost use Rattle.adr_top.specs.Words.{Named, FormatNamed, AreFormatWords};
-ghost use Rattle.adr_top.specs.Parts.{named_by, EndsListing, EndsRun};
+ghost use Rattle.adr_top.specs.Causes.{IsOutOfWords, HasStatusCause, SaysForm};
+ghost use Rattle.adr_top.specs.Form.{Asks, AsksSome, IsOutsideText};
+ghost use Rattle.adr_top.specs.Listed.{Tells, TakesFew};
+ghost use Rattle.adr_top.specs.Meaning.{Does, DoesSome, IsCutShort, IsSettledAfter, ReadsAfterText, last_lines};
+ghost use Rattle.adr_top.specs.Statement.{IsNamed};
+ghost use Rattle.adr_top.specs.Stops.{IsTextStop};
+ghost use Rattle.adr_top.specs.Journals.{RefusesJournal, RefusesOpening};
+ghost use Rattle.adr_top.specs.Words.{FormatNamed, AreFormatWords};
+ghost use Rattle.adr_top.specs.Parts.{named_by, EndsRun};
 
 use crate::format::{make_journal, tell_fault};
-use crate::left::Left;
+use crate::left::{Moved, unmoved};
 use crate::lists::{Day, InDd, OutDd};
-use crate::load::load;
-use crate::print::listing_text;
+use crate::perform::perform;
+use crate::statement::{Statement, statement_of};
 use crate::stop::{Stop, tell};
-use crate::stream::{read_front, write_all};
-use crate::words::{FileWords, UnitWords, format_words, unit_words};
+use crate::stream::read_front;
+use crate::words::{UnitWords, format_words, unit_words};
 use ckd_image::Word;
-use ckd_image::text::{after, same};
 use dasd_pool::{Pool, Sink, Source};
 use move_core::Step;
 use redo_core::Journal;
@@ -47,21 +46,15 @@ pub struct Ended<P> {
     pub status: u8,
 }
 
+/// What words and text ask for: the unit that the words name, and the text's one statement.
+#[derive(Clone, Copy, Debug)]
+struct Request<'a> {
+    parts: UnitWords<'a>,
+    statement: Statement,
+}
+
 /// The longest text that is read.
 const TEXT_LIMIT: usize = 128;
-
-/// Whether a text is the one statement of the form, for the unit of this name, with or without its line's end.
-fn is_print(text: &[u8], name: &str) -> bool
-    ensures { IsTrue result ↔ IsPrintText name.now text.now }
-{
-    let Some(rest) = after(text, b" PRINT VTOC INDDNAME(") else {
-        return false;
-    };
-    let Some(rest) = after(rest, name.as_bytes()) else {
-        return false;
-    };
-    same(rest, b")") || same(rest, b")\n")
-}
 
 /// Reads a text to the front of a buffer, and says how long it is, where it isn't longer than the limit.
 fn read_text<S: Source>(sysin: &mut S, buffer: &mut [u8; 129]) -> Result<Option<usize>, Stop>
@@ -78,10 +71,11 @@ fn read_text<S: Source>(sysin: &mut S, buffer: &mut [u8; 129]) -> Result<Option<
     Ok(Some(count))
 }
 
-/// What the words name, where words and text are of the form.
-fn asked<'a, S: Source>(words: &'a [Word], sysin: &mut S) -> Result<UnitWords<'a>, Stop>
-    ensures asked { IfOk result (λ parts. HasTextForm words.now (S.left sysin.old) (named_by parts)) }
-    ensures spelled { IfOk result (λ parts. Spells parts.files.name.now parts.files.serial.text) }
+/// What words and text ask for, where both are of the form.
+fn read_request<'a, S: Source>(words: &'a [Word], sysin: &mut S) -> Result<Request<'a>, Stop>
+    ensures asked { IfOk result (λ request. Asks words.now (S.left sysin.old) (named_by request.parts) request.statement) }
+    ensures spelled { IfOk result (λ request. Spells request.parts.files.name.now request.parts.files.serial.text) }
+    ensures named { IfOk result (λ request. IsNamed request.statement) }
     ensures fault { IfErr result (IsTextStop (S.faults sysin.old) (S.faults sysin.new) (IsOutsideText words.now (S.left sysin.old))) }
     ensures few { IfErr result (λ stop. stop ≡ Stop.Form → TakesFew 129 (S.left sysin.old) (S.left sysin.new)) }
     ensures few_asked { OnOk result (TakesFew 129 (S.left sysin.old) (S.left sysin.new)) }
@@ -94,74 +88,10 @@ fn asked<'a, S: Source>(words: &'a [Word], sysin: &mut S) -> Result<UnitWords<'a
     let Some(count) = found else {
         return Err(Stop::Form);
     };
-    if !is_print(&buffer[..count], parts.files.name) {
-        return Err(Stop::Form);
-    }
-    Ok(parts)
-}
-
-/// The lines of the volume on unit 0, where it is of the form.
-fn lines<P: Pool>(
-    alloc: Global,
-    files: FileWords<'_>,
-    journal: &mut Journal<P>,
-) -> Result<String, Stop>
-    requires unit { 0 < journal_of (P.shape journal.old.pool) }
-    requires serial { IsSerialName files.name.now × Spells files.name.now files.serial.text }
-    requires rest { P.tells → IsAtRest (P.shape journal.old.pool) (P.disk journal.old.pool).state journal.old.room journal.old.control journal.old.fills }
-    ensures listed { P.tells → IfOk result (λ text.
-        ListsUnit files.entry.name.now (P.shape journal.old.pool) (P.disk journal.old.pool).state.contents (string_bytes text)) }
-    ensures fault { IfErr result (IsListStop (P.faults journal.old.pool) (P.faults journal.new.pool)
-        (P.tells → IsOtherUnit files.entry.name.now (P.shape journal.old.pool) (P.disk journal.old.pool).state.contents)) }
-    ensures later { P.faults journal.old.pool ≤ P.faults journal.new.pool }
-    ensures shape { P.shape journal.new.pool ≡ P.shape journal.old.pool }
-    ensures same { P.tells → (P.disk journal.new.pool).state ≡ (P.disk journal.old.pool).state }
-    ensures runs { P.tells → Runs none (P.disk journal.old.pool) (P.disk journal.new.pool) }
-{
-    let Some(loaded) = load(alloc, journal, files.serial)? else {
+    let Some(statement) = statement_of(&buffer[..count], parts.files.name) else {
         return Err(Stop::Form);
     };
-    Ok(listing_text(alloc, files.name, &loaded.volume)?)
-}
-
-/// Writes the lines of a run, and gives its status.
-fn tell_lines<O: Sink>(out: &mut O, text: &String) -> u8
-    ensures status { (result ≡ 0) ⊎ (result ≡ 28) }
-    ensures done { result ≡ 0 → Appends (O.taken out.old) (O.taken out.new) (string_bytes text.now) }
-    ensures cut { result ≡ 28 → AppendsSome (O.taken out.old) (O.taken out.new) (string_bytes text.now) × Rose (O.faults out.old) (O.faults out.new) }
-{
-    match write_all(out, text.as_str().as_bytes()) {
-        Ok(()) => 0,
-        Err(_) => 28,
-    }
-}
-
-/// Lists the volume on unit 0 over an open journal.
-fn list<O: Sink, P: Pool>(
-    alloc: Global,
-    files: FileWords<'_>,
-    out: &mut O,
-    mut journal: Journal<P>,
-) -> Left<P>
-    requires unit { 0 < journal_of (P.shape journal.pool) }
-    requires serial { IsSerialName files.name.now × Spells files.name.now files.serial.text }
-    ensures listed { EndsListing result.status files.entry.name.now P.tells (P.shape journal.pool) (P.disk journal.pool).state (P.faults journal.pool) (P.faults result.pool)
-        (O.taken out.old) (O.taken out.new) (O.faults out.old) (O.faults out.new) }
-    ensures later { P.faults journal.pool ≤ P.faults result.pool }
-    ensures shape { P.shape result.pool ≡ P.shape journal.pool }
-    ensures same { P.tells → (P.disk result.pool).state ≡ (P.disk journal.pool).state }
-    ensures runs { P.tells → Runs none (P.disk journal.pool) (P.disk result.pool) }
-{
-    // behind it the gate is closed, so a volume's blocks are what they read
-    let _ = journal.control();
-    let status = match lines(alloc, files, &mut journal) {
-        Ok(text) => tell_lines(out, &text),
-        Err(stop) => tell(out, stop),
-    };
-    Left {
-        pool: journal.into_pool(),
-        status,
-    }
+    Ok(Request { parts, statement })
 }
 
 /// Runs a text over a pool: what it asks for first, then the opening of the journal, and then the statement.
@@ -171,33 +101,33 @@ fn run<S: Source, O: Sink, P: Pool>(
     sysin: &mut S,
     out: &mut O,
     pool: P,
-) -> Left<P>
+) -> Moved<P>
     requires { (P.shape pool).units ≡ 2 }
     ensures ran { EndsRun result.status words.now (S.left sysin.old) P.tells (P.shape pool) (P.disk pool).state (P.faults pool) (P.faults result.pool)
-        (S.faults sysin.old) (S.faults sysin.new) (O.taken out.old) (O.taken out.new) (O.faults out.old) (O.faults out.new) }
+        (S.faults sysin.old) (S.faults sysin.new) (O.taken out.old) (O.taken out.new) (O.faults out.old) (O.faults out.new) result.steps.items result.pending }
     ensures few { result.status ≢ 24 → TakesFew 129 (S.left sysin.old) (S.left sysin.new) }
     ensures shape { P.shape result.pool ≡ P.shape pool }
-    ensures reads { P.tells → result.status ≢ 16 → IsReadOnly (P.shape pool) (P.disk pool).state (P.disk result.pool).state }
+    ensures reads { P.tells → result.status ≢ 16 → ReadsAfterText words.now result.steps.items (P.shape pool) (P.disk pool).state (P.disk result.pool).state }
     ensures unwritten { P.tells → (result.status ≡ 20) ⊎ (result.status ≡ 24) → Touches none (P.disk pool).state (P.disk result.pool).state }
-    ensures keeps { P.tells → (names : List Serial) (units : List UnitModel)
-        → IsSettled (P.shape pool) names (P.disk pool).state units
-        → KeepsUnits (P.shape pool) names (P.disk pool) (P.disk result.pool) (P.faults pool) (P.faults result.pool) units [] None }
+    ensures unasked { P.tells → ¬ AsksSome words.now (S.left sysin.old) → Touches none (P.disk pool).state (P.disk result.pool).state }
+    ensures keeps { P.tells → (names : List Serial) (units : List UnitModel) → IsSettled (P.shape pool) names (P.disk pool).state units
+        → KeepsUnits (P.shape pool) names (P.disk pool) (P.disk result.pool) (P.faults pool) (P.faults result.pool) units result.steps.items result.pending }
+    ensures settled { P.tells → result.status ≢ 16 → (names : List Serial) (units : List UnitModel) → IsSettled (P.shape pool) names (P.disk pool).state units
+        → IsSettledAfter (P.shape pool) names units result.steps.items (P.disk result.pool).state }
 {
-    let parts = match asked(words, sysin) {
-        Ok(parts) => parts,
+    let request = match read_request(words, sysin) {
+        Ok(request) => request,
         Err(stop) => {
             let status = tell(out, stop);
-            return Left { pool, status };
+            return unmoved(alloc, pool, status);
         }
     };
-    match Journal::open_units(alloc, pool, &[parts.files.serial]) {
-        Ok(journal) => list(alloc, parts.files, out, journal),
+    let files = request.parts.files;
+    match Journal::open_units(alloc, pool, &[files.serial]) {
+        Ok(journal) => perform(alloc, request.statement, files, out, journal),
         Err(stop) => {
             let status = tell_fault(out, stop.cause);
-            Left {
-                pool: stop.pool,
-                status,
-            }
+            unmoved(alloc, stop.pool, status)
         }
     }
 }
@@ -219,29 +149,29 @@ fn is_ready(words: &[Word], units: u32, outs: &Vec<OutDd>, ins: &Vec<InDd>) -> b
     ins.is_empty()
 }
 
-/// What a run leaves that did no step.
-fn without_steps<P>(alloc: Global, left: Left<P>, outs: Vec<OutDd>, ins: Vec<InDd>) -> Ended<P>
-    ensures pool { result.pool ≡ left.pool }
+/// What a run leaves, with the outputs and inputs that were handed in.
+fn end<P>(moved: Moved<P>, outs: Vec<OutDd>, ins: Vec<InDd>) -> Ended<P>
+    ensures pool { result.pool ≡ moved.pool }
     ensures outs { result.outs.items ≡ outs.items }
     ensures ins { result.ins.items ≡ ins.items }
-    ensures steps { result.steps.items ≡ [] }
-    ensures pending { result.pending ≡ None }
-    ensures status { result.status ≡ left.status }
+    ensures steps { result.steps.items ≡ moved.steps.items }
+    ensures pending { result.pending ≡ moved.pending }
+    ensures status { result.status ≡ moved.status }
 {
     Ended {
-        pool: left.pool,
+        pool: moved.pool,
         outs,
         ins,
-        steps: Vec::new(alloc),
-        pending: None,
-        status: left.status,
+        steps: moved.steps,
+        pending: moved.pending,
+        status: moved.status,
     }
 }
 
 /// Runs the words of `adrdssu`: reads the text from `sysin`, runs it over the pool, and writes the lines to `out`.
 ///
-/// Built are one listing of a 3390 volume whose VTOC is one track with data sets of at most one extent, and the making of a
-/// journal; for other words, texts and volumes the status is 48. `held` isn't read.
+/// Built are one listing of a 3390 volume whose VTOC is one track with data sets of at most one extent, the release of one data set
+/// on it, and the making of a journal; for other words, texts and volumes the status is 48. `held` isn't read.
 pub fn batch<S: Source, H: Source, O: Sink, P: Pool>(
     alloc: Global,
     words: &[Word],
@@ -260,11 +190,16 @@ pub fn batch<S: Source, H: Source, O: Sink, P: Pool>(
     ensures cause { HasStatusCause result.status (S.faults sysin.old) (S.faults sysin.new) (P.faults pool) (P.faults result.pool)
         (O.faults out.old) (O.faults out.new) }
 
-    // Where it answers 0, `out` took the lines of the volume on unit 0, or the line of the journal that was made; with 28 a front of them.
-    ensures done { result.status ≡ 0 → Does words.now (S.left sysin.old) P.tells (P.shape pool) (P.disk pool).state (P.disk result.pool).state
-        (Appends (O.taken out.old) (O.taken out.new)) }
-    ensures cut { result.status ≡ 28 → Does words.now (S.left sysin.old) P.tells (P.shape pool) (P.disk pool).state (P.disk result.pool).state
-        (AppendsSome (O.taken out.old) (O.taken out.new)) }
+    // Where it answers 0 or 4, that is the code that the text means for the volume on unit 0, its steps were done, and `out` took its
+    // lines, or the line of the journal that was made; with 28 a front of them.
+    ensures done { (result.status ≡ 0) ⊎ (result.status ≡ 4) → Does words.now (S.left sysin.old) P.tells (P.shape pool) (P.disk pool).state (P.disk result.pool).state
+        result.status result.steps.items (Appends (O.taken out.old) (O.taken out.new)) }
+    ensures cut { result.status ≡ 28 → DoesSome words.now (S.left sysin.old) P.tells (P.shape pool) (P.disk pool).state (P.disk result.pool).state
+        result.steps.items (AppendsSome (O.taken out.old) (O.taken out.new)) }
+
+    // With another status no step was done. One is under way only where a fault of the pool cut it short; it is the one that the text means.
+    ensures undone { result.status ≢ 0 → result.status ≢ 28 → result.steps.items ≡ [] }
+    ensures under_way { (step : Step) → result.pending ≡ Some step → IsCutShort words.now (S.left sysin.old) P.tells (P.shape pool) (P.disk pool).state.contents result.status step }
 
     // 20 only where the journal is refused that is asked for or opened, by the first cause.
     ensures refused_journal { result.status ≡ 20 → RefusesJournal words.now P.tells (P.shape pool) (P.disk pool).state
@@ -272,47 +207,54 @@ pub fn batch<S: Source, H: Source, O: Sink, P: Pool>(
         ⊎ RefusesOpening words.now (S.left sysin.old) P.tells (P.shape pool) (P.disk pool).state
         (O.taken out.old) (O.taken out.new) (O.faults out.old) (O.faults out.new) }
 
-    // 48 only where words, text or unit are of no form; the pool is called only where words and text are of one.
+    // 48 only where words, text or unit are of no form; the pool fails only where words and text are of one.
     ensures form { SaysForm result.status words.now (S.left sysin.old) P.tells (P.shape pool) (P.disk pool).state.contents }
 
-    // Where it ends otherwise, `out` took the last line alone, as far as it could.
-    ensures told { result.status ≢ 0 → result.status ≢ 20 → result.status ≢ 28
-        → Tells (O.taken out.old) (O.taken out.new) (O.faults out.old) (O.faults out.new) (last_line result.status) }
+    // Where it ends otherwise, `out` took the last line alone, as far as it could, and before it that a statement started that was cut short.
+    ensures told { result.status ≢ 0 → result.status ≢ 4 → result.status ≢ 20 → result.status ≢ 28
+        → Tells (O.taken out.old) (O.taken out.new) (O.faults out.old) (O.faults out.new) (last_lines result.status result.pending) }
 
-    // Of the text at most 129 bytes are read, and none where a journal is made.
+    // Of the text at most 129 bytes are read, and none where a journal is made or the words are refused. Of `held` none is read.
     ensures few { result.status ≢ 24 → TakesFew 129 (S.left sysin.old) (S.left sysin.new) }
+    ensures unread_words { result.status ≡ 36 → (S.left sysin.new ≡ S.left sysin.old) × (S.faults sysin.new ≡ S.faults sysin.old) }
+    ensures unread_held { (H.left _held.new ≡ H.left _held.old) × (H.faults _held.new ≡ H.faults _held.old) }
     ensures unread { (named : FormatNamed) → AreFormatWords words.now named → (S.left sysin.new ≡ S.left sysin.old) × (S.faults sysin.new ≡ S.faults sysin.old) }
 
-    // Over a settled pool: whatever moment a stop comes at, the units stand as they were, or as the steps leave them.
+    // Over a settled pool: whatever moment a stop comes at, the units stand as they were, or as the steps leave them. Where the pool
+    // didn't fail they stand as all steps leave them, and the pool is settled.
     ensures headline { P.tells → ((named : FormatNamed) → ¬ AreFormatWords words.now named) → (names : List Serial) (units : List UnitModel)
         → IsSettled (P.shape pool) names (P.disk pool).state units
         → KeepsUnits (P.shape pool) names (P.disk pool) (P.disk result.pool) (P.faults pool) (P.faults result.pool) units result.steps.items result.pending }
+    ensures settled { P.tells → ((named : FormatNamed) → ¬ AreFormatWords words.now named) → result.status ≢ 16 → (names : List Serial) (units : List UnitModel)
+        → IsSettled (P.shape pool) names (P.disk pool).state units
+        → IsSettledAfter (P.shape pool) names units result.steps.items (P.disk result.pool).state }
 
-    // A run that doesn't make a journal leaves what the pool's blocks read, unless the pool failed; a refusal writes nothing.
+    // A run that doesn't make a journal leaves what the pool's blocks read but for the VTOC that its step shrank, unless the pool
+    // failed. A refusal writes nothing, and neither does a run whose words and text ask for nothing.
     ensures shape { P.shape result.pool ≡ P.shape pool }
     ensures reads { P.tells → ((named : FormatNamed) → ¬ AreFormatWords words.now named) → result.status ≢ 16
-        → IsReadOnly (P.shape pool) (P.disk pool).state (P.disk result.pool).state }
+        → ReadsAfterText words.now result.steps.items (P.shape pool) (P.disk pool).state (P.disk result.pool).state }
     ensures unwritten { P.tells → (result.status ≡ 20) ⊎ ((result.status ≡ 24) ⊎ (result.status ≡ 36))
         → Touches none (P.disk pool).state (P.disk result.pool).state }
+    ensures unasked { P.tells → ((named : FormatNamed) → ¬ AreFormatWords words.now named) → ¬ AsksSome words.now (S.left sysin.old)
+        → Touches none (P.disk pool).state (P.disk result.pool).state }
 
-    // The making of a journal writes only blocks of the journal.
+    // The making of a journal does no step and writes only blocks of the journal.
+    ensures stepless { (named : FormatNamed) → AreFormatWords words.now named → (result.steps.items ≡ []) × (result.pending ≡ None) }
     ensures unmade { P.tells → (named : FormatNamed) → AreFormatWords words.now named → result.status ≢ 0 → result.status ≢ 16 → result.status ≢ 28
         → (P.disk result.pool).state ≡ (P.disk pool).state }
     ensures any_moment { P.tells → (named : FormatNamed) → AreFormatWords words.now named
         → LeavesOnly (P.disk pool) (P.disk result.pool) (SparesVolumes (P.shape pool) (P.disk pool).state) }
-    ensures steps { result.steps.items ≡ [] }
-    ensures pending { result.pending ≡ None }
     ensures outs { result.outs.items ≡ outs.items }
     ensures ins { result.ins.items ≡ ins.items }
 {
     if !is_ready(words, pool.units(), &outs, &ins) {
         let status = tell(out, Stop::Words);
-        return without_steps(alloc, Left { pool, status }, outs, ins);
+        return end(unmoved(alloc, pool, status), outs, ins);
     }
     if let Some(parts) = format_words(words) {
         let left = make_journal(alloc, parts, out, pool);
-        return without_steps(alloc, left, outs, ins);
+        return end(unmoved(alloc, left.pool, left.status), outs, ins);
     }
-    let left = run(alloc, words, sysin, out, pool);
-    without_steps(alloc, left, outs, ins)
+    end(run(alloc, words, sysin, out, pool), outs, ins)
 }

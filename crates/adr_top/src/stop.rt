@@ -1,8 +1,11 @@
 //! Why a run ends before it has listed its volume.
 
 ghost use Rattle.adr_top.specs.declared.stop.Stop.TheVariants as stops;
-ghost use Rattle.std.specs.Prelude.{◌≡◌, ◌≤◌};
+ghost use Rattle.std.specs.Prelude.{◌≡◌, ◌≢◌, ◌⊎◌, ◌≤◌, ◌++◌, codes};
+ghost use Rattle.dasd_pool.specs.Count.{Rose};
+ghost use Rattle.dasd_pool.specs.Stream.{Appends, AppendsSome};
 ghost use Rattle.adr_top.specs.Causes.{last_line};
+ghost use Rattle.adr_top.specs.Print.{started};
 ghost use Rattle.adr_top.specs.Listed.{Tells};
 ghost use Rattle.adr_top.specs.Stops.{status_of, line_of};
 
@@ -83,6 +86,31 @@ impl From<ReadFault> for Stop {
     fn from(_: ReadFault) -> Stop {
         Stop::Sysin
     }
+}
+
+/// Writes the lines of a run, and gives its status: the code, where all of them are taken.
+pub(crate) fn tell_lines<O: Sink>(out: &mut O, text: &[u8], code: u8) -> u8
+    requires { code ≢ 28 }
+    ensures status { (result ≡ code) ⊎ (result ≡ 28) }
+    ensures done { result ≡ code → Appends (O.taken out.old) (O.taken out.new) text.now }
+    ensures cut { result ≡ 28 → AppendsSome (O.taken out.old) (O.taken out.new) text.now × Rose (O.faults out.old) (O.faults out.new) }
+{
+    match write_all(out, text) {
+        Ok(()) => code,
+        Err(_) => 28,
+    }
+}
+
+/// Tries to write that a release started and the last line of its run, which a fault of the pool cut short, and gives its status.
+pub(crate) fn tell_cut_short<O: Sink>(out: &mut O) -> u8
+    ensures status { result ≡ 16 }
+    ensures told { Tells (O.taken out.old) (O.taken out.new) (O.faults out.old) (O.faults out.new) (started 1 (codes "RELEASE") ++ last_line 16) }
+{
+    let _ = write_all(
+        out,
+        b"ADR101I (001) RELEASE STARTED\nADR516T (000) RUN ENDED WITH STATUS 16\n",
+    );
+    16
 }
 
 /// Tries to write the last line of a run that ended, and gives its status. A fault of that write changes no status.

@@ -1,15 +1,15 @@
 use super::*;
-use crate::base::{BASE, SLOT, Vtoc, label_slot, vtoc_slot};
+use crate::base::{BASE, SLOT, Vtoc, label_slot, push_set, vtoc_slot};
 use crate::format_tests::{Change, journal};
 use ckd_image::{Bytes, Word};
 use dasd_pool::{MemoryPool, MemorySink, MemorySource, UnitText};
 use std::test::*;
 
-const TODAY: Day = Day { year: 2026, day: 1 };
+pub(crate) const TODAY: Day = Day { year: 2026, day: 1 };
 
-const WORDS: [&str; 6] = ["--unit", "VOL001=a", "--journal", "b", "--sysin", "c"];
+pub(crate) const WORDS: [&str; 6] = ["--unit", "VOL001=a", "--journal", "b", "--sysin", "c"];
 
-const TEXT: &[u8] = b" PRINT VTOC INDDNAME(VOL001)\n";
+pub(crate) const TEXT: &[u8] = b" PRINT VTOC INDDNAME(VOL001)\n";
 
 const LISTING: &str = "ADR101I (001) PRINT STARTED
 ADR110I (001) VOLUME VOL001 3390 USABLE 15 FREE 13 IN 1 RUNS INDEX 0
@@ -19,14 +19,14 @@ ADR103I (000) MAXIMUM CODE 0
 
 const WITHOUT_WORDS: &str = "ADR536T (000) RUN ENDED WITH STATUS 36\n";
 
-const NOT_OF_THE_FORM: &str = "ADR548T (000) RUN ENDED WITH STATUS 48\n";
+pub(crate) const NOT_OF_THE_FORM: &str = "ADR548T (000) RUN ENDED WITH STATUS 48\n";
 
 /// Where the bytes of the first and the second DSCB begin among those of the unit, and those of the third.
 const FOUR: usize = SLOT + 29;
 
 const FIVE: usize = SLOT + 177;
 
-const THIRD: usize = SLOT + 325;
+pub(crate) const THIRD: usize = SLOT + 325;
 
 /// The first calls of text, pool and output that fail.
 #[derive(Clone, Copy)]
@@ -81,6 +81,9 @@ pub(crate) fn volume(rt: &HostRuntime, given: Given) -> Result<UnitText, Fail> {
     blocks.extend_from_slice(&label_slot(rt, given.vtoc)?)?;
     blocks.resize(usize::from(given.vtoc.head) * SLOT, 0)?;
     blocks.extend_from_slice(&vtoc_slot(rt, given.vtoc)?)?;
+    if given.vtoc.set {
+        push_set(rt, &mut blocks)?;
+    }
     blocks.resize(852_480, 0)?;
     for (place, byte) in given.blocks {
         if *place < blocks.len() {
@@ -92,7 +95,7 @@ pub(crate) fn volume(rt: &HostRuntime, given: Given) -> Result<UnitText, Fail> {
 }
 
 /// A registration of VOL001 with room 3.
-const REGISTERED: [Change; 16] = [
+pub(crate) const REGISTERED: [Change; 16] = [
     (0, b'A'),
     (1, b'D'),
     (2, b'R'),

@@ -1,5 +1,5 @@
 -- What a run keeps of the units that a pool stood for: at rest, within an opening, and after each step that a commit makes.
-use Rattle.std.proofs.Common.{◌≡◌, ⊎_elim, inl, inr, ℕ, ◌≤◌, List, [], ◌∷◌, ◌++◌, length, Bool, false, Some, None, refl, sym, subst, arith}
+use Rattle.std.proofs.Common.{◌≡◌, ⊎_elim, inl, inr, ℕ, zero, suc, ◌≤◌, List, [], ◌∷◌, ◌++◌, length, take, Bool, false, Option, Some, None, refl, sym, subst, arith}
 use Rattle.std.proofs.lemmas.List.{length-append, take-append-le, take_all}
 use Rattle.dasd_pool.specs.Count.{Rose}
 use Rattle.dasd_pool.specs.Disk.{Image, Shape, State, Disk, LeavesOnly, Touches, Spares, Runs, none}
@@ -16,7 +16,7 @@ use Rattle.move_core.specs.declared.steps.Step.{Step}
 use Rattle.move_core.specs.Steps.{IsStep, Reaches}
 use Rattle.move_core.specs.Stands.{Stands, IsSettled}
 use Rattle.move_core.specs.Laws.{WillStand}
-use Rattle.move_core.specs.Runs.{StandsAfter, StandsAfterSome, StandsAfterMost, KeepsUnits}
+use Rattle.move_core.specs.Runs.{moves_of, StandsAfter, StandsAfterSome, StandsAfterMost, KeepsUnits}
 use Rattle.move_core.proofs.Standing.{opening_stands, image_stands, opened_settled, commit_stands, committed_settled}
 
 -- a settled pool of which nothing is written stays settled
@@ -207,19 +207,32 @@ module _ (shape : Shape) (names : List Serial) (old now new : Disk) (before betw
       settled_keeps shape names old new before after first moves made step_moments behind
       (committed_settled shape names now.state new.state units made entries settled will committed)
 
--- an opening, calls that write nothing, and one commit
-module _ (shape : Shape) (names : List Serial) (old mid now new : Disk) (before after : ℕ) (units made : List UnitModel) (room : ℕ) (control : Control) (fills : List Bool)
-    (settled : IsSettled shape names old.state units) (opening : LeavesOnly old mid (ReadsSame shape old.state))
-    (opened : IsOpened shape old.state names room control fills mid.state) (run : Runs none mid now) (settled_now : IsSettled shape names now.state units)
-    (closed : is_open (now.state.contents (journal_of shape) 1) ≡ false) (entries : List Entry) (will : WillStand shape names settled_now.stands.reading entries made)
-    (step : Step) (is_step : IsStep step units made) (moments : LeavesOnly now new (OldOrNew shape now.state entries)) where
-  opened_now : KeepsUnits shape names old now before before units [] None
-  opened_now = opened_run shape names old mid now before before units room control fills settled opening opened run
+-- ---- a run behind a run that did no step
 
-  pub one_step : IsCommitted shape now.state entries new.state → KeepsUnits shape names old new before after units (step ∷ []) None
-  one_step committed =
-      committed_step shape names old now new before before after units [] units made opened_now refl settled_now closed entries will step is_step moments committed
+module _ (shape : Shape) (names : List Serial) (old mid new : Disk) (before between after : ℕ) (units : List UnitModel) (steps : List Step) (pending : Option Step) where
+  none_yet : (count : ℕ) (now : List UnitModel) → Reaches units (take count []) now → now ≡ units
+  none_yet zero now reached = reached
+  none_yet (suc count) now reached = reached
 
-  pub one_failed_step : Rose before after → KeepsUnits shape names old new before after units [] (Some step)
-  one_failed_step rose =
-      failed_step shape names old now new before before after units [] units made opened_now refl settled_now closed entries will step is_step moments rose
+  no_fewer : (image : Image) → StandsAfterSome shape names units [] image → StandsAfterSome shape names units (moves_of steps pending) image
+  no_fewer image some = (
+    0,
+    record {
+      within = omega arith;
+      units = some.1.units;
+      reached = none_yet some.0 some.1.units some.1.reached;
+      stands = some.1.stands;
+    },
+  )
+
+  pub keeps_then : KeepsUnits shape names old mid before between units [] None → KeepsUnits shape names mid new between after units steps pending → before ≤ between
+      → KeepsUnits shape names old new before after units steps pending
+  keeps_then first second later =
+      let calm : ¬ Rose before after → ¬ Rose between after = λ unfailed rose. unfailed (rose_since before between after later rose) in
+      record {
+        any_moment = and_then old mid new (StandsAfterSome shape names units (moves_of steps pending))
+            (weaken old mid (StandsAfterSome shape names units []) (StandsAfterSome shape names units (moves_of steps pending)) no_fewer first.any_moment) second.any_moment;
+        returned = second.returned;
+        nothing_pending = λ unfailed. second.nothing_pending (calm unfailed);
+        whole = λ unfailed. second.whole (calm unfailed);
+      }

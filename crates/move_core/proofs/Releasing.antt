@@ -41,7 +41,7 @@ use Rattle.move_core.proofs.Replacing.{Split, split_at, replaces, after, new_mea
 
 -- ---- lists
 
-split_contained : {X : Type 0} (xs : List X) (x : X) → Contains xs x → (place : ℕ) × Split place x xs
+pub split_contained : {X : Type 0} (xs : List X) (x : X) → Contains xs x → (place : ℕ) × Split place x xs
 split_contained xs x there = (there.0, split_at xs there.0 x (slice_get-get_or xs there.0 x there.1 ∙ ap Some there.2))
 
 middle_contained : {X : Type 0} (front back : List X) (x : X) → Contains (front ++ (x ∷ back)) x

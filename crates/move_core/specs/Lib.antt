@@ -4,3 +4,4 @@ pub mod Laws
 pub mod Shrinking
 pub mod Releasing
 pub mod Runs
+pub mod Release

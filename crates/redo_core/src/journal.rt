@@ -1,8 +1,9 @@
 //! The journal of a pool, between two commits.
 
-ghost use Rattle.std.specs.Prelude.{◌≡◌, ◌≢◌, ◌≤◌, ◌<◌, ℕ, All, AllPairs, length, IfOk, IfErr, OnOk};
+ghost use Rattle.std.specs.Prelude.{◌≡◌, ◌≢◌, ◌≤◌, ◌<◌, ℕ, All, AllPairs, length, false, IfOk, IfErr, OnOk};
 ghost use Rattle.dasd_pool.specs.Count.{Rose, HasCause};
 ghost use Rattle.dasd_pool.specs.Disk.{Image, LeavesOnly, Runs, Touches, IsSynced, none, is_at};
+ghost use Rattle.redo_core.specs.declared.control.Control.TheVariants.{Idle};
 ghost use Rattle.redo_core.specs.Reading.{journal_of, fills_of};
 ghost use Rattle.redo_core.specs.Phases.{targets, of_commit, IsAtRest, IsEntry, OldOrNew, IsCommitted};
 ghost use Rattle.redo_core.specs.Opening.{AreNames, IsFormatted, IsJournalSynced, IsOpened, ReadsSame, SparesVolumes};
@@ -39,7 +40,7 @@ pub struct Journal<P: Pool> {
 }
 
 impl<P: Pool> Model for Journal<P> {
-    ghost use Rattle.std.specs.Prelude.{◌≡◌, length};
+    ghost use Rattle.std.specs.Prelude.{◌≡◌, ◌≤◌, length};
     ghost use Rattle.redo_core.specs.Format.{wide};
     ghost use Rattle.redo_core.specs.Phases.{IsAtRest};
     ghost use Rattle.redo_core.specs.Steps.{IsJournal};
@@ -51,7 +52,7 @@ impl<P: Pool> Model for Journal<P> {
 
     ghost view = { λ j. record { pool = j.pool; room = j.room; control = j.control; fills = j.fills } };
 
-    ghost invariant = { λ j. IsJournal (P.shape j.pool) j.unit j.room × (length j.buffer.items ≡ wide)
+    ghost invariant = { λ j. IsJournal (P.shape j.pool) j.unit j.room × (3 ≤ j.room) × (length j.buffer.items ≡ wide)
         × (P.tells → IsAtRest (P.shape j.pool) (P.disk j.pool).state j.room j.control j.fills) };
 }
 
@@ -110,6 +111,11 @@ impl<P: Pool> Journal<P> {
         ensures opened { P.tells → IfOk result (λ journal.
             IsOpened (P.shape pool) (P.disk pool).state names.now journal.room journal.control journal.fills (P.disk journal.pool).state) }
 
+        // The journal is at rest then, a commit may have three entries at least, and nothing is under way.
+        ensures rest { P.tells → IfOk result (λ journal. IsAtRest (P.shape pool) (P.disk journal.pool).state journal.room journal.control journal.fills) }
+        ensures room { IfOk result (λ journal. 3 ≤ journal.room) }
+        ensures idle { IfOk result (λ journal. (journal.control ≡ Idle) × ((u : ℕ) → u < journal_of (P.shape pool) → fills_of journal.fills u ≡ false)) }
+
         // It opens only where nothing stands against it. A refusal names the first cause; nothing was written, and what was synced still is.
         ensures allowed { P.tells → OnOk result (MayOpen (P.shape pool) (P.disk pool).state.contents names.now) }
         ensures refused { P.tells → IfErr result (λ stop. IsOpenFault (P.shape pool) (P.disk pool).state.contents names.now stop.cause) }
@@ -156,7 +162,8 @@ impl<P: Pool> Journal<P> {
 
     /// How many entries a commit may have.
     pub fn room(&self) -> u32
-        ensures { result ≡ self.now.room }
+        ensures value { result ≡ self.now.room }
+        ensures least { 3 ≤ result }
     {
         self.room
     }

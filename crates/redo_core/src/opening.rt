@@ -263,6 +263,7 @@ fn find_idle<P: Pool>(
     ensures shape { P.shape pool.new ≡ P.shape pool.old }
     ensures head { OnOk result (HasHead (P.shape pool.old)) }
     ensures count { IfOk result (λ f. length f.names.items ≡ journal) }
+    ensures least { IfOk result (λ f. 3 ≤ f.room) }
     ensures long { IfOk result (λ f. 4 + f.room ≤ (P.shape pool.old).blocks journal) }
     ensures most { IfOk result (λ f. f.room ≤ 8191) }
     ensures few { IfOk result (λ f. length f.targets.items ≤ f.room) }
@@ -270,6 +271,7 @@ fn find_idle<P: Pool>(
     ensures targets { P.tells → IfOk result (λ f. HasTargets (journal_of (P.shape pool.old)) (zeroed (P.shape pool.old) (P.disk pool.old).state.contents) f.targets.items) }
     ensures idle { P.tells → IfOk result (λ f. IsIdle (P.shape pool.old) (P.disk pool.old).state.contents
         (record { volumes = (P.disk pool.old).state.contents; names = f.names.items; room = f.room; control = f.control; fills = fills_of f.fills })) }
+    ensures quiet { IfOk result (λ f. (f.control ≡ Idle) × ((u : ℕ) → u < journal_of (P.shape pool.old) → fills_of f.fills u ≡ false)) }
     ensures refused { P.tells → IfErr result (λ fault. (names : List Serial) → IsOpenFault (P.shape pool.old) (P.disk pool.old).state.contents names fault) }
     ensures same { P.tells → (P.disk pool.new).state ≡ (P.disk pool.old).state }
     ensures runs { P.tells → Runs none (P.disk pool.old) (P.disk pool.new) }
@@ -343,6 +345,7 @@ fn look<P: Pool>(
     requires names { length names.now ≡ journal }
     ensures shape { P.shape pool.new ≡ P.shape pool.old }
     ensures journal { IfOk result (λ f. IsJournal (P.shape pool.old) journal f.room) }
+    ensures least { IfOk result (λ f. 3 ≤ f.room) }
     ensures few { IfOk result (λ f. length f.targets.items ≤ f.room) }
     ensures there { IfOk result (λ f. All (IsTarget (P.shape pool.old) journal) f.targets.items) }
     ensures synced { P.tells → OnOk result (IsSynced (P.disk pool.new).state) }
@@ -350,6 +353,7 @@ fn look<P: Pool>(
     ensures reads { P.tells → IfOk result (λ f. Reads (P.shape pool.old) (P.disk pool.old).state.contents
         (record { volumes = overlay (P.shape pool.old).block_size (journal_of (P.shape pool.old)) (P.disk pool.old).state.contents; names = names.now; room = f.room; control = f.control; fills = fills_of f.fills })) }
     ensures allowed { P.tells → OnOk result (MayOpen (P.shape pool.old) (P.disk pool.old).state.contents names.now) }
+    ensures quiet { IfOk result (λ f. (f.control ≡ Idle) × ((u : ℕ) → u < journal_of (P.shape pool.old) → fills_of f.fills u ≡ false)) }
     ensures refused { P.tells → IfErr result (IsOpenFault (P.shape pool.old) (P.disk pool.old).state.contents names.now) }
     ensures runs { P.tells → Runs none (P.disk pool.old) (P.disk pool.new) }
     ensures faults { P.faults pool.old ≤ P.faults pool.new }
@@ -380,9 +384,11 @@ pub fn open_on<P: Pool>(
     requires names { length names.now ≡ journal }
     ensures shape { P.shape pool.new ≡ P.shape pool.old }
     ensures journal { IfOk result (λ f. IsJournal (P.shape pool.old) journal f.room) }
+    ensures least { IfOk result (λ f. 3 ≤ f.room) }
     ensures rest { P.tells → IfOk result (λ f. IsAtRest (P.shape pool.old) (P.disk pool.new).state f.room f.control f.fills) }
     ensures opened { P.tells → IfOk result (λ f. IsOpened (P.shape pool.old) (P.disk pool.old).state names.now f.room f.control f.fills (P.disk pool.new).state) }
     ensures allowed { P.tells → OnOk result (MayOpen (P.shape pool.old) (P.disk pool.old).state.contents names.now) }
+    ensures quiet { IfOk result (λ f. (f.control ≡ Idle) × ((u : ℕ) → u < journal_of (P.shape pool.old) → fills_of f.fills u ≡ false)) }
     ensures refused { P.tells → IfErr result (IsOpenFault (P.shape pool.old) (P.disk pool.old).state.contents names.now) }
     ensures unwritten { P.tells → IfErr result (λ fault. (fault ≡ JournalFault.Pool → ⊥) → Touches none (P.disk pool.old).state (P.disk pool.new).state) }
     ensures any_moment { P.tells → IsJournalSynced (P.shape pool.old) (P.disk pool.old).state

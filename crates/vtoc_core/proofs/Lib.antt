@@ -31,3 +31,6 @@ pub mod Tallies
 pub mod Planned
 pub mod RightCounts
 pub mod Shrunk
+pub mod Spelled
+pub mod Pinning
+pub mod InRange

@@ -69,7 +69,7 @@ test_same : (a b : ℕ) → (a == b) ≡ true → a ≡ b
 test_same a b e = grind (arith, nat_tests)
 
 -- the records are numbered, so one alone has the number
-only_numbered : (n r : ℕ) (rec0 : Rec) (recs : List Rec) → NumberedFrom n recs → find (λ x. x.r == r) recs ≡ Some rec0 → AllByRecursion (λ rec. rec.r ≡ r → rec ≡ rec0) recs
+pub only_numbered : (n r : ℕ) (rec0 : Rec) (recs : List Rec) → NumberedFrom n recs → find (λ x. x.r == r) recs ≡ Some rec0 → AllByRecursion (λ rec. rec.r ≡ r → rec ≡ rec0) recs
 only_numbered n r rec0 [] numbered found = tt
 only_numbered n r rec0 (rec ∷ recs) numbered found = by (λ later. only_numbered (n + 1) r rec0 recs numbered.1 later) (rec.r == r) refl found
   where

@@ -6,3 +6,5 @@ pub mod Slot
 pub mod Edit
 pub mod Shrink
 pub mod Release
+pub mod Named
+pub mod Whole

@@ -2,7 +2,9 @@
 #![tactic(auto)]
 
 mod edit;
+mod find;
 mod load;
+mod pinned;
 mod places;
 mod plan;
 mod release;
@@ -16,7 +18,9 @@ mod track;
 mod volume;
 
 pub use edit::{put_counts, put_entries, put_only_extent};
+pub use find::{is_named, row_named};
 pub use load::load_plain;
+pub use pinned::{is_pinned, kept_tracks};
 pub use release::{has_one_extent, shrink};
 pub use slot::put_dscb;
 pub use track::track_number;

@@ -45,7 +45,7 @@ fn write_dscbs(slot: &mut [u8], places: Places, written: &Written)
 }
 
 /// How many tracks an extent has, where its last one isn't before its first.
-fn tracks_of(extent: Extent) -> u32
+pub(crate) fn tracks_of(extent: Extent) -> u32
     ensures { result ≡ (run_of 15 (field_of extent)).len }
 {
     let end = track_number(extent.last) + 1;

@@ -2,9 +2,9 @@
 
 ghost use Rattle.std.specs.Prelude.{◌≤◌, length};
 
-use crate::{Volume, has_one_extent, load_plain, shrink};
+use crate::{Extents, Row, Volume, has_one_extent, is_pinned, kept_tracks, load_plain, shrink};
 use ckd_image::{Cchhr, Device, Head, TrackAt};
-use dscb_rec::{Entry5, put_entry};
+use dscb_rec::{Entry5, Extent, put_entry};
 use free_map::Run;
 use std::test::*;
 use vol_label::{Label, Serial};
@@ -343,5 +343,69 @@ fn more_runs_than_entries_are_not_written(rt: HostRuntime) -> Result<(), Fail> {
     let fits = shrink_first(&rt, FOUR_CYLINDERS, &mut slot, 1)?;
     assert!(rt; !fits);
     assert!(rt; slot == many_runs(&rt)?);
+    Ok(())
+}
+
+/// The row of a data set on tracks 2 to 11, whose format 1 has one other byte.
+fn row_with(rt: &HostRuntime, offset: usize, byte: u8) -> Result<Row, Fail> {
+    let mut f1 = format_1_on(0xc1, 2, 11);
+    if offset < 140 {
+        f1[offset] = byte;
+    }
+    let mut extents = Extents::new(rt.alloc());
+    extents.push(Extent {
+        kind: 1,
+        number: 0,
+        first: TrackAt {
+            cylinder: 0,
+            head: 2,
+        },
+        last: TrackAt {
+            cylinder: 0,
+            head: 11,
+        },
+    })?;
+    Ok(Row {
+        name: [0x40; 44],
+        f1,
+        extents,
+        threes: 0,
+    })
+}
+
+/// Bytes of a format 1, and whether it is pinned by them: a name, a dot behind it, a small letter, an organization, indicators, and
+/// a volume number.
+const PINNED: [(usize, u8, bool); 8] = [
+    (0, 0xe9, false),
+    (1, 0x4b, true),
+    (1, 0x81, true),
+    (82, 0x40, false),
+    (82, 0x80, true),
+    (78, 0x02, true),
+    (61, 0x08, true),
+    (52, 2, true),
+];
+
+#[test]
+fn a_data_set_is_pinned_by_its_format_1(rt: HostRuntime) -> Result<(), Fail> {
+    for (offset, byte, pinned) in PINNED {
+        let row = row_with(&rt, offset, byte)?;
+        assert_eq!(rt; is_pinned(&row), pinned);
+    }
+    Ok(())
+}
+
+/// The last block's track, and how many tracks of ten are kept.
+const KEPT: [(u8, u32); 4] = [(0, 1), (3, 4), (9, 10), (200, 10)];
+
+#[test]
+fn the_used_tracks_are_kept(rt: HostRuntime) -> Result<(), Fail> {
+    for (track, kept) in KEPT {
+        let row = row_with(&rt, 99, track)?;
+        if !has_one_extent(&row, 0) {
+            return Err(Fail::new("the data set has another extent"));
+        }
+        assert_eq!(rt; kept_tracks(&row), kept);
+    }
     Ok(())
 }

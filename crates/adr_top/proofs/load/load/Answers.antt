@@ -1,5 +1,5 @@
-use Rattle.std.proofs.Common.{sym, ap, ◌∙◌}
-use Rattle.dasd_pool.specs.Disk.{State, none}
+use Rattle.std.proofs.Common.{refl, sym, ap, ◌∙◌}
+use Rattle.dasd_pool.specs.Disk.{Shape, State, none}
 use Rattle.dasd_pool.specs.Moments.{runs_then}
 use Rattle.volume_model.specs.Sound.{Slots}
 use Rattle.adr_top.proofs.Loads.{no_front, no_vtoc, read_slot_is}
@@ -43,4 +43,22 @@ returns-clause-unit g c = λ told.
       short = front.0;
       short_vtoc = c.in_ok-slot.ensures.short;
       volume = rw c.in-Some-2.is at (c.in_ok-volume.ensures slots slot.0);
+    }
+
+-- the volume is that of slots that are all the slot that was read
+pub returns-clause-lawful : goal.returns-clause-lawful
+returns-clause-lawful g c =
+    let front = rw c.in-Some.is at c.in_ok-front.ensures.inside in
+    let slots : Slots = λ track. c.deref.result.now in
+    record {
+      device = front.0;
+      tracks_are = front.2;
+      tracks = front.1;
+      inside = front.3;
+      numbers = front.4;
+      short = c.in_ok-slot.ensures.short;
+      size_is = c.in_ok-slot.ensures.long ∙ ap (λ (shape : Shape). shape.block_size 0) c.load_front.ensures.shape;
+      slots = slots;
+      slot_is = c.deref.ensures.value;
+      volume = rw c.in-Some-2.is at (c.in_ok-volume.ensures slots refl);
     }

@@ -12,9 +12,10 @@ invariant_of-result g c =
     let j = c.self.inside in
     let same = c.in-Ok.ensures.shape in (
       subst (λ (s : Shape). IsJournal s j.unit j.room) (sym same) c.self.invariant.0,
+      c.self.invariant.1,
       grind (arith, common_steps),
       λ told. subst (λ (s : Shape). IsAtRest s (g.P.Pool.disk c.apply.new.pool).state j.room j.control j.fills) (sym same)
-          (c.in-Ok.ensures.at_rest told j.room j.control j.fills (c.self.invariant.2 told)),
+          (c.in-Ok.ensures.at_rest told j.room j.control j.fills (c.self.invariant.3 told)),
     )
 
 pub returns-in-Ok-clause-each_image : goal.returns-in-Ok-clause-each_image

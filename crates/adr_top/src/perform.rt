@@ -1,0 +1,204 @@
+//! Statements over an open journal.
+
+ghost use Rattle.std.specs.Prelude.{◌≡◌, ◌≢◌, ◌<◌, ◌≤◌, ℕ, List, [], None, false, IfOk, IfErr, string_bytes};
+ghost use Rattle.dasd_pool.specs.Disk.{Runs, none};
+ghost use Rattle.dsn_filter.specs.Dsn.{IsDsn};
+ghost use Rattle.redo_core.specs.declared.control.Control.TheVariants.{Idle};
+ghost use Rattle.redo_core.specs.Phases.{IsAtRest};
+ghost use Rattle.redo_core.specs.Reading.{journal_of, fills_of};
+ghost use Rattle.vol_label.specs.declared.serial.Serial.{Serial};
+ghost use Rattle.vol_label.specs.Serial.{IsSerialName, Spells};
+ghost use Rattle.volume_model.specs.Unit.{UnitModel};
+ghost use Rattle.move_core.specs.Runs.{KeepsUnits};
+ghost use Rattle.move_core.specs.Stands.{IsSettled};
+ghost use Rattle.adr_top.specs.declared.statement.Statement.TheVariants as statements;
+ghost use Rattle.adr_top.specs.Form.{IsOtherUnit};
+ghost use Rattle.adr_top.specs.Listed.{ListsUnit};
+ghost use Rattle.adr_top.specs.Meaning.{ReadsAfter, IsSettledAfter};
+ghost use Rattle.adr_top.specs.Parts.{EndsStatement};
+ghost use Rattle.adr_top.specs.Planned.{IsPlannedChange, IsReady};
+ghost use Rattle.adr_top.specs.Statement.{IsNamed};
+ghost use Rattle.adr_top.specs.Stops.{IsUnitStop};
+
+use crate::left::{Moved, unmoved};
+use crate::load::load;
+use crate::print::listing_text;
+use crate::release::{Change, Plan, plan_release, shrinking};
+use crate::released::nothing_text;
+use crate::statement::Statement;
+use crate::stop::{Stop, tell, tell_cut_short, tell_lines};
+use crate::words::FileWords;
+use dasd_pool::{Pool, Sink};
+use move_core::Dsn;
+use redo_core::Journal;
+use std::alloc::Global;
+
+/// The lines of the volume on unit 0, where it is of the form.
+fn lines<P: Pool>(
+    alloc: Global,
+    files: FileWords<'_>,
+    journal: &mut Journal<P>,
+) -> Result<String, Stop>
+    requires unit { 0 < journal_of (P.shape journal.old.pool) }
+    requires serial { IsSerialName files.name.now × Spells files.name.now files.serial.text }
+    requires rest { P.tells → IsAtRest (P.shape journal.old.pool) (P.disk journal.old.pool).state journal.old.room journal.old.control journal.old.fills }
+    ensures listed { P.tells → IfOk result (λ text.
+        ListsUnit files.entry.name.now (P.shape journal.old.pool) (P.disk journal.old.pool).state.contents (string_bytes text)) }
+    ensures fault { IfErr result (IsUnitStop (P.faults journal.old.pool) (P.faults journal.new.pool)
+        (P.tells → IsOtherUnit files.entry.name.now statements.Print (P.shape journal.old.pool) (P.disk journal.old.pool).state.contents)) }
+    ensures later { P.faults journal.old.pool ≤ P.faults journal.new.pool }
+    ensures shape { P.shape journal.new.pool ≡ P.shape journal.old.pool }
+    ensures same { P.tells → (P.disk journal.new.pool).state ≡ (P.disk journal.old.pool).state }
+    ensures runs { P.tells → Runs none (P.disk journal.old.pool) (P.disk journal.new.pool) }
+{
+    let Some(loaded) = load(alloc, journal, files.serial)? else {
+        return Err(Stop::Form);
+    };
+    Ok(listing_text(alloc, files.name, &loaded.volume)?)
+}
+
+/// Lists the volume on unit 0.
+fn list<O: Sink, P: Pool>(
+    alloc: Global,
+    files: FileWords<'_>,
+    out: &mut O,
+    mut journal: Journal<P>,
+) -> Moved<P>
+    requires unit { 0 < journal_of (P.shape journal.pool) }
+    requires serial { IsSerialName files.name.now × Spells files.name.now files.serial.text }
+    requires rest { P.tells → IsAtRest (P.shape journal.pool) (P.disk journal.pool).state journal.room journal.control journal.fills }
+    requires room { 3 ≤ journal.room }
+    requires idle { (journal.control ≡ Idle) × ((u : ℕ) → u < journal_of (P.shape journal.pool) → fills_of journal.fills u ≡ false) }
+    ensures ends { EndsStatement statements.Print result.status files.entry.name.now P.tells (P.shape journal.pool) (P.disk journal.pool).state (P.faults journal.pool) (P.faults result.pool)
+        (O.taken out.old) (O.taken out.new) (O.faults out.old) (O.faults out.new) result.steps.items result.pending }
+    ensures later { P.faults journal.pool ≤ P.faults result.pool }
+    ensures shape { P.shape result.pool ≡ P.shape journal.pool }
+    ensures reads { P.tells → result.status ≢ 16 → ReadsAfter files.entry.name.now result.steps.items (P.shape journal.pool) (P.disk journal.pool).state (P.disk result.pool).state }
+    ensures keeps { P.tells → (names : List Serial) (units : List UnitModel) → IsSettled (P.shape journal.pool) names (P.disk journal.pool).state units
+        → KeepsUnits (P.shape journal.pool) names (P.disk journal.pool) (P.disk result.pool) (P.faults journal.pool) (P.faults result.pool) units result.steps.items result.pending }
+    ensures settled { P.tells → result.status ≢ 16 → (names : List Serial) (units : List UnitModel) → IsSettled (P.shape journal.pool) names (P.disk journal.pool).state units
+        → IsSettledAfter (P.shape journal.pool) names units result.steps.items (P.disk result.pool).state }
+{
+    match lines(alloc, files, &mut journal) {
+        Ok(text) => {
+            let status = tell_lines(out, text.as_str().as_bytes(), 0);
+            unmoved(alloc, journal.into_pool(), status)
+        }
+        Err(stop) => {
+            let status = tell(out, stop);
+            unmoved(alloc, journal.into_pool(), status)
+        }
+    }
+}
+
+/// Puts the change of a release in place, and writes its lines.
+fn put<O: Sink, P: Pool>(
+    alloc: Global,
+    files: FileWords<'_>,
+    name: Dsn,
+    change: Change,
+    out: &mut O,
+    journal: Journal<P>,
+) -> Moved<P>
+    requires unit { 0 < journal_of (P.shape journal.pool) }
+    requires serial { IsSerialName files.name.now × Spells files.name.now files.serial.text }
+    requires rest { P.tells → IsAtRest (P.shape journal.pool) (P.disk journal.pool).state journal.room journal.control journal.fills }
+    requires room { 3 ≤ journal.room }
+    requires idle { (journal.control ≡ Idle) × ((u : ℕ) → u < journal_of (P.shape journal.pool) → fills_of journal.fills u ≡ false) }
+    requires ready { IsReady ((P.shape journal.pool).blocks 0) ((P.shape journal.pool).block_size 0) change }
+    requires planned { P.tells → IsPlannedChange files.name.now ((P.shape journal.pool).head 0) ((P.shape journal.pool).blocks 0)
+        ((P.disk journal.pool).state.contents 0) name change }
+    ensures ends { EndsStatement (statements.Release name) result.status files.entry.name.now P.tells (P.shape journal.pool) (P.disk journal.pool).state (P.faults journal.pool) (P.faults result.pool)
+        (O.taken out.old) (O.taken out.new) (O.faults out.old) (O.faults out.new) result.steps.items result.pending }
+    ensures later { P.faults journal.pool ≤ P.faults result.pool }
+    ensures shape { P.shape result.pool ≡ P.shape journal.pool }
+    ensures reads { P.tells → result.status ≢ 16 → ReadsAfter files.entry.name.now result.steps.items (P.shape journal.pool) (P.disk journal.pool).state (P.disk result.pool).state }
+    ensures keeps { P.tells → (names : List Serial) (units : List UnitModel) → IsSettled (P.shape journal.pool) names (P.disk journal.pool).state units
+        → KeepsUnits (P.shape journal.pool) names (P.disk journal.pool) (P.disk result.pool) (P.faults journal.pool) (P.faults result.pool) units result.steps.items result.pending }
+    ensures settled { P.tells → result.status ≢ 16 → (names : List Serial) (units : List UnitModel) → IsSettled (P.shape journal.pool) names (P.disk journal.pool).state units
+        → IsSettledAfter (P.shape journal.pool) names units result.steps.items (P.disk result.pool).state }
+{
+    let Change {
+        entries,
+        keep,
+        steps,
+        text,
+    } = change;
+    match journal.commit(entries) {
+        Ok(journal) => Moved {
+            status: tell_lines(out, text.as_str().as_bytes(), 0),
+            pool: journal.into_pool(),
+            steps,
+            pending: None,
+        },
+        Err(stop) => Moved {
+            status: tell_cut_short(out),
+            pool: stop.pool,
+            steps: Vec::new(alloc),
+            pending: Some(shrinking(name, keep)),
+        },
+    }
+}
+
+/// Releases the unused tracks of the data set of a name on unit 0.
+fn release<O: Sink, P: Pool>(
+    alloc: Global,
+    files: FileWords<'_>,
+    name: Dsn,
+    out: &mut O,
+    mut journal: Journal<P>,
+) -> Moved<P>
+    requires unit { 0 < journal_of (P.shape journal.pool) }
+    requires serial { IsSerialName files.name.now × Spells files.name.now files.serial.text }
+    requires rest { P.tells → IsAtRest (P.shape journal.pool) (P.disk journal.pool).state journal.room journal.control journal.fills }
+    requires room { 3 ≤ journal.room }
+    requires idle { (journal.control ≡ Idle) × ((u : ℕ) → u < journal_of (P.shape journal.pool) → fills_of journal.fills u ≡ false) }
+    requires name { IsDsn name }
+    ensures ends { EndsStatement (statements.Release name) result.status files.entry.name.now P.tells (P.shape journal.pool) (P.disk journal.pool).state (P.faults journal.pool) (P.faults result.pool)
+        (O.taken out.old) (O.taken out.new) (O.faults out.old) (O.faults out.new) result.steps.items result.pending }
+    ensures later { P.faults journal.pool ≤ P.faults result.pool }
+    ensures shape { P.shape result.pool ≡ P.shape journal.pool }
+    ensures reads { P.tells → result.status ≢ 16 → ReadsAfter files.entry.name.now result.steps.items (P.shape journal.pool) (P.disk journal.pool).state (P.disk result.pool).state }
+    ensures keeps { P.tells → (names : List Serial) (units : List UnitModel) → IsSettled (P.shape journal.pool) names (P.disk journal.pool).state units
+        → KeepsUnits (P.shape journal.pool) names (P.disk journal.pool) (P.disk result.pool) (P.faults journal.pool) (P.faults result.pool) units result.steps.items result.pending }
+    ensures settled { P.tells → result.status ≢ 16 → (names : List Serial) (units : List UnitModel) → IsSettled (P.shape journal.pool) names (P.disk journal.pool).state units
+        → IsSettledAfter (P.shape journal.pool) names units result.steps.items (P.disk result.pool).state }
+{
+    let status = match plan_release(alloc, files, name, &mut journal) {
+        Ok(Plan::Cut(change)) => return put(alloc, files, name, change, out, journal),
+        Ok(Plan::Whole(text)) => tell_lines(out, text.as_str().as_bytes(), 0),
+        Ok(Plan::Nothing) => tell_lines(out, nothing_text(), 4),
+        Err(stop) => tell(out, stop),
+    };
+    unmoved(alloc, journal.into_pool(), status)
+}
+
+/// Runs a statement over an open journal.
+pub(crate) fn perform<O: Sink, P: Pool>(
+    alloc: Global,
+    statement: Statement,
+    files: FileWords<'_>,
+    out: &mut O,
+    journal: Journal<P>,
+) -> Moved<P>
+    requires unit { 0 < journal_of (P.shape journal.pool) }
+    requires serial { IsSerialName files.name.now × Spells files.name.now files.serial.text }
+    requires rest { P.tells → IsAtRest (P.shape journal.pool) (P.disk journal.pool).state journal.room journal.control journal.fills }
+    requires room { 3 ≤ journal.room }
+    requires idle { (journal.control ≡ Idle) × ((u : ℕ) → u < journal_of (P.shape journal.pool) → fills_of journal.fills u ≡ false) }
+    requires name { IsNamed statement }
+    ensures ends { EndsStatement statement result.status files.entry.name.now P.tells (P.shape journal.pool) (P.disk journal.pool).state (P.faults journal.pool) (P.faults result.pool)
+        (O.taken out.old) (O.taken out.new) (O.faults out.old) (O.faults out.new) result.steps.items result.pending }
+    ensures later { P.faults journal.pool ≤ P.faults result.pool }
+    ensures shape { P.shape result.pool ≡ P.shape journal.pool }
+    ensures reads { P.tells → result.status ≢ 16 → ReadsAfter files.entry.name.now result.steps.items (P.shape journal.pool) (P.disk journal.pool).state (P.disk result.pool).state }
+    ensures keeps { P.tells → (names : List Serial) (units : List UnitModel) → IsSettled (P.shape journal.pool) names (P.disk journal.pool).state units
+        → KeepsUnits (P.shape journal.pool) names (P.disk journal.pool) (P.disk result.pool) (P.faults journal.pool) (P.faults result.pool) units result.steps.items result.pending }
+    ensures settled { P.tells → result.status ≢ 16 → (names : List Serial) (units : List UnitModel) → IsSettled (P.shape journal.pool) names (P.disk journal.pool).state units
+        → IsSettledAfter (P.shape journal.pool) names units result.steps.items (P.disk result.pool).state }
+{
+    match statement {
+        Statement::Print => list(alloc, files, out, journal),
+        Statement::Release(name) => release(alloc, files, name, out, journal),
+    }
+}
