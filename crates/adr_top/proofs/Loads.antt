@@ -103,42 +103,45 @@ pub record Shows (name head : List ℕ) (blocks : ℕ) (slots : Slots) (loaded :
   pub stands : IsPlainUnit name head blocks slots volume
   pub listed : IsListedAs name loaded volume
 
+-- the volume as it was read
+abbrev pub volume_in : Loaded → Volume
+volume_in loaded = record {
+  device = loaded.head.device;
+  label = loaded.label;
+  usable = loaded.volume.usable;
+  free = loaded.volume.free.runs;
+  rows = map row_in loaded.volume.rows;
+}
+
+abbrev pub unit_in : (name text head : List ℕ) (blocks : ℕ) (slots : Slots) (loaded : Loaded) → Spells name text → IsLoadedUnit text head blocks slots loaded → IsPlainUnit name head blocks slots (volume_in loaded)
+unit_in name text head blocks slots loaded spelled is =
+    let front = is.front in
+    let read = is.volume in
+    let T : ℕ → Type 0 = λ n. IsTrackText (address_of n 0) (slots 0) front.labelled.track_0 in
+    let F : ℕ → Type 0 = λ n. AreMaximalRuns (λ track. IsTrue (is_free n read.vtoc.run (extents_in read.vtoc) track)) loaded.volume.free.runs in
+    record {
+      stands = record {
+        image = loaded.head;
+        track_0 = front.labelled.track_0;
+        vtoc = read.vtoc;
+        head_stands = front.head_stands;
+        tracks_are = front.tracks;
+        device_is = refl;
+        track_0_stands = subst T (sym (ap heads_of front.device)) front.labelled.stands;
+        label_stands = front.labelled.label_stands;
+        vtoc_stands = read.stands.stands;
+        sound = read.stands.sound;
+        usable_is = read.usable_is;
+        free_are = subst F read.usable_is read.free_are;
+        rows_are = read.rows_are;
+      };
+      device = front.device;
+      serial = subst (Spells name) (sym front.labelled.serial) spelled;
+      indicators = read.stands.indicators;
+      plain = read.stands.plain;
+    }
+
 pub shows : (name text head : List ℕ) (blocks : ℕ) (slots : Slots) (loaded : Loaded) → Spells name text → IsLoadedUnit text head blocks slots loaded → Shows name head blocks slots loaded.volume
 shows name text head blocks slots loaded spelled unit =
-    let front = unit.front in
-    let is = unit.volume in
-    let volume : Volume = record {
-      device = loaded.head.device;
-      label = loaded.label;
-      usable = loaded.volume.usable;
-      free = loaded.volume.free.runs;
-      rows = map row_in loaded.volume.rows;
-    } in
-    let spells : Spells name loaded.label.serial.text = subst (Spells name) (sym front.labelled.serial) spelled in
-    let T : ℕ → Type 0 = λ n. IsTrackText (address_of n 0) (slots 0) front.labelled.track_0 in
-    let F : ℕ → Type 0 = λ n. AreMaximalRuns (λ track. IsTrue (is_free n is.vtoc.run (extents_in is.vtoc) track)) loaded.volume.free.runs in
-    record {
-      volume = volume;
-      stands = record {
-        stands = record {
-          image = loaded.head;
-          track_0 = front.labelled.track_0;
-          vtoc = is.vtoc;
-          head_stands = front.head_stands;
-          tracks_are = front.tracks;
-          device_is = refl;
-          track_0_stands = subst T (sym (ap heads_of front.device)) front.labelled.stands;
-          label_stands = front.labelled.label_stands;
-          vtoc_stands = is.stands.stands;
-          sound = is.stands.sound;
-          usable_is = is.usable_is;
-          free_are = subst F is.usable_is is.free_are;
-          rows_are = is.rows_are;
-        };
-        device = front.device;
-        serial = spells;
-        indicators = is.stands.indicators;
-        plain = is.stands.plain;
-      };
-      listed = record { device = front.device; serial = spells; usable = refl; free = refl; rows = refl };
-    }
+    let stands = unit_in name text head blocks slots loaded spelled unit in
+    record { volume = volume_in loaded; stands = stands; listed = record { device = unit.front.device; serial = stands.serial; usable = refl; free = refl; rows = refl } }

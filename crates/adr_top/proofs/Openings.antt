@@ -21,7 +21,7 @@ use Rattle.adr_top.specs.declared.statement.Statement.TheVariants.{Print, Releas
 use Rattle.adr_top.specs.Form.{IsPlainUnit, IsOtherFor, IsOtherUnit}
 use Rattle.adr_top.specs.Listed.{ListsVolume, IsReadOnly}
 use Rattle.adr_top.specs.Meaning.{Means, ReadsAfter}
-use Rattle.adr_top.specs.Released.{IsRowOf, ReleasesOn, plain_of}
+use Rattle.adr_top.specs.Released.{IsRowOf, ReleasesOn, RewritesTrack, plain_of}
 
 -- a pool that nothing wrote to reads as it did
 pub untouched : (state : State) → Touches none state state
@@ -93,9 +93,10 @@ module _ (shape : Shape) (old new : State) (names : List Serial) (room : ℕ) (c
       let P : Slots → Type 0 = λ slots.
       (volume : Volume) × (stands : IsPlainUnit name (shape.head 0) (shape.blocks 0) slots volume) × (row : DirectoryRow) × IsRowOf dsn volume row
       × (slot : List ℕ) × ShrinksTrack (plain_of stands) slot row.format_1 keep
+      × RewritesTrack volume.label.vtoc row.format_1 keep (slots (vtoc_track stands.stands.image volume.label.vtoc)) slot
       × ReadsNew shape new (record { unit = 0; block = vtoc_track stands.stands.image volume.label.vtoc; slot = slot } ∷ []) last.contents in
       let back = reads_back shape old new names room control fills opened some P shrunk.reading shrunk.reads
-      (shrunk.volume, shrunk.stands, shrunk.row, shrunk.row_is, shrunk.slot, shrunk.shrinks, shrunk.now) in
+      (shrunk.volume, shrunk.stands, shrunk.row, shrunk.row_is, shrunk.slot, shrunk.shrinks, shrunk.text, shrunk.now) in
       inr (
         dsn,
         keep,
@@ -109,7 +110,8 @@ module _ (shape : Shape) (old new : State) (names : List Serial) (room : ℕ) (c
           row_is = back.2.3;
           slot = back.2.4;
           shrinks = back.2.5;
-          now = λ reading reads. back.2.6 reading (opened_reads shape old new names room control fills opened reading reads);
+          text = back.2.6;
+          now = λ reading reads. back.2.7 reading (opened_reads shape old new names room control fills opened reading reads);
         },
       )
 

@@ -5,7 +5,7 @@ use Rattle.std.proofs.lemmas.Bool.{false≢true}
 use Rattle.std.proofs.lemmas.List.{get_or_default, get_or-map, length-map}
 use Rattle.std.proofs.lemmas.List.Elements.{All-head, All-map}
 use Rattle.ckd_image.specs.declared.device.Device.{Device}
-use Rattle.ckd_image.specs.Address.{address_of}
+use Rattle.ckd_image.specs.declared.track.Track.{Track}
 use Rattle.ckd_image.specs.Device.{heads_of}
 use Rattle.ckd_image.specs.Track.{IsTrackText}
 use Rattle.dasd_pool.specs.Disk.{Disk, Runs, none}
@@ -13,18 +13,17 @@ use Rattle.dasd_pool.specs.Moments.{runs_then}
 use Rattle.dscb_rec.specs.declared.field.Extent.{Extent}
 use Rattle.dsn_filter.specs.declared.dsn.Dsn.{Dsn}
 use Rattle.free_map.specs.declared.run.Run.{Run}
-use Rattle.free_map.specs.Runs.{AreMaximalRuns}
 use Rattle.vol_label.specs.Serial.{Spells}
-use Rattle.volume_model.specs.Check.{extents_in}
 use Rattle.volume_model.specs.Directory.{DirectoryRow}
 use Rattle.volume_model.specs.Dscbs.{numbers_below}
 use Rattle.volume_model.specs.Pinned.{IsNameOf, kept_tracks}
 use Rattle.volume_model.specs.Reads.{extent_in, IsDataSet}
 use Rattle.volume_model.specs.Sound.{Slots, Volume}
-use Rattle.volume_model.specs.Space.{run_of, is_free, track_at}
+use Rattle.volume_model.specs.Space.{run_of, track_at}
 use Rattle.volume_model.specs.Unit.{Extent as ExtentOf, DataSet, tracks_in, tracks_of}
 use Rattle.vtoc_core.specs.declared.volume.Row.{Row}
 use Rattle.vtoc_core.specs.Loaded.{field_of, row_in, HasItsName}
+use Rattle.vtoc_core.specs.Rewritten.{IsRewritten}
 use Rattle.vtoc_core.specs.Shrink.{HasOneExtent, HasManyRuns, ShrinksVtoc}
 use Rattle.vtoc_core.proofs.InRange.{extents_within, few_extents}
 use Rattle.move_core.specs.declared.steps.Step.{Step}
@@ -39,6 +38,7 @@ use Rattle.adr_top.specs.Loaded.{IsLawful, IsLoadedUnit}
 use Rattle.adr_top.specs.Planned.{HasPlainExtents, IsChangeOf, LeavesMany, IsPlannedChange, IsPlanned}
 use Rattle.adr_top.specs.Print.{release_run}
 use Rattle.adr_top.specs.Released.{IsRowOf, ReleasesSet, plain_of}
+use Rattle.adr_top.proofs.Loads.{volume_in, unit_in}
 
 -- two runs that write nothing
 pub quiet_both : (old mid new : Disk) → Runs none old mid → Runs none mid new → Runs none old new
@@ -146,44 +146,9 @@ module _ (place : ℕ → ℕ) (slots : Slots) (row : Row) (set : DataSet) (is :
 
 -- ---- the unit
 
--- the volume as it was read
-abbrev pub volume_in : Loaded → Volume
-volume_in loaded = record {
-  device = loaded.head.device;
-  label = loaded.label;
-  usable = loaded.volume.usable;
-  free = loaded.volume.free.runs;
-  rows = map row_in loaded.volume.rows;
-}
-
 module _ (name text head : List ℕ) (blocks : ℕ) (slots : Slots) (loaded : Loaded) (spelled : Spells name text) (is : IsLoadedUnit text head blocks slots loaded) where
-  abbrev pub unit_in : IsPlainUnit name head blocks slots (volume_in loaded)
-  unit_in =
-      let front = is.front in
-      let read = is.volume in
-      let T : ℕ → Type 0 = λ n. IsTrackText (address_of n 0) (slots 0) front.labelled.track_0 in
-      let F : ℕ → Type 0 = λ n. AreMaximalRuns (λ track. IsTrue (is_free n read.vtoc.run (extents_in read.vtoc) track)) loaded.volume.free.runs in
-      record {
-        stands = record {
-          image = loaded.head;
-          track_0 = front.labelled.track_0;
-          vtoc = read.vtoc;
-          head_stands = front.head_stands;
-          tracks_are = front.tracks;
-          device_is = refl;
-          track_0_stands = subst T (sym (ap heads_of front.device)) front.labelled.stands;
-          label_stands = front.labelled.label_stands;
-          vtoc_stands = read.stands.stands;
-          sound = read.stands.sound;
-          usable_is = read.usable_is;
-          free_are = subst F read.usable_is read.free_are;
-          rows_are = read.rows_are;
-        };
-        device = front.device;
-        serial = subst (Spells name) (sym front.labelled.serial) spelled;
-        indicators = read.stands.indicators;
-        plain = read.stands.plain;
-      }
+  abbrev here : IsPlainUnit name head blocks slots (volume_in loaded)
+  here = unit_in name text head blocks slots loaded spelled is
 
   vtoc_slot : slots (vtoc_track loaded.head loaded.label.vtoc) ≡ loaded.slot.items
   vtoc_slot = ap (λ (device : Device). slots (track_at (heads_of device) loaded.label.vtoc.at)) is.front.device ∙ sym is.slot_is
@@ -192,7 +157,7 @@ module _ (name text head : List ℕ) (blocks : ℕ) (slots : Slots) (loaded : Lo
   pub nothing_planned : (dsn : Dsn) → All (λ row. ¬ IsNameOf dsn row.name) loaded.volume.rows → IsPlanned name head blocks slots dsn plans.Nothing
   nothing_planned dsn none =
       let P : DirectoryRow → Type 0 = λ row. ¬ IsNameOf dsn (take 44 row.format_1) in
-      (volume_in loaded, unit_in, All-map P row_in loaded.volume.rows (λ k d there named. none k d there (subst (IsNameOf dsn) (sym (is.volume.names_are k d there)) named)))
+      (volume_in loaded, here, All-map P row_in loaded.volume.rows (λ k d there named. none k d there (subst (IsNameOf dsn) (sym (is.volume.names_are k d there)) named)))
 
   -- ---- the data set of a row
 
@@ -212,7 +177,7 @@ module _ (name text head : List ℕ) (blocks : ℕ) (slots : Slots) (loaded : Lo
 
     -- it may not be released
     pub refused : ((set : DataSet) → IsDataSet 15 (λ track. track) slots (row_in row) set → ¬ MayRelease 15 set) → Withholds name head blocks slots dsn
-    refused never = record { volume = volume_in loaded; stands = unit_in; row = row_in row; is_there = row_is.is_there; name_is = named; why = inl never }
+    refused never = record { volume = volume_in loaded; stands = here; row = row_in row; is_there = row_is.is_there; name_is = named; why = inl never }
 
     module _ (set : DataSet) (set_is : IsDataSet 15 (λ track. track) slots (row_in row) set) (may : MayRelease 15 set) (keep : ℕ) (kept : keep ≡ kept_tracks 15 set) where
       abbrev releases : (steps : List Step) (given : ℕ) → GivesBack 15 0 dsn set steps given → ReleasesSet slots dsn (volume_in loaded) steps given
@@ -222,13 +187,13 @@ module _ (name text head : List ℕ) (blocks : ℕ) (slots : Slots) (loaded : Lo
       pub whole_planned : (bytes : List ℕ) → HasPlainExtents row → ¬ HasOneExtent keep row → bytes ≡ release_run dsn 0
           → (volume : Volume) × IsPlainUnit name head blocks slots volume × ReleasesSet slots dsn volume [] 0 × (bytes ≡ release_run dsn 0)
       whole_planned bytes plain small bytes_are =
-          (volume_in loaded, unit_in, releases [] 0 (gives_none (λ track. track) slots row set set_is dsn keep plain kept small), bytes_are)
+          (volume_in loaded, here, releases [] 0 (gives_none (λ track. track) slots row set set_is dsn keep plain kept small), bytes_are)
 
       -- too many runs of tracks would be free
       pub withheld : HasOneExtent keep row → LeavesMany loaded place keep → Withholds name head blocks slots dsn
       withheld one leaves = record {
         volume = volume_in loaded;
-        stands = unit_in;
+        stands = here;
         row = row_in row;
         is_there = row_is.is_there;
         name_is = named;
@@ -246,7 +211,7 @@ module _ (name text head : List ℕ) (blocks : ℕ) (slots : Slots) (loaded : Lo
           → IsChangeOf loaded place dsn keep given change → IsPlannedChange name head blocks slots dsn change
       cut_planned given change one given_is some made = record {
         volume = volume_in loaded;
-        stands = unit_in;
+        stands = here;
         first_short = is.short;
         short = omega (arith, is.short_vtoc, ap length vtoc_slot);
         given = given;
@@ -256,7 +221,10 @@ module _ (name text head : List ℕ) (blocks : ℕ) (slots : Slots) (loaded : Lo
         some = omega (arith, some, made.keep_is);
         slot = made.slot;
         shrinks = λ later at.
-            subst (ShrinksVtoc (plain_of unit_in) later row.f1) (sym made.keep_is)
-            (made.shrinks slots later is.volume.vtoc d (plain_of unit_in) vtoc_slot at);
+            subst (ShrinksVtoc (plain_of here) later row.f1) (sym made.keep_is)
+            (made.shrinks slots later is.volume.vtoc d (plain_of here) vtoc_slot at);
+        text = λ old at.
+            let K : ℕ → Type 0 = λ n. (new : Track) × IsTrackText loaded.label.vtoc.at made.slot new × IsRewritten loaded.label.vtoc row.f1 n old new in
+            subst K (sym made.keep_is) (made.text d old (subst (λ (slot : List ℕ). IsTrackText loaded.label.vtoc.at slot old) vtoc_slot at));
         entries_are = made.entries_are;
       }

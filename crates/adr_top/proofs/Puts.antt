@@ -77,6 +77,7 @@ module _ (shape : Shape) (name : List ℕ) (dsn : Dsn) (change : Change) (state 
       row_is = planned.releases.row_is;
       slot = planned.slot;
       shrinks = planned.shrinks;
+      text = planned.text;
       now = subst (λ (entries : List Entry). ReadsNew shape state entries new.contents) planned.entries_are committed.reads;
     },
   )

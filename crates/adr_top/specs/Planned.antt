@@ -1,11 +1,14 @@
 -- What a release is going to do, by the unit as it was read.
 use Rattle.std.specs.Prelude.{◌≡◌, ℕ, ◌<◌, ◌≤◌, List, [], ◌∷◌, length, All, string_bytes, slice_index_or}
+use Rattle.ckd_image.specs.declared.track.Track.{Track}
+use Rattle.ckd_image.specs.Track.{IsTrackText}
 use Rattle.dsn_filter.specs.declared.dsn.Dsn.{Dsn}
 use Rattle.redo_core.specs.declared.entries.Entry.{Entry}
 use Rattle.volume_model.specs.Check.{Vtoc}
 use Rattle.volume_model.specs.Sound.{Slots, Volume}
 use Rattle.vtoc_core.specs.declared.volume.Row.{Row}
 use Rattle.vtoc_core.specs.Plain.{HasPlainVtoc}
+use Rattle.vtoc_core.specs.Rewritten.{IsRewritten}
 use Rattle.vtoc_core.specs.Shrink.{ShrinksVtoc, LeavesManyRuns}
 use Rattle.move_core.specs.declared.steps.Step.TheVariants.{Shrink}
 use Rattle.move_core.specs.Releasing.{vtoc_track, ShrinksTrack}
@@ -15,7 +18,7 @@ use Rattle.adr_top.specs.declared.release.Plan.{Plan}
 use Rattle.adr_top.specs.declared.release.Plan.TheVariants as plans
 use Rattle.adr_top.specs.Form.{IsPlainUnit}
 use Rattle.adr_top.specs.Print.{release_run}
-use Rattle.adr_top.specs.Released.{ReleasesSet, HasNoRow, plain_of}
+use Rattle.adr_top.specs.Released.{ReleasesSet, HasNoRow, RewritesTrack, plain_of}
 
 -- at most one extent, and that of tracks
 pub record HasPlainExtents (row : Row) : Type 0 where
@@ -32,6 +35,8 @@ pub record IsChangeOf (loaded : Loaded) (place : ℕ) (name : Dsn) (keep given :
   pub shrinks : (slots later : Slots) (vtoc : Vtoc) (d : Row) (before : HasPlainVtoc loaded.head slots loaded.label.vtoc vtoc)
       → slots (vtoc_track loaded.head loaded.label.vtoc) ≡ loaded.slot.items → later (vtoc_track loaded.head loaded.label.vtoc) ≡ slot
       → ShrinksVtoc before later (slice_index_or loaded.volume.rows place d).f1 keep
+  pub text : (d : Row) (old : Track) → IsTrackText loaded.label.vtoc.at loaded.slot.items old
+      → (new : Track) × IsTrackText loaded.label.vtoc.at slot new × IsRewritten loaded.label.vtoc (slice_index_or loaded.volume.rows place d).f1 keep old new
   pub keep_is : change.keep ≡ keep
   pub steps_are : change.steps.items ≡ Shrink 0 name keep ∷ []
   pub text_is : string_bytes change.text ≡ release_run name given
@@ -71,6 +76,7 @@ pub record IsPlannedChange (name head : List ℕ) (blocks : ℕ) (slots : Slots)
   pub some : 1 ≤ change.keep
   pub slot : List ℕ
   pub shrinks : ShrinksTrack (plain_of stands) slot releases.row.format_1 change.keep
+  pub text : RewritesTrack volume.label.vtoc releases.row.format_1 change.keep (slots (vtoc_track stands.stands.image volume.label.vtoc)) slot
   pub entries_are : change.entries ≡ record { unit = 0; block = vtoc_track stands.stands.image volume.label.vtoc; slot = slot } ∷ []
 
 -- the unit is of the form, and the plan is the release of the data set of a name

@@ -1,5 +1,8 @@
 -- What the release of one data set does to the volume on a unit.
 use Rattle.std.specs.Prelude.{◌≡◌, ◌⊎◌, ℕ, List, [], ◌∷◌, All, Contains, take}
+use Rattle.ckd_image.specs.declared.track.Cchhr.{Cchhr}
+use Rattle.ckd_image.specs.declared.track.Track.{Track}
+use Rattle.ckd_image.specs.Track.{IsTrackText}
 use Rattle.dasd_pool.specs.Disk.{Image, Shape, State}
 use Rattle.dsn_filter.specs.declared.dsn.Dsn.{Dsn}
 use Rattle.redo_core.specs.Phases.{ReadsNew}
@@ -10,6 +13,7 @@ use Rattle.volume_model.specs.Reads.{IsDataSet}
 use Rattle.volume_model.specs.Sound.{Slots, Volume}
 use Rattle.volume_model.specs.Unit.{DataSet}
 use Rattle.vtoc_core.specs.Plain.{HasPlainVtoc}
+use Rattle.vtoc_core.specs.Rewritten.{IsRewritten}
 use Rattle.move_core.specs.declared.steps.Step.{Step}
 use Rattle.move_core.specs.Release.{MayRelease, GivesBack}
 use Rattle.move_core.specs.Releasing.{vtoc_track, ShrinksTrack}
@@ -57,8 +61,13 @@ abbrev pub plain_of : {name head : List ℕ} {blocks : ℕ} {slots : Slots} {vol
     → HasPlainVtoc stands.stands.image slots volume.label.vtoc stands.stands.vtoc
 plain_of stands = record { stands = stands.stands.vtoc_stands; sound = stands.stands.sound; indicators = stands.indicators; plain = stands.plain }
 
+-- the text in a slot becomes another, of which three DSCBs are rewritten and nothing else, each record in its place
+abbrev pub RewritesTrack : Cchhr → List ℕ → ℕ → List ℕ → List ℕ → Type 0
+RewritesTrack pointer format_1 keep old new =
+    (text : Track) → IsTrackText pointer.at old text → (later : Track) × IsTrackText pointer.at new later × IsRewritten pointer format_1 keep text later
+
 -- On unit 0 the VTOC's track reads as a slot in which the data set of a name keeps its first tracks alone, the free space is stated
--- anew and the counts are right. All other blocks read as before.
+-- anew and the counts are right, and no other byte of its text changes. All other blocks read as before.
 pub record ReadsShrunk (name : List ℕ) (dsn : Dsn) (keep : ℕ) (shape : Shape) (old new : State) : Type 0 where
   pub reading : Reading
   pub reads : Reads shape old.contents reading
@@ -68,4 +77,5 @@ pub record ReadsShrunk (name : List ℕ) (dsn : Dsn) (keep : ℕ) (shape : Shape
   pub row_is : IsRowOf dsn volume row
   pub slot : List ℕ
   pub shrinks : ShrinksTrack (plain_of stands) slot row.format_1 keep
+  pub text : RewritesTrack volume.label.vtoc row.format_1 keep (reading.volumes 0 (vtoc_track stands.stands.image volume.label.vtoc)) slot
   pub now : ReadsNew shape old (record { unit = 0; block = vtoc_track stands.stands.image volume.label.vtoc; slot = slot } ∷ []) new.contents

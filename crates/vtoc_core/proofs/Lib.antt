@@ -29,6 +29,7 @@ pub mod ReadBack
 pub mod Found
 pub mod Tallies
 pub mod Planned
+pub mod Rewrites
 pub mod RightCounts
 pub mod Shrunk
 pub mod Spelled

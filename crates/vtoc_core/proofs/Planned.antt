@@ -50,7 +50,7 @@ pub record IsFront (keep : ℕ) (extent front : Extent) (old new : List ℕ) : T
   pub run : (limit : ℕ) → is_run 15 limit (field_of extent) ≡ true → is_run 15 limit (field_of front) ≡ true
   pub made : new ≡ with_extent front old
 
-one_kind : (keep : ℕ) (extent front : Extent) (old new : List ℕ) → IsFront keep extent front old new → front.kind ≡ 1
+pub one_kind : (keep : ℕ) (extent front : Extent) (old new : List ℕ) → IsFront keep extent front old new → front.kind ≡ 1
 one_kind keep extent front old new h = h.kind ∙ ap (λ (f : ExtentField). f.kind) (same_field (field_of extent) h.has.field (h.read ∙ h.has.only)) ∙ h.has.kind
 
 not_none : (n : ℕ) → n ≡ 1 → n ≢ 0

@@ -6,5 +6,6 @@ pub mod Slot
 pub mod Edit
 pub mod Shrink
 pub mod Release
+pub mod Rewritten
 pub mod Named
 pub mod Whole

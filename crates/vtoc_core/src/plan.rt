@@ -1,6 +1,6 @@
 //! What is written where a data set of a plain VTOC gives back its last tracks.
 
-ghost use Rattle.std.specs.Prelude.{◌≡◌, ◌<◌, ◌≤◌, ◌∷◌, [], ℕ, List, All, IfOk, MatchOption, length, map, filter, true};
+ghost use Rattle.std.specs.Prelude.{◌≡◌, ◌<◌, ◌≤◌, ◌∷◌, [], ℕ, List, All, IfOk, IfSome, MatchOption, length, map, filter, true};
 ghost use Rattle.std.specs.List.{list_any, AllByRecursion};
 ghost use Rattle.ckd_image.specs.declared.track.Rec.{Rec as RecOf};
 ghost use Rattle.free_map.specs.declared.run.Run.{Run as RunOf};
@@ -14,6 +14,7 @@ ghost use Rattle.dscb_rec.specs.Field.{IsExtent};
 ghost use Rattle.vtoc_core.specs.Loaded.{field_of};
 ghost use Rattle.vtoc_core.specs.Plain.{IsPlainFormat1};
 ghost use Rattle.vtoc_core.specs.Release.{AreUnused, HasFront, IsShortened, StatesRuns, IsKnown, IsPlan, HasNoPlan};
+ghost use Rattle.vtoc_core.specs.Rewritten.{IsShortenedFormat1, IsRestated, HasPlannedBytes};
 ghost use Rattle.vtoc_core.specs.Sets.{runs_in, ArePlaced};
 
 use crate::edit::{put_entries, put_only_extent};
@@ -52,6 +53,8 @@ fn front_of(extent: Extent, keep: u32) -> Extent
     requires some { 1 ≤ keep }
     requires fewer { keep < (run_of 15 (field_of extent)).len }
     ensures kind { result.kind ≡ extent.kind }
+    ensures number { result.number ≡ 0 }
+    ensures start { result.first ≡ extent.first }
     ensures fits { IsExtent result }
     ensures first { (run_of 15 (field_of result)).first ≡ (run_of 15 (field_of extent)).first }
     ensures len { (run_of 15 (field_of result)).len ≡ keep }
@@ -110,6 +113,7 @@ fn shortened(format_1: &[u8; 140], keep: u32) -> [u8; 140]
     requires run { (field : ExtentField) → extents_of format_1.now ≡ field ∷ [] → is_run 15 65535 field ≡ true }
     ensures plain { IsPlainFormat1 result }
     ensures shortened { (limit : ℕ) (field : ExtentField) → extents_of format_1.now ≡ field ∷ [] → is_run 15 limit field ≡ true → IsShortened keep limit format_1.now result }
+    ensures bytes { IsShortenedFormat1 keep format_1.now result }
 {
     let Some(extent) = only_extent(format_1) else {
         unreachable!();
@@ -123,8 +127,9 @@ fn shortened(format_1: &[u8; 140], keep: u32) -> [u8; 140]
 fn stated(free: &FreeMap, format_5: &[u8; 140]) -> Result<Option<[u8; 140]>, NoMemory>
     requires format { format_of format_5.now ≡ F5 }
     requires heads { free.now.heads ≡ 15 }
-    ensures { IfOk result (λ found. MatchOption found (26 < length free.now.runs)
+    ensures stated { IfOk result (λ found. MatchOption found (26 < length free.now.runs)
         (λ bytes. (length free.now.runs ≤ 26) × StatesRuns 15 free.now.runs format_5.now bytes)) }
+    ensures bytes { IfOk result (λ found. IfSome found (λ bytes. IsRestated free.now.runs format_5.now bytes)) }
 {
     if free.runs().len() > ENTRIES {
         return Ok(None);
@@ -154,9 +159,10 @@ pub(crate) fn plan_shrink(
     requires there { list_any (λ bytes. same_bytes bytes format_1.now) (map dscb_of recs.now) ≡ true }
     requires plain { IsPlainFormat1 format_1.now }
     requires front { HasFront keep format_1.now }
-    ensures { IfOk result (λ found. (four five : List ℕ) (d : RecOf) → IsKnown pointer tracks recs.now four five usable
+    ensures planned { IfOk result (λ found. (four five : List ℕ) (d : RecOf) → IsKnown pointer tracks recs.now four five usable
         → MatchOption found (HasNoPlan pointer tracks recs.now format_1.now keep four usable)
         (IsPlan pointer tracks recs.now d format_1.now keep four usable)) }
+    ensures bytes { IfOk result (λ found. IfSome found (HasPlannedBytes recs.now format_1.now keep)) }
 {
     let mut dscbs = dscbs_of(alloc, recs)?;
     let Some(places) = find_places(recs, &dscbs, pointer, format_1) else {

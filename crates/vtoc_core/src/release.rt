@@ -18,6 +18,7 @@ ghost use Rattle.vtoc_core.specs.PlainTrack.{AreDscbRecords};
 ghost use Rattle.vtoc_core.specs.Loaded.{IsLoaded, field_of};
 ghost use Rattle.vtoc_core.specs.Shrink.{HasOneExtent, ShrinksVtoc, LeavesManyRuns};
 ghost use Rattle.vtoc_core.specs.Release.{IsInSlot, AreAmong, track_after};
+ghost use Rattle.vtoc_core.specs.Rewritten.{IsRewritten};
 
 use crate::load::read_track;
 use crate::places::Places;
@@ -87,6 +88,8 @@ pub fn shrink(
     ensures done { IfOk result (λ fits. IsTrue fits → (slots later : Slots) (vtoc : Vtoc) (d : RowOf) (before : HasPlainVtoc head slots label.now.vtoc vtoc)
         → slots (track_at (heads_of head.device) label.now.vtoc.at) ≡ slot.old → later (track_at (heads_of head.device) label.now.vtoc.at) ≡ slot.new
         → ShrinksVtoc before later (slice_index_or volume.now.rows row d).f1 keep) }
+    ensures text { IfOk result (λ fits. IsTrue fits → (d : RowOf) (old : Track) → IsTrackText label.now.vtoc.at slot.old old
+        → (new : Track) × IsTrackText label.now.vtoc.at slot.new new × IsRewritten label.now.vtoc (slice_index_or volume.now.rows row d).f1 keep old new) }
     ensures full { IfOk result (λ fits. fits ≡ false → (slots : Slots) (vtoc : Vtoc) (d : RowOf) → HasPlainVtoc head slots label.now.vtoc vtoc
         → slots (track_at (heads_of head.device) label.now.vtoc.at) ≡ slot.old → LeavesManyRuns keep (slice_index_or volume.now.rows row d) vtoc) }
     ensures kept { IfOk result (λ fits. fits ≡ false → slot.new ≡ slot.old) }

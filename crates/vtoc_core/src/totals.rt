@@ -6,6 +6,7 @@ ghost use Rattle.volume_model.specs.Dscbs.{format_of};
 ghost use Rattle.ckd_image.specs.Address.{IsAddress};
 ghost use Rattle.vtoc_core.specs.Shrink.{is_free_dscb};
 ghost use Rattle.vtoc_core.specs.Release.{HasCounts, IsLastSet, IsCounted};
+ghost use Rattle.vtoc_core.specs.Rewritten.{IsRecounted};
 
 use crate::edit::put_counts;
 use crate::track::is_format_1;
@@ -61,6 +62,7 @@ pub(crate) fn counted(
     requires format { format_of format_4.now ≡ F4 }
     ensures kept { HasCounts format_4.now result }
     ensures counted { IsCounted dscbs.now at result }
+    ensures bytes { IsRecounted format_4.now result }
 {
     let highest = Cchhr {
         at,

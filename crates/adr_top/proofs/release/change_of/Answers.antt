@@ -1,7 +1,8 @@
-use Rattle.std.proofs.Common.{◌≡◌, ℕ, ◌+◌, ◌*◌, [], ◌∷◌, length, drop, refl, ap, sym, ◌∙◌}
+use Rattle.std.proofs.Common.{◌≡◌, ℕ, ◌+◌, ◌*◌, List, [], ◌∷◌, length, drop, refl, ap, sym, subst, ◌∙◌}
 use Rattle.std.proofs.lemmas.List.{take_at}
 use Rattle.ckd_image.specs.declared.device.Device.{Device}
 use Rattle.ckd_image.specs.Device.{heads_of}
+use Rattle.ckd_image.specs.Track.{IsTrackText}
 use Rattle.adr_top.proofs.Dsns.{dsn_lawful}
 use Rattle.adr_top.proofs.release.change_of.Goals as goal
 
@@ -27,6 +28,9 @@ returns-clause-made c =
       shrinks = λ slots later vtoc d before here at.
           c.in_ok-shrink.ensures.done c.if-not-branch.false slots later vtoc d before (here ∙ sym c.deref_mut.ensures.value)
           (at ∙ now);
+      text = λ d old at.
+          let found = c.in_ok-shrink.ensures.text c.if-not-branch.false d old (subst (λ (slot : List ℕ). IsTrackText c.args.loaded.label.vtoc.at slot old) (sym c.deref_mut.ensures.value) at) in
+          (found.0, subst (λ (slot : List ℕ). IsTrackText c.args.loaded.label.vtoc.at slot found.0) (sym now) found.1, found.2);
       keep_is = refl;
       steps_are = c.in_ok-steps.ensures.made;
       text_is = c.in_ok-text.ensures;

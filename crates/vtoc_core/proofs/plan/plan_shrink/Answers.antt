@@ -2,6 +2,7 @@ use Rattle.std.proofs.Common.{rules, ◌≡◌, ℕ, suc, List, take, drop, ap, 
 use Rattle.volume_model.specs.Dscbs.{format_of}
 use Rattle.vtoc_core.specs.PlainTrack.{sets_in, end_in}
 use Rattle.vtoc_core.specs.Release.{HasCounts, IsCounted, StatesRuns}
+use Rattle.vtoc_core.specs.Rewritten.{IsRestated, IsRecounted}
 use Rattle.vtoc_core.proofs.Planned.{no_rec, long_dscbs, dscb_there, not_missing, four_read, five_read, set_run, set_run_small, sets_then, fit_then, unused_as, planned}
 use Rattle.vtoc_core.proofs.ShrunkVtoc.{sets_around}
 use Rattle.vtoc_core.proofs.plan.plan_shrink.Goals as goal
@@ -136,8 +137,8 @@ stated-requires-clause-format c =
     let p = c.in-Some.ensures.places no_rec in
     ap format_of (c.index-2.ensures ∙ dscb_there c.args.recs.now c.in_ok-dscbs.dscbs.items c.in-Some.places.five no_rec c.index-2.result.now c.in_ok-dscbs.ensures p.five_within) ∙ p.five_is
 
-pub returns-in_default-2 : goal.returns-in_default-2
-returns-in_default-2 c = λ four five d known.
+pub returns-in_default-2-clause-planned : goal.returns-in_default-2-clause-planned
+returns-in_default-2-clause-planned c = λ four five d known.
     let p = c.in-Some.ensures.places no_rec in
     let here = c.in-Some.ensures.set no_rec in
     let only = c.requires.front.only in
@@ -158,11 +159,11 @@ returns-in_default-2 c = λ four five d known.
       free = c.in_ok-free.free.runs;
       free_are = unused_as c.args.usable c.volume_end.result (end_in four c.args.tracks) c.track_number.result c.args.pointer _ _ c.in_ok-free.free.runs limit c.track_number.ensures sets
           c.in_ok-free.ensures.free;
-      many = rw c.in_default-2.is at c.in_ok-five_then.ensures;
+      many = rw c.in_default-2.is at c.in_ok-five_then.ensures.stated;
     }
 
-pub returns : goal.returns
-returns c = λ four five d known.
+pub returns-clause-planned : goal.returns-clause-planned
+returns-clause-planned c = λ four five d known.
     let p = c.in-Some.ensures.places d in
     let here = c.in-Some.ensures.set d in
     let only = c.requires.front.only in
@@ -177,7 +178,7 @@ returns c = λ four five d known.
     let limit : c.volume_end.result ≡ end_in four c.args.tracks = c.volume_end.ensures ∙ ap (λ (bytes : List ℕ). end_in bytes c.args.tracks) read in
     let sets = sets_then c.args.recs.now c.in_ok-dscbs.dscbs.items c.deref-3.result.now c.in-Some.places.set c.shortened-set_then.result c.in_ok-dscbs.ensures c.deref-3.ensures.value p.set_within
     c.shortened-set_then.ensures.plain.format in
-    let told = rw c.in-Some-2.is at c.in_ok-five_then.ensures in
+    let told = rw c.in-Some-2.is at c.in_ok-five_then.ensures.stated in
     let H : List ℕ → Type 0 = λ bytes. HasCounts bytes c.counted-four_then.result in
     let C : List (List ℕ) → Type 0 = λ dscbs. IsCounted dscbs c.args.pointer.at c.counted-four_then.result in
     let F : List ℕ → Type 0 = λ bytes. StatesRuns 15 c.in_ok-free.free.runs bytes c.in-Some-2.five_then in
@@ -188,3 +189,19 @@ returns c = λ four five d known.
     (subst H read c.counted-four_then.ensures.kept) (subst C (c.deref-2.ensures.value ∙ c.in_ok-dscbs.ensures) c.counted-four_then.ensures.counted)
     (unused_as c.args.usable c.volume_end.result (end_in four c.args.tracks) c.track_number.result c.args.pointer _ _ c.in_ok-free.free.runs limit c.track_number.ensures sets c.in_ok-free.ensures.free)
     told.0 (subst F read_5 told.1)
+
+pub returns-clause-bytes : goal.returns-clause-bytes
+returns-clause-bytes c =
+    let p = c.in-Some.ensures.places no_rec in
+    let stated = rw c.in-Some-2.is at c.in_ok-five_then.ensures.bytes in
+    let F : List ℕ → Type 0 = λ bytes. IsRestated c.in_ok-free.free.runs bytes c.in-Some-2.five_then in
+    let C : List ℕ → Type 0 = λ bytes. IsRecounted bytes c.counted-four_then.result in
+    record {
+      free = c.in_ok-free.free.runs;
+      apart = c.in_ok-free.ensures.free.apart;
+      set = c.shortened-set_then.ensures.bytes;
+      five = λ d.
+          subst F (c.index-2.ensures ∙ dscb_there c.args.recs.now c.in_ok-dscbs.dscbs.items c.in-Some.places.five d c.index-2.result.now c.in_ok-dscbs.ensures p.five_within) stated;
+      four = λ d.
+          subst C (c.index.ensures ∙ dscb_there c.args.recs.now c.in_ok-dscbs.dscbs.items c.in-Some.places.four d c.index.result.now c.in_ok-dscbs.ensures p.four_within) c.counted-four_then.ensures.bytes;
+    }

@@ -1,4 +1,5 @@
 use Rattle.vtoc_core.proofs.Planned.{shortened_plain, shortened_by}
+use Rattle.vtoc_core.proofs.Rewrites.{shortened_bytes}
 use Rattle.vtoc_core.proofs.plan.shortened.Goals as goal
 
 pub returns-clause-plain : goal.returns-clause-plain
@@ -32,3 +33,20 @@ returns-clause-shortened c =
       run = c.front_of.ensures.run;
       made = c.put_only_extent.ensures;
     })
+
+pub returns-clause-bytes : goal.returns-clause-bytes
+returns-clause-bytes c =
+    shortened_bytes c.args.keep c.in-Some.extent c.front_of.result c.args.format_1.now c.put_only_extent.new.dscb
+    (record {
+      long = c.told-format_1;
+      plain = c.requires.plain;
+      has = c.requires.front;
+      read = c.in-Some.ensures;
+      kind = c.front_of.ensures.kind;
+      fits = c.front_of.ensures.fits;
+      first = c.front_of.ensures.first;
+      len = c.front_of.ensures.len;
+      run = c.front_of.ensures.run;
+      made = c.put_only_extent.ensures;
+    })
+    c.front_of.ensures.number c.front_of.ensures.start

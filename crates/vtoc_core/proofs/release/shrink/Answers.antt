@@ -2,6 +2,9 @@ use Rattle.std.proofs.Common.{◌≡◌, ℕ, List, true, map, length, get_or, s
 use Rattle.std.specs.List.{list_any}
 use Rattle.std.proofs.lemmas.List.{get_or_default}
 use Rattle.ckd_image.specs.declared.track.Rec.{Rec}
+use Rattle.ckd_image.specs.declared.track.Track.{Track}
+use Rattle.ckd_image.specs.Track.{IsTrackText}
+use Rattle.ckd_image.proofs.OneText.{one_text}
 use Rattle.dscb_rec.specs.declared.field.Extent.{Extent}
 use Rattle.volume_model.specs.Check.{Vtoc, same_bytes}
 use Rattle.volume_model.specs.Space.{run_of}
@@ -10,10 +13,12 @@ use Rattle.vtoc_core.specs.declared.volume.Row.{Row}
 use Rattle.vtoc_core.specs.Plain.{IsPlainFormat1}
 use Rattle.vtoc_core.specs.Loaded.{field_of}
 use Rattle.vtoc_core.specs.Shrink.{HasManyRuns}
-use Rattle.vtoc_core.specs.Release.{IsKnown, ArePlaces, HasFront, HasNoPlan, IsPlan}
+use Rattle.vtoc_core.specs.Release.{IsKnown, ArePlaces, HasFront, HasNoPlan, IsPlan, track_after}
+use Rattle.vtoc_core.specs.Rewritten.{HasPlannedBytes, IsRewritten}
 use Rattle.vtoc_core.proofs.Counts.{few_records}
-use Rattle.vtoc_core.proofs.Loads.{IsAsked, no_text}
+use Rattle.vtoc_core.proofs.Loads.{IsAsked, an_address, no_text}
 use Rattle.vtoc_core.proofs.Planned.{no_rec}
+use Rattle.vtoc_core.proofs.Rewrites.{rewritten}
 use Rattle.vtoc_core.proofs.Slots.{in_slot}
 use Rattle.vtoc_core.proofs.Shrunk.{read_here, known_as, held, ready, many_runs, shrunk_here}
 use Rattle.vtoc_core.proofs.release.shrink.Goals as goal
@@ -80,7 +85,7 @@ returns-in_default-planned-clause-full c = λ e slots vtoc d before has extent o
     let known = known_as c.args.label.now.vtoc c.args.head.tracks c.args.volume.now.usable c.in-Some.track.recs h.four h.five bytes r.five h.known r.plain in
     let k = ready c.args.head.tracks c.args.label.now.vtoc c.in-Some.track c.args.volume.now c.args.row c.args.keep d h c.requires.row (c.requires.extent d) c.requires.some in
     let R : List Rec → Type 0 = λ recs. IsKnown c.args.label.now.vtoc c.args.head.tracks recs bytes r.five c.args.volume.now.usable in
-    let n = rw c.in_default-planned.is at c.in_ok-planned.ensures bytes r.five no_rec (subst R (sym c.as_slice-recs.ensures) known) in
+    let n = rw c.in_default-planned.is at c.in_ok-planned.ensures.planned bytes r.five no_rec (subst R (sym c.as_slice-recs.ensures) known) in
     let format_1 : (get_or c.as_slice.result.now c.args.row c.index-as_slice-row.result).f1 ≡ (get_or c.args.volume.now.rows c.args.row d).f1 =
     ap (λ (rows : List Row). (get_or rows c.args.row c.index-as_slice-row.result).f1) c.as_slice.ensures
     ∙ ap (λ (row : Row). row.f1) (get_or_default c.args.volume.now.rows c.args.row c.index-as_slice-row.result d c.requires.row) in
@@ -99,7 +104,7 @@ write_dscbs-requires-clause-set c =
     let h = held c.args.head c.args.label.now c.args.slot.now c.requires.loaded.0 c.in-Some.track c.args.volume.now asked stands c.requires.loaded.1 c.requires.loaded.2 in
     let no = no_rec in
     let R : List Rec → Type 0 = λ recs. IsKnown c.args.label.now.vtoc c.args.head.tracks recs h.four h.five c.args.volume.now.usable in
-    let p = rw c.in-Some-planned.is at c.in_ok-planned.ensures h.four h.five no (subst R (sym c.as_slice-recs.ensures) h.known) in
+    let p = rw c.in-Some-planned.is at c.in_ok-planned.ensures.planned h.four h.five no (subst R (sym c.as_slice-recs.ensures) h.known) in
     let A : List Rec → Type 0 = λ recs. ArePlaces recs c.args.label.now.vtoc no c.in-Some-planned.plan.places.four c.in-Some-planned.plan.places.five c.in-Some-planned.plan.places.set in
     let places = subst A c.as_slice-recs.ensures p.release.places in
     let few = few_records c.in-Some.track c.args.label.now.vtoc c.args.head.tracks h.four h.five stands.sound h.known.plain in
@@ -112,7 +117,7 @@ write_dscbs-requires-clause-five c =
     let h = held c.args.head c.args.label.now c.args.slot.now c.requires.loaded.0 c.in-Some.track c.args.volume.now asked stands c.requires.loaded.1 c.requires.loaded.2 in
     let no = no_rec in
     let R : List Rec → Type 0 = λ recs. IsKnown c.args.label.now.vtoc c.args.head.tracks recs h.four h.five c.args.volume.now.usable in
-    let p = rw c.in-Some-planned.is at c.in_ok-planned.ensures h.four h.five no (subst R (sym c.as_slice-recs.ensures) h.known) in
+    let p = rw c.in-Some-planned.is at c.in_ok-planned.ensures.planned h.four h.five no (subst R (sym c.as_slice-recs.ensures) h.known) in
     let A : List Rec → Type 0 = λ recs. ArePlaces recs c.args.label.now.vtoc no c.in-Some-planned.plan.places.four c.in-Some-planned.plan.places.five c.in-Some-planned.plan.places.set in
     let places = subst A c.as_slice-recs.ensures p.release.places in
     let few = few_records c.in-Some.track c.args.label.now.vtoc c.args.head.tracks h.four h.five stands.sound h.known.plain in
@@ -125,7 +130,7 @@ write_dscbs-requires-clause-four c =
     let h = held c.args.head c.args.label.now c.args.slot.now c.requires.loaded.0 c.in-Some.track c.args.volume.now asked stands c.requires.loaded.1 c.requires.loaded.2 in
     let no = no_rec in
     let R : List Rec → Type 0 = λ recs. IsKnown c.args.label.now.vtoc c.args.head.tracks recs h.four h.five c.args.volume.now.usable in
-    let p = rw c.in-Some-planned.is at c.in_ok-planned.ensures h.four h.five no (subst R (sym c.as_slice-recs.ensures) h.known) in
+    let p = rw c.in-Some-planned.is at c.in_ok-planned.ensures.planned h.four h.five no (subst R (sym c.as_slice-recs.ensures) h.known) in
     let A : List Rec → Type 0 = λ recs. ArePlaces recs c.args.label.now.vtoc no c.in-Some-planned.plan.places.four c.in-Some-planned.plan.places.five c.in-Some-planned.plan.places.set in
     let places = subst A c.as_slice-recs.ensures p.release.places in
     let few = few_records c.in-Some.track c.args.label.now.vtoc c.args.head.tracks h.four h.five stands.sound h.known.plain in
@@ -140,7 +145,7 @@ returns-clause-done c = λ fits slots later vtoc d before has has_later.
     let bytes = before.stands.bytes in
     let known = known_as c.args.label.now.vtoc c.args.head.tracks c.args.volume.now.usable c.in-Some.track.recs h.four h.five bytes r.five h.known r.plain in
     let R : List Rec → Type 0 = λ recs. IsKnown c.args.label.now.vtoc c.args.head.tracks recs bytes r.five c.args.volume.now.usable in
-    let p = rw c.in-Some-planned.is at c.in_ok-planned.ensures bytes r.five no_rec (subst R (sym c.as_slice-recs.ensures) known) in
+    let p = rw c.in-Some-planned.is at c.in_ok-planned.ensures.planned bytes r.five no_rec (subst R (sym c.as_slice-recs.ensures) known) in
     let format_1 : (get_or c.as_slice.result.now c.args.row c.index-as_slice-row.result).f1 ≡ (get_or c.args.volume.now.rows c.args.row d).f1 =
     ap (λ (rows : List Row). (get_or rows c.args.row c.index-as_slice-row.result).f1) c.as_slice.ensures
     ∙ ap (λ (row : Row). row.f1) (get_or_default c.args.volume.now.rows c.args.row c.index-as_slice-row.result d c.requires.row) in
@@ -154,3 +159,31 @@ returns-clause-done c = λ fits slots later vtoc d before has has_later.
     (get_or c.args.volume.now.rows c.args.row d).f1
     c.in-Some-planned.plan vtoc asked before r known plan has_later
     (c.write_dscbs.ensures.written c.args.label.now.vtoc.at c.in-Some.track no_rec stands h.known.plain.records (places.set_within, places.five_within, places.four_within))
+
+pub returns-clause-text : goal.returns-clause-text
+returns-clause-text c = λ fits d old has.
+    let asked : IsAsked c.args.head c.args.label.now.vtoc c.args.slot.now = record { device = c.requires.device; inside = c.requires.inside; tracks = c.requires.tracks; short = c.requires.short } in
+    let address = an_address c.args.head c.args.label.now.vtoc c.args.slot.now asked in
+    let stands = rw c.in-Some.is at c.in_ok-track.ensures in
+    let h = held c.args.head c.args.label.now c.args.slot.now c.requires.loaded.0 c.in-Some.track c.args.volume.now asked stands c.requires.loaded.1 c.requires.loaded.2 in
+    let R : List Rec → Type 0 = λ recs. IsKnown c.args.label.now.vtoc c.args.head.tracks recs h.four h.five c.args.volume.now.usable in
+    let known = subst R (sym c.as_slice-recs.ensures) h.known in
+    let S : List Rec → Type 0 = λ recs. (e : Rec) → IsPlan c.args.label.now.vtoc c.args.head.tracks recs e (get_or c.as_slice.result.now c.args.row c.index-as_slice-row.result).f1 c.args.keep h.four
+    c.args.volume.now.usable
+    c.in-Some-planned.plan in
+    let plans = subst S c.as_slice-recs.ensures (λ e. rw c.in-Some-planned.is at c.in_ok-planned.ensures.planned h.four h.five e known) in
+    let B : List Rec → Type 0 = λ recs. HasPlannedBytes recs (get_or c.as_slice.result.now c.args.row c.index-as_slice-row.result).f1 c.args.keep c.in-Some-planned.plan in
+    let bytes = subst B c.as_slice-recs.ensures (rw c.in-Some-planned.is at c.in_ok-planned.ensures.bytes) in
+    let places = (plans no_rec).release.places in
+    let written : (e : Rec) → IsTrackText c.args.label.now.vtoc.at c.write_dscbs.new.slot (track_after c.in-Some.track e c.in-Some-planned.plan.places c.in-Some-planned.plan.written) =
+    λ e. c.write_dscbs.ensures.written c.args.label.now.vtoc.at c.in-Some.track e stands h.known.plain.records (places.set_within, places.five_within, places.four_within) in
+    let later = rewritten c.args.label.now.vtoc c.args.head.tracks c.args.volume.now.usable c.args.keep c.in-Some.track h.four (get_or c.as_slice.result.now c.args.row c.index-as_slice-row.result).f1
+    c.write_dscbs.new.slot c.in-Some-planned.plan address (omega (arith, c.write_dscbs.ensures.long, c.requires.short)) plans bytes written in
+    let format_1 : (get_or c.as_slice.result.now c.args.row c.index-as_slice-row.result).f1 ≡ (get_or c.args.volume.now.rows c.args.row d).f1 =
+    ap (λ (rows : List Row). (get_or rows c.args.row c.index-as_slice-row.result).f1) c.as_slice.ensures
+    ∙ ap (λ (row : Row). row.f1) (get_or_default c.args.volume.now.rows c.args.row c.index-as_slice-row.result d c.requires.row) in
+    let F : List ℕ → Type 0 = λ x. IsRewritten c.args.label.now.vtoc x c.args.keep c.in-Some.track (track_after c.in-Some.track no_rec c.in-Some-planned.plan.places c.in-Some-planned.plan.written) in
+    let T : Track → Type 0 = λ text. IsRewritten c.args.label.now.vtoc (get_or c.args.volume.now.rows c.args.row d).f1 c.args.keep text
+    (track_after c.in-Some.track no_rec c.in-Some-planned.plan.places c.in-Some-planned.plan.written) in
+    let same = one_text c.args.label.now.vtoc.at c.args.slot.now c.in-Some.track old address c.requires.short stands has in
+    (track_after c.in-Some.track no_rec c.in-Some-planned.plan.places c.in-Some-planned.plan.written, written no_rec, subst T same (subst F format_1 later))
