@@ -49,6 +49,7 @@ pub fn put(bytes: &mut [u8], start: usize, piece: &[u8]) -> usize
     requires { start + length piece.now ≤ length bytes.old }
     ensures end { result ≡ start + length piece.now }
     ensures written { take result bytes.new ≡ take start bytes.old ++ piece.now }
+    ensures behind { drop result bytes.new ≡ drop result bytes.old }
 {
     let end = start + piece.len();
     bytes[start..end].copy_from_slice(piece);

@@ -8,7 +8,7 @@ use thiserror::Error;
 
 #[derive(Clone, Copy, Debug, PartialEq, Eq, Error)]
 pub enum NameFault {
-    /// The place of the first byte at which no continuation is a data set name.
+    /// The place of the first byte at which no continuation is a data set name, or the one qualifier that was asked for.
     #[error("no data set name at place {0}")]
     BadName(u32),
     /// The place of the first byte at which no continuation is a pattern.

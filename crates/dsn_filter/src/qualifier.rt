@@ -1,12 +1,13 @@
 //! A word that has the form of one qualifier.
 
 ghost use Rattle.std.specs.Prelude.{◌≡◌, ◌≤◌, ◌↔◌, IsTrue, IfOk, IfErr};
-ghost use Rattle.dsn_filter.specs.Text.{IsFirstWrong};
+ghost use Rattle.dsn_filter.specs.NameFault.{IsQualifierFault};
 ghost use Rattle.dsn_filter.specs.OneQualifier.{IsQualifierText, IsOneQualifier, word_of, qualifier_of};
 ghost use Rattle.dsn_filter.specs.Dsn.{text_of, IsDsn};
 ghost use Rattle.dsn_filter.specs.Rename.{IsPrefix};
 
 use crate::dsn::Dsn;
+use crate::fault::NameFault;
 use crate::part::{between, name_goes_on};
 use ckd_image::text::{put_over, same};
 
@@ -18,21 +19,21 @@ pub struct Qualifier {
 }
 
 impl Qualifier {
-    /// Small letters are read as capitals. A refusal says the place of the first byte at which no continuation is right.
-    pub fn read(text: &[u8]) -> Result<Qualifier, u32>
+    /// Small letters are read as capitals.
+    pub fn read(text: &[u8]) -> Result<Qualifier, NameFault>
         ensures read { IfOk result (λ word. IsQualifierText text.now × (word ≡ qualifier_of text.now)) }
-        ensures refused { IfErr result (IsFirstWrong IsQualifierText text.now) }
+        ensures refused { IfErr result (IsQualifierFault text.now) }
     {
         let mut capital = [0; 8];
         for (place, byte) in text.iter().enumerate() {
             let byte = byte.to_ascii_uppercase();
             if !name_goes_on(between(&capital, 0, place), byte) {
-                return Err(place as u32);
+                return Err(NameFault::BadName(place as u32));
             }
             capital[place] = byte;
         }
         if text.is_empty() {
-            return Err(0);
+            return Err(NameFault::BadName(0));
         }
         Ok(Qualifier {
             len: text.len() as u8,

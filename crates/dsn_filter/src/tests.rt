@@ -134,7 +134,7 @@ fn many_stars_end_quickly(rt: HostRuntime) -> Result<(), Fail> {
 fn prefix(text: &[u8]) -> Result<Rename, NameFault>
     ensures { IfOk result IsRename }
 {
-    let word = Qualifier::read(text).map_err(NameFault::BadName)?;
+    let word = Qualifier::read(text)?;
     Ok(Rename::Prefix(word.to_name()))
 }
 
@@ -182,6 +182,10 @@ fn a_word_is_one_qualifier(rt: HostRuntime) {
     );
     let cases: [(&[u8], u32); 4] = [(b"", 0), (b"1A", 0), (b"A.B", 1), (b"ABCDEFGHI", 8)];
     for (text, place) in cases {
-        assert_eq!(rt; Qualifier::read(text).err(), Some(place), "{text:?}");
+        assert_eq!(rt;
+            Qualifier::read(text).err(),
+            Some(NameFault::BadName(place)),
+            "{text:?}"
+        );
     }
 }

@@ -5,6 +5,8 @@ ghost use Rattle.std.specs.Char.{to_ascii_uppercase};
 ghost use Rattle.std.specs.List.{AllByRecursion};
 ghost use Rattle.dsn_filter.specs.Text.{capitals, IsFirstWrong};
 ghost use Rattle.dsn_filter.specs.Dsn.{dsn_of, IsNameText};
+ghost use Rattle.dsn_filter.specs.OneQualifier.{IsQualifierText};
+ghost use Rattle.enq_table.specs.Holder.{holder_of};
 ghost use Rattle.enq_table.specs.HeldText.{lines_of, IsHoldLine, IsLine};
 ghost use Rattle.enq_table.specs.Lines.{lines_behind, IsModeAnd, IsHoldTail, IsTail, IsCut};
 
@@ -95,9 +97,20 @@ fn tail_of(mode: Mode, text: &[u8]) -> Result<Hold, u32>
     let Some(rest) = behind else {
         return Err(text.len() as u32);
     };
-    match Holder::read(rest) {
+    match read_holder(rest) {
         Ok(holder) => Ok(Hold { name, mode, holder }),
         Err(place) => Err(word.len() as u32 + 1 + place),
+    }
+}
+
+fn read_holder(word: &[u8]) -> Result<Holder, u32>
+    ensures read { IfOk result (λ holder. IsQualifierText word.now × (holder ≡ holder_of word.now)) }
+    ensures refused { IfErr result (IsFirstWrong IsQualifierText word.now) }
+{
+    match Holder::read(word) {
+        Ok(holder) => Ok(holder),
+        Err(NameFault::BadName(place)) => Err(place),
+        Err(_) => unreachable!(),
     }
 }
 

@@ -15,7 +15,7 @@ fn name(text: &[u8]) -> Result<Dsn, NameFault>
 fn holder(text: &[u8]) -> Result<Holder, NameFault>
     ensures { IfOk result IsHolder }
 {
-    Holder::read(text).map_err(NameFault::BadName)
+    Holder::read(text)
 }
 
 fn refusal(rt: &HostRuntime, text: &[u8]) -> Option<EnqFault> {
