@@ -1,6 +1,7 @@
 //! A pool over seekable files, which doesn't tell what it holds.
 
-ghost use Rattle.std.specs.Prelude.{◌≡◌, ◌+◌, ◌<◌, ◌^◌, OnOk, vec_len};
+ghost use Rattle.std.specs.Prelude.{◌≡◌, ◌+◌, ◌<◌, ◌≤◌, ◌^◌, OnOk, length, vec_len};
+ghost use Rattle.dasd_pool.specs.Count.{Rose};
 ghost use Rattle.dasd_pool.specs.Files.{shape_of_files, untold};
 
 use crate::file_unit::FileUnit;
@@ -13,12 +14,20 @@ use std::io::{self, Read, Seek, SeekFrom, Write};
 /// Where the blocks begin in a file.
 const HEAD: u64 = 512;
 
+/// Why a call of a pool over files failed: the unit whose file it was, and the system's reason.
+#[derive(Debug, Drop)]
+pub struct FileFailure {
+    pub unit: u32,
+    pub reason: io::Error,
+}
+
 /// A pool over files, one for each unit: a head of 512 bytes, and then blocks.
 #[derive(Debug, Drop)]
 pub struct FilePool<F> {
     files: Vec<F>,
     units: Vec<FileUnit>,
     faults: u64,
+    failure: Option<FileFailure>,
     ghost together: { vec_len files ≡ vec_len units },
     ghost few: { vec_len units < 2 ^ 32 },
 }
@@ -53,9 +62,15 @@ fn write_block<F: Write + Seek>(file: &mut F, block: u32, buf: &[u8]) -> io::Res
     file.write_all(buf)
 }
 
-fn sync_files<F: OpenFile>(files: &[F]) -> io::Result<()> {
-    for file in files {
-        file.sync_all()?;
+/// Syncs the files up to the first that fails.
+fn sync_files<F: OpenFile>(files: &[F]) -> Result<(), FileFailure>
+    requires { length files.now < 2 ^ 32 }
+{
+    for (unit, file) in files.iter().enumerate() {
+        if let Err(reason) = file.sync_all() {
+            let unit = unit as u32;
+            return Err(FileFailure { unit, reason });
+        }
     }
     Ok(())
 }
@@ -69,7 +84,24 @@ impl<F: Read + Write + Seek + OpenFile + Drop> FilePool<F> {
             files: Vec::new(alloc),
             units: Vec::new(alloc),
             faults: 0,
+            failure: None,
         }
+    }
+
+    /// The last call that failed.
+    pub fn failure(&self) -> Option<&FileFailure> {
+        self.failure.as_ref()
+    }
+
+    /// Counts a call that failed, and keeps why.
+    fn fail(&mut self, failure: FileFailure) -> PoolFault
+        ensures later { self.old.faults ≤ self.new.faults }
+        ensures rises { Rose self.old.faults self.new.faults }
+        ensures units { self.new.units ≡ self.old.units }
+    {
+        self.faults = risen(self.faults);
+        self.failure = Some(failure);
+        PoolFault
     }
 
     /// Adds a file as the next unit; on `Err` the pool is as it was.
@@ -119,26 +151,23 @@ impl<F: Read + Write + Seek + OpenFile + Drop> Pool for FilePool<F> {
     }
 
     fn read(&mut self, unit: u32, block: u32, buf: &mut [u8]) -> Result<(), PoolFault> {
-        if read_block(&mut self.files[unit as usize], block, buf).is_err() {
-            self.faults = risen(self.faults);
-            return Err(PoolFault);
+        match read_block(&mut self.files[unit as usize], block, buf) {
+            Ok(()) => Ok(()),
+            Err(reason) => Err(self.fail(FileFailure { unit, reason })),
         }
-        Ok(())
     }
 
     fn write(&mut self, unit: u32, block: u32, buf: &[u8]) -> Result<(), PoolFault> {
-        if write_block(&mut self.files[unit as usize], block, buf).is_err() {
-            self.faults = risen(self.faults);
-            return Err(PoolFault);
+        match write_block(&mut self.files[unit as usize], block, buf) {
+            Ok(()) => Ok(()),
+            Err(reason) => Err(self.fail(FileFailure { unit, reason })),
         }
-        Ok(())
     }
 
     fn sync(&mut self) -> Result<(), PoolFault> {
-        if sync_files(&self.files).is_err() {
-            self.faults = risen(self.faults);
-            return Err(PoolFault);
+        match sync_files(&self.files) {
+            Ok(()) => Ok(()),
+            Err(failure) => Err(self.fail(failure)),
         }
-        Ok(())
     }
 }

@@ -16,7 +16,7 @@ mod tear;
 mod units;
 
 pub use calls::{Call, Tear};
-pub use file::FilePool;
+pub use file::{FileFailure, FilePool};
 pub use file_unit::FileUnit;
 pub use memory::MemoryPool;
 pub use order::write_in_order;

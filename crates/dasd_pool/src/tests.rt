@@ -206,7 +206,9 @@ fn a_file_that_refuses_is_a_fault(rt: HostRuntime) -> Result<(), Fail> {
     fs::write(&rt, &path, &text)?;
     let mut pool = FilePool::new(rt.alloc());
     pool.add(File::open(&rt, &path)?)?;
+    assert!(rt; pool.failure().is_none());
     assert_eq!(rt; fill(&rt, &mut pool, 0, 6)?, Err(PoolFault));
+    assert_eq!(rt; pool.failure().map(|failure| failure.unit), Some(0));
     let mut sink = FileSink::new(File::open(&rt, &path)?);
     assert_eq!(rt; sink.write(b"free"), Err(WriteFault));
     let mut buf = [0; 8];
