@@ -17,13 +17,13 @@ use Rattle.adr_top.specs.declared.statement.Statement.{Statement}
 use Rattle.adr_top.specs.declared.stop.Stop.{Stop}
 use Rattle.adr_top.specs.declared.stop.Stop.TheVariants as stops
 use Rattle.adr_top.specs.Words.{Named}
-use Rattle.adr_top.specs.Form.{Asks, IsOtherUnit, IsOutsideText}
+use Rattle.adr_top.specs.Form.{Asks, IsOtherUnit, IsOutsideText, IsOnlySerial, OpensUnder}
 use Rattle.adr_top.specs.Listed.{Tells}
 use Rattle.adr_top.specs.Causes.{last_line}
 use Rattle.adr_top.specs.Meaning.{Means}
 use Rattle.adr_top.specs.Print.{started}
 use Rattle.adr_top.specs.Stops.{status_of, IsUnitStop, IsTextStop}
-use Rattle.adr_top.specs.Journals.{IsOnlySerial, IsRefusal, refusal_line}
+use Rattle.adr_top.specs.Journals.{IsRefusal, refusal_line}
 use Rattle.adr_top.specs.Parts.{fault_status, fault_line, EndsStatement, EndsRun}
 use Rattle.adr_top.proofs.Openings.{means_back, other_back}
 
@@ -281,7 +281,7 @@ module _ (words : List (List ℕ)) (sysin : Option (List ℕ)) (tells : Type 0) 
     -- ---- a statement over an open journal
 
     module _ (status : ℕ) (mid : State) (pool_mid : ℕ) (names : List Serial) (room : ℕ) (control : Control) (fills : List Bool) (steps : List Step) (pending : Option Step)
-        (some : 0 < journal_of shape) (later : pool_before ≤ pool_mid) (opened : tells → IsOpened shape state names room control fills mid)
+        (some : 0 < journal_of shape) (later : pool_before ≤ pool_mid) (opens : tells → OpensUnder named.name shape state.contents) (opened : tells → IsOpened shape state names room control fills mid)
         (ends : EndsStatement statement status named.name tells shape mid pool_mid pool_now before after sink_before sink_now steps pending) where
       meant : (code : ℕ) (did : List Step) (text : List ℕ) → (tells → Means statement named.name shape mid.contents code did text)
           → tells → Means statement named.name shape state.contents code did text
@@ -301,20 +301,20 @@ module _ (words : List (List ℕ)) (sysin : Option (List ℕ)) (tells : Type 0) 
         known = statuses ends.known;
         done = λ is.
             let found = ends.done is in
-            (found.0, record { named = named; statement = statement; asked = asked; means = meant status steps found.0 found.1 }, found.2);
+            (found.0, record { named = named; statement = statement; asked = asked; opens = opens; means = meant status steps found.0 found.1 }, found.2);
         cut = λ is.
             let found = ends.cut is in
-            (found.0, found.1, record { named = named; statement = statement; asked = asked; means = meant found.0 steps found.1 found.2 }, found.3);
+            (found.0, found.1, record { named = named; statement = statement; asked = asked; opens = opens; means = meant found.0 steps found.1 found.2 }, found.3);
         pool = λ e. rose_since pool_before pool_mid pool_now later (ends.pool e);
         source = λ e. absurd (not_20_24 status ends.known (inr e));
         sink = ends.sink;
         asked = λ e. (named, statement, asked);
-        outside = λ e. inr (named, statement, asked, λ tell. other_back shape state mid names room control fills (opened tell) some statement named.name (ends.outside e tell));
+        outside = λ e. inr (named, statement, asked, λ tell. (other_back shape state mid names room control fills (opened tell) some statement named.name (ends.outside e tell), opens tell));
         refused = λ e. absurd (not_20_24 status ends.known (inl e));
         undone = ends.undone;
         under_way = λ step is.
             let found = ends.under_way step is in
-            (found.0, (found.1.0, record { named = named; statement = statement; asked = asked; means = meant 0 (step ∷ []) found.1.0 found.1.1 }));
+            (found.0, (found.1.0, record { named = named; statement = statement; asked = asked; opens = opens; means = meant 0 (step ∷ []) found.1.0 found.1.1 }));
         told = λ zero four twenty out. ends.told zero four out;
       }
 

@@ -3,6 +3,7 @@ use Rattle.std.specs.Prelude.{◌≡◌, ◌⊎◌, ℕ, List, [], ◌∷◌, fa
 use Rattle.ckd_image.specs.declared.device.Device.TheVariants.{D3390}
 use Rattle.dasd_pool.specs.Disk.{Image, Shape}
 use Rattle.dsn_filter.specs.declared.dsn.Dsn.{Dsn}
+use Rattle.vol_label.specs.declared.serial.Serial.{Serial}
 use Rattle.vol_label.specs.Serial.{Spells}
 use Rattle.volume_model.specs.Check.{Vtoc}
 use Rattle.volume_model.specs.Directory.{DirectoryRow}
@@ -14,6 +15,7 @@ use Rattle.volume_model.specs.Space.{run_of}
 use Rattle.volume_model.specs.Unit.{DataSet}
 use Rattle.vtoc_core.specs.Plain.{IsPlainVtoc}
 use Rattle.vtoc_core.specs.Shrink.{HasManyRuns}
+use Rattle.redo_core.specs.Faults.{MayOpen}
 use Rattle.redo_core.specs.Reading.{Reading, Reads}
 use Rattle.move_core.specs.Release.{MayRelease}
 use Rattle.adr_top.specs.declared.statement.Statement.{Statement}
@@ -54,6 +56,16 @@ pub record Withholds (name head : List ℕ) (blocks : ℕ) (slots : Slots) (dsn 
   pub name_is : IsNameOf dsn (take 44 row.format_1)
   pub why : ((set : DataSet) → IsDataSet 15 (λ track. track) slots row set → ¬ MayRelease 15 set) ⊎ LeavesManyRuns slots stands.stands.vtoc row
 
+-- ---- a journal that may be opened
+
+-- the one serial of a name
+abbrev pub IsOnlySerial : List ℕ → List Serial → Type 0
+IsOnlySerial name names = (text : List ℕ) × Spells name text × (names ≡ record { text = text } ∷ [])
+
+-- nothing stands against an opening of the journal for the one unit of this name
+abbrev pub OpensUnder : List ℕ → Shape → Image → Type 0
+OpensUnder name shape contents = (names : List Serial) × IsOnlySerial name names × MayOpen shape contents names
+
 -- ---- the whole form: the words, then the text, then the unit, the last two where they are told
 
 -- words and text ask for a statement, for the unit that is named
@@ -78,10 +90,11 @@ abbrev pub IsOtherUnit : List ℕ → Statement → Shape → Image → Type 0
 IsOtherUnit name statement shape contents =
     (reading : Reading) × Reads shape contents reading × IsOtherFor name statement (shape.head 0) (shape.blocks 0) (reading.volumes 0)
 
--- what words and text ask for isn't of the form on the unit that is named
+-- what words and text ask for isn't of the form on the unit that is named, whose journal may be opened
 abbrev pub IsOutsideUnit : List (List ℕ) → Option (List ℕ) → Type 0 → Shape → Image → Type 0
 IsOutsideUnit words text tells shape contents =
-    (named : Named) × (statement : Statement) × Asks words text named statement × (tells → IsOtherUnit named.name statement shape contents)
+    (named : Named) × (statement : Statement) × Asks words text named statement
+    × (tells → IsOtherUnit named.name statement shape contents × OpensUnder named.name shape contents)
 
 -- one of the three isn't
 abbrev pub IsOutsideForm : List (List ℕ) → Option (List ℕ) → Type 0 → Shape → Image → Type 0

@@ -1,16 +1,15 @@
 -- A run that makes a journal.
-use Rattle.std.specs.Prelude.{◌≡◌, ℕ, List, [], ◌∷◌, ◌++◌, Option, codes}
+use Rattle.std.specs.Prelude.{◌≡◌, ℕ, List, [], ◌++◌, Option, codes}
 use Rattle.std.specs.Fmt.{decimal}
 use Rattle.dasd_pool.specs.Disk.{Shape, State}
 use Rattle.vol_label.specs.declared.serial.Serial.{Serial}
-use Rattle.vol_label.specs.Serial.{Spells}
 use Rattle.redo_core.specs.declared.fault.JournalFault.{JournalFault}
 use Rattle.redo_core.specs.declared.fault.JournalFault.TheVariants.{Pool, BadJournal, WrongUnit, JournalSmall, NoMemory}
 use Rattle.redo_core.specs.Faults.{IsFormatFault, IsOpenFault, MayFormat}
 use Rattle.redo_core.specs.Opening.{IsFormatted}
 use Rattle.adr_top.specs.declared.statement.Statement.{Statement}
 use Rattle.adr_top.specs.Words.{Named, FormatNamed, AreFormatWords}
-use Rattle.adr_top.specs.Form.{Asks}
+use Rattle.adr_top.specs.Form.{Asks, IsOnlySerial}
 use Rattle.adr_top.specs.Print.{message, letter_i, printed, status_line}
 use Rattle.adr_top.specs.Listed.{Tells}
 
@@ -34,10 +33,6 @@ abbrev pub IsRefusal : JournalFault → Type 0
 IsRefusal Pool = ⊥
 IsRefusal NoMemory = ⊥
 IsRefusal _ = Unit {0}
-
--- the one serial of a name
-abbrev pub IsOnlySerial : List ℕ → List Serial → Type 0
-IsOnlySerial name names = (text : List ℕ) × Spells name text × (names ≡ record { text = text } ∷ [])
 
 -- the one serial that the words of a format name
 abbrev pub IsOnlyName : FormatNamed → List Serial → Type 0

@@ -11,7 +11,7 @@ use Rattle.move_core.specs.Steps.{Reaches}
 use Rattle.adr_top.specs.declared.statement.Statement.{Statement}
 use Rattle.adr_top.specs.declared.statement.Statement.TheVariants.{Print, Release}
 use Rattle.adr_top.specs.Causes.{last_line}
-use Rattle.adr_top.specs.Form.{Asks}
+use Rattle.adr_top.specs.Form.{Asks, OpensUnder}
 use Rattle.adr_top.specs.Journals.{MakesJournal}
 use Rattle.adr_top.specs.Listed.{ListsUnit, IsReadOnly}
 use Rattle.adr_top.specs.Print.{started}
@@ -23,11 +23,12 @@ abbrev pub Means : Statement → List ℕ → Shape → Image → ℕ → List S
 Means Print name shape contents code steps text = (code ≡ 0) × (steps ≡ []) × ListsUnit name shape contents text
 Means (Release dsn) name shape contents code steps text = ReleasesUnit name dsn shape contents code steps text
 
--- words and text ask for a statement, which means this
+-- words and text ask for a statement, which means this; the journal of its unit may be opened
 pub record MeansText (words : List (List ℕ)) (sysin : Option (List ℕ)) (tells : Type 0) (shape : Shape) (contents : Image) (code : ℕ) (steps : List Step) (text : List ℕ) : Type 0 where
   pub named : Named
   pub statement : Statement
   pub asked : Asks words sysin named statement
+  pub opens : tells → OpensUnder named.name shape contents
   pub means : tells → Means statement named.name shape contents code steps text
 
 -- the last lines of a run with this status, where it isn't 0, 4, 20 or 28: a statement whose step is under way had started

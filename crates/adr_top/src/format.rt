@@ -2,7 +2,7 @@
 
 ghost use Rattle.std.specs.Prelude.{◌≡◌, ◌≢◌, ◌⊎◌, ◌≤◌, ◌+◌, ◌++◌, ℕ, List, length};
 ghost use Rattle.dasd_pool.specs.Count.{Rose};
-ghost use Rattle.dasd_pool.specs.Disk.{LeavesOnly};
+ghost use Rattle.dasd_pool.specs.Disk.{LeavesOnly, Runs, none};
 ghost use Rattle.dasd_pool.specs.Stream.{Appends, AppendsSome};
 ghost use Rattle.vol_label.specs.Serial.{IsSerialName, Spells};
 ghost use Rattle.redo_core.specs.Opening.{SparesVolumes};
@@ -136,6 +136,7 @@ pub(crate) fn make_journal<O: Sink, P: Pool>(
     ensures shape { P.shape result.pool ≡ P.shape pool }
     ensures any_moment { P.tells → LeavesOnly (P.disk pool) (P.disk result.pool) (SparesVolumes (P.shape pool) (P.disk pool).state) }
     ensures unwritten { P.tells → result.status ≢ 0 → result.status ≢ 16 → result.status ≢ 28 → (P.disk result.pool).state ≡ (P.disk pool).state }
+    ensures untouched { P.tells → result.status ≢ 0 → result.status ≢ 16 → result.status ≢ 28 → Runs none (P.disk pool) (P.disk result.pool) }
     ensures does { (words : List (List ℕ)) → AreFormatWords words (format_named_by parts.entry)
         → Formats result.status words P.tells (P.shape pool) (P.disk pool).state (P.disk result.pool).state (P.faults pool) (P.faults result.pool)
         (O.taken out.old) (O.taken out.new) (O.faults out.old) (O.faults out.new) }

@@ -1,6 +1,7 @@
 //! One run of `adrdssu`: words and text in, lines and a status out (DFSMSdss Storage Administration).
 #![tactic(auto)]
 
+mod built;
 mod format;
 mod left;
 mod line;
@@ -20,6 +21,7 @@ mod stream;
 mod tracks;
 mod words;
 
+pub use built::asks_some;
 pub use lists::{Day, InDd, OutDd, OutState};
 pub use move_core::{DdName, Dsn, Origin, Runs, Step};
 pub use runner::{Ended, batch};

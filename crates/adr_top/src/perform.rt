@@ -76,6 +76,7 @@ fn list<O: Sink, P: Pool>(
     ensures reads { P.tells → result.status ≢ 16 → ReadsAfter files.entry.name.now result.steps.items (P.shape journal.pool) (P.disk journal.pool).state (P.disk result.pool).state }
     ensures keeps { P.tells → (names : List Serial) (units : List UnitModel) → IsSettled (P.shape journal.pool) names (P.disk journal.pool).state units
         → KeepsUnits (P.shape journal.pool) names (P.disk journal.pool) (P.disk result.pool) (P.faults journal.pool) (P.faults result.pool) units result.steps.items result.pending }
+    ensures quiet { P.tells → result.steps.items ≡ [] → result.pending ≡ None → Runs none (P.disk journal.pool) (P.disk result.pool) }
     ensures settled { P.tells → result.status ≢ 16 → (names : List Serial) (units : List UnitModel) → IsSettled (P.shape journal.pool) names (P.disk journal.pool).state units
         → IsSettledAfter (P.shape journal.pool) names units result.steps.items (P.disk result.pool).state }
 {
@@ -115,6 +116,7 @@ fn put<O: Sink, P: Pool>(
     ensures reads { P.tells → result.status ≢ 16 → ReadsAfter files.entry.name.now result.steps.items (P.shape journal.pool) (P.disk journal.pool).state (P.disk result.pool).state }
     ensures keeps { P.tells → (names : List Serial) (units : List UnitModel) → IsSettled (P.shape journal.pool) names (P.disk journal.pool).state units
         → KeepsUnits (P.shape journal.pool) names (P.disk journal.pool) (P.disk result.pool) (P.faults journal.pool) (P.faults result.pool) units result.steps.items result.pending }
+    ensures quiet { P.tells → result.steps.items ≡ [] → result.pending ≡ None → Runs none (P.disk journal.pool) (P.disk result.pool) }
     ensures settled { P.tells → result.status ≢ 16 → (names : List Serial) (units : List UnitModel) → IsSettled (P.shape journal.pool) names (P.disk journal.pool).state units
         → IsSettledAfter (P.shape journal.pool) names units result.steps.items (P.disk result.pool).state }
 {
@@ -161,6 +163,7 @@ fn release<O: Sink, P: Pool>(
     ensures reads { P.tells → result.status ≢ 16 → ReadsAfter files.entry.name.now result.steps.items (P.shape journal.pool) (P.disk journal.pool).state (P.disk result.pool).state }
     ensures keeps { P.tells → (names : List Serial) (units : List UnitModel) → IsSettled (P.shape journal.pool) names (P.disk journal.pool).state units
         → KeepsUnits (P.shape journal.pool) names (P.disk journal.pool) (P.disk result.pool) (P.faults journal.pool) (P.faults result.pool) units result.steps.items result.pending }
+    ensures quiet { P.tells → result.steps.items ≡ [] → result.pending ≡ None → Runs none (P.disk journal.pool) (P.disk result.pool) }
     ensures settled { P.tells → result.status ≢ 16 → (names : List Serial) (units : List UnitModel) → IsSettled (P.shape journal.pool) names (P.disk journal.pool).state units
         → IsSettledAfter (P.shape journal.pool) names units result.steps.items (P.disk result.pool).state }
 {
@@ -194,6 +197,7 @@ pub(crate) fn perform<O: Sink, P: Pool>(
     ensures reads { P.tells → result.status ≢ 16 → ReadsAfter files.entry.name.now result.steps.items (P.shape journal.pool) (P.disk journal.pool).state (P.disk result.pool).state }
     ensures keeps { P.tells → (names : List Serial) (units : List UnitModel) → IsSettled (P.shape journal.pool) names (P.disk journal.pool).state units
         → KeepsUnits (P.shape journal.pool) names (P.disk journal.pool) (P.disk result.pool) (P.faults journal.pool) (P.faults result.pool) units result.steps.items result.pending }
+    ensures quiet { P.tells → result.steps.items ≡ [] → result.pending ≡ None → Runs none (P.disk journal.pool) (P.disk result.pool) }
     ensures settled { P.tells → result.status ≢ 16 → (names : List Serial) (units : List UnitModel) → IsSettled (P.shape journal.pool) names (P.disk journal.pool).state units
         → IsSettledAfter (P.shape journal.pool) names units result.steps.items (P.disk result.pool).state }
 {

@@ -2,9 +2,10 @@
 
 ghost use Rattle.std.specs.Prelude.{◌≡◌, ◌≢◌, ◌⊎◌, ◌↔◌, ◌<◌, ◌≤◌, List, [], Some, None, length, take, IsTrue, MatchOption, IfSome, IfOk, OnOk, IfErr};
 ghost use Rattle.dasd_pool.specs.Count.{Rose};
-ghost use Rattle.dasd_pool.specs.Disk.{LeavesOnly, Touches, none};
+ghost use Rattle.dasd_pool.specs.Disk.{LeavesOnly, Runs, none};
 ghost use Rattle.dasd_pool.specs.Stream.{Appends, AppendsSome};
-ghost use Rattle.redo_core.specs.Opening.{SparesVolumes};
+ghost use Rattle.redo_core.specs.Opening.{SparesVolumes, of_opening};
+ghost use Rattle.redo_core.specs.Reading.{journal_of};
 ghost use Rattle.vol_label.specs.declared.serial.Serial.{Serial};
 ghost use Rattle.vol_label.specs.Serial.{Spells};
 ghost use Rattle.volume_model.specs.Unit.{UnitModel};
@@ -108,8 +109,10 @@ fn run<S: Source, O: Sink, P: Pool>(
     ensures few { result.status ≢ 24 → TakesFew 129 (S.left sysin.old) (S.left sysin.new) }
     ensures shape { P.shape result.pool ≡ P.shape pool }
     ensures reads { P.tells → result.status ≢ 16 → ReadsAfterText words.now result.steps.items (P.shape pool) (P.disk pool).state (P.disk result.pool).state }
-    ensures unwritten { P.tells → (result.status ≡ 20) ⊎ (result.status ≡ 24) → Touches none (P.disk pool).state (P.disk result.pool).state }
-    ensures unasked { P.tells → ¬ AsksSome words.now (S.left sysin.old) → Touches none (P.disk pool).state (P.disk result.pool).state }
+    ensures unwritten { P.tells → (result.status ≡ 20) ⊎ (result.status ≡ 24) → Runs none (P.disk pool) (P.disk result.pool) }
+    ensures quiet { P.tells → result.steps.items ≡ [] → result.pending ≡ None
+        → Runs (of_opening (journal_of (P.shape pool)) (P.disk pool).state.contents) (P.disk pool) (P.disk result.pool) }
+    ensures unasked { P.tells → ¬ AsksSome words.now (S.left sysin.old) → Runs none (P.disk pool) (P.disk result.pool) }
     ensures keeps { P.tells → (names : List Serial) (units : List UnitModel) → IsSettled (P.shape pool) names (P.disk pool).state units
         → KeepsUnits (P.shape pool) names (P.disk pool) (P.disk result.pool) (P.faults pool) (P.faults result.pool) units result.steps.items result.pending }
     ensures settled { P.tells → result.status ≢ 16 → (names : List Serial) (units : List UnitModel) → IsSettled (P.shape pool) names (P.disk pool).state units
@@ -230,14 +233,17 @@ pub fn batch<S: Source, H: Source, O: Sink, P: Pool>(
         → IsSettledAfter (P.shape pool) names units result.steps.items (P.disk result.pool).state }
 
     // A run that doesn't make a journal leaves what the pool's blocks read but for the VTOC that its step shrank, unless the pool
-    // failed. A refusal writes nothing, and neither does a run whose words and text ask for nothing.
+    // failed. A refusal writes nothing at any moment, and neither does a run whose words and text ask for nothing. One that did no step and has
+    // none under way writes no more than the opening of its journal.
     ensures shape { P.shape result.pool ≡ P.shape pool }
     ensures reads { P.tells → ((named : FormatNamed) → ¬ AreFormatWords words.now named) → result.status ≢ 16
         → ReadsAfterText words.now result.steps.items (P.shape pool) (P.disk pool).state (P.disk result.pool).state }
     ensures unwritten { P.tells → (result.status ≡ 20) ⊎ ((result.status ≡ 24) ⊎ (result.status ≡ 36))
-        → Touches none (P.disk pool).state (P.disk result.pool).state }
+        → Runs none (P.disk pool) (P.disk result.pool) }
     ensures unasked { P.tells → ((named : FormatNamed) → ¬ AreFormatWords words.now named) → ¬ AsksSome words.now (S.left sysin.old)
-        → Touches none (P.disk pool).state (P.disk result.pool).state }
+        → Runs none (P.disk pool) (P.disk result.pool) }
+    ensures quiet { P.tells → ((named : FormatNamed) → ¬ AreFormatWords words.now named) → result.steps.items ≡ [] → result.pending ≡ None
+        → Runs (of_opening (journal_of (P.shape pool)) (P.disk pool).state.contents) (P.disk pool) (P.disk result.pool) }
 
     // The making of a journal does no step and writes only blocks of the journal.
     ensures stepless { (named : FormatNamed) → AreFormatWords words.now named → (result.steps.items ≡ []) × (result.pending ≡ None) }

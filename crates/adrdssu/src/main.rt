@@ -1,13 +1,20 @@
 //! The program `adrdssu`: it opens the files that its words name, runs its text over them, and ends with the run's status.
 #![tactic(auto)]
 
-use adr_top::{Day, Run, UnitPaths, WordsFault, batch, read_words};
+mod descriptors;
+mod files;
+mod journal_file;
+mod say;
+
+use crate::descriptors::{NULL_DEVICE, take_closed};
+use crate::files::{add, named, open_alone, open_volumes};
+use crate::journal_file::{JournalFile, journal_file};
+use crate::say::{say, say_end, say_file, say_form, say_usage};
+use adr_top::{Day, Ended, Run, UnitPaths, WordsFault, batch, read_words};
 use ckd_image::{Bytes, Word};
 use dasd_pool::{FilePool, FileSink, FileSource, MemorySource, Source};
-use redo_core::journal_head;
 use std::alloc::Global;
-use std::fs::{File, OpenOptions};
-use std::io::Write;
+use std::fs::{self, File};
 use std::process::ExitCode;
 use std::{env, io};
 
@@ -26,40 +33,16 @@ fn words(rt: &HostRuntime) -> io::Result<Vec<Word>> {
     Ok(words)
 }
 
-/// Opens volumes for reading and writing.
-fn open_volumes(rt: &HostRuntime, units: &UnitPaths) -> io::Result<FilePool<File>> {
-    let mut pool = FilePool::new(rt.alloc());
-    for (_, path) in units.as_slice() {
-        pool.add(options().open(rt, path.as_str())?)?;
-    }
-    Ok(pool)
-}
-
-fn options() -> OpenOptions {
-    let mut options = File::options();
-    options.read(true).write(true);
-    options
-}
-
-/// Makes a file for a journal with so much room: its head, and blocks of zeros.
-fn new_journal(rt: &HostRuntime, path: &str, room: u32) -> io::Result<File> {
-    let mut file = options().create_new(true).open(rt, path)?;
-    file.write_all(&journal_head())?;
-    file.set_len(512 + (4 + u64::from(room)) * 65_536)?;
-    Ok(file)
-}
-
-/// Opens the file for a journal, and makes one where there is none.
-fn journal_file(rt: &HostRuntime, path: &str, room: u32) -> io::Result<File> {
-    match options().open(rt, path) {
-        Err(error) if error.kind() == io::ErrorKind::NotFound => new_journal(rt, path, room),
-        opened => opened,
-    }
-}
-
 /// A source without text.
 fn no_text(alloc: Global) -> MemorySource {
     MemorySource::new(Bytes::new(alloc), Vec::new(alloc))
+}
+
+/// How a run ended: its pool and its status.
+#[derive(Drop)]
+pub struct Finished {
+    pub pool: FilePool<File>,
+    pub status: u8,
 }
 
 /// Runs words over a pool and a text.
@@ -68,11 +51,11 @@ fn run<S: Source + Drop>(
     words: &[Word],
     pool: FilePool<File>,
     mut sysin: S,
-) -> u8 {
+) -> Finished {
     let alloc = rt.alloc();
     let mut out = FileSink::new(io::writer(rt));
     let mut held = no_text(alloc);
-    batch(
+    let Ended { pool, status, .. } = batch(
         alloc,
         words,
         &mut sysin,
@@ -82,109 +65,132 @@ fn run<S: Source + Drop>(
         Vec::new(alloc),
         Vec::new(alloc),
         DAY,
-    )
-    .status
+    );
+    Finished { pool, status }
 }
 
 /// Runs words that aren't of the form.
 fn refuse(rt: &HostRuntime, words: &[Word]) -> u8 {
     let alloc = rt.alloc();
-    run(rt, words, FilePool::new(alloc), no_text(alloc))
+    run(rt, words, FilePool::new(alloc), no_text(alloc)).status
 }
 
 /// Runs the text of a file over volumes.
 fn run_jobs(
     rt: &HostRuntime,
     words: &[Word],
-    units: UnitPaths,
-    journal: Word,
-    sysin: Word,
+    units: &UnitPaths,
+    journal: &str,
+    sysin: &str,
 ) -> io::Result<u8> {
-    let mut pool = open_volumes(rt, &units)?;
-    pool.add(options().open(rt, journal.as_str())?)?;
-    let sysin = FileSource::new(File::open(rt, sysin.as_str())?);
-    Ok(run(rt, words, pool, sysin))
+    let mut pool = open_volumes(rt, units)?;
+    add(rt, &mut pool, journal, open_alone(rt, journal))?;
+    let text = named(rt, sysin, File::open(rt, sysin))?;
+    let ended = run(rt, words, pool, FileSource::new(text));
+    if ended.status == 48 {
+        say_form(rt, words, sysin);
+    }
+    say_end(rt, &ended, units, journal);
+    Ok(ended.status)
 }
 
-/// Makes a journal for volumes.
+/// Makes a journal for volumes. A file that was made for a journal that is refused goes again, while this run still holds it.
 fn run_format(
     rt: &HostRuntime,
     words: &[Word],
-    units: UnitPaths,
-    journal: Word,
+    units: &UnitPaths,
+    journal: &str,
     room: u32,
 ) -> io::Result<u8> {
-    let mut pool = open_volumes(rt, &units)?;
-    pool.add(journal_file(rt, journal.as_str(), room)?)?;
-    Ok(run(rt, words, pool, no_text(rt.alloc())))
+    let pool = open_volumes(rt, units)?;
+    let JournalFile { file, made } = named(rt, journal, journal_file(rt, journal, room))?;
+    let _held = file.try_clone();
+    let status = format_in(rt, words, units, journal, pool, file);
+    if !matches!(status, Ok(0 | 28)) {
+        take_away(rt, made);
+    }
+    status
+}
+
+/// Takes a file away that was made in vain.
+fn take_away(rt: &HostRuntime, made: Option<String>) {
+    if let Some(path) = made {
+        let _ = named(rt, path.as_str(), fs::remove_file(rt, path.as_str()));
+    }
+}
+
+/// Makes a journal in a file for the volumes of a pool.
+fn format_in(
+    rt: &HostRuntime,
+    words: &[Word],
+    units: &UnitPaths,
+    journal: &str,
+    mut pool: FilePool<File>,
+    file: File,
+) -> io::Result<u8> {
+    add(rt, &mut pool, journal, Ok(file))?;
+    let ended = run(rt, words, pool, no_text(rt.alloc()));
+    say_end(rt, &ended, units, journal);
+    Ok(ended.status)
 }
 
 /// Does what the words ask for, over the files that they name.
-fn run_words(rt: &HostRuntime, words: &[Word], asked: Run) -> io::Result<u8> {
+fn run_words(rt: &HostRuntime, words: &[Word], asked: &Run) -> io::Result<u8> {
     match asked {
         Run::Jobs {
             units,
             journal,
             sysin,
             ..
-        } => run_jobs(rt, words, units, journal, sysin),
+        } => run_jobs(rt, words, units, journal.as_str(), sysin.as_str()),
         Run::Format {
             units,
             journal,
             room,
-        } => run_format(rt, words, units, journal, room),
+        } => run_format(rt, words, units, journal.as_str(), *room),
         Run::Make { .. } => Ok(refuse(rt, words)),
     }
 }
 
-/// The status of a run whose files may not be opened.
-fn ended(rt: &HostRuntime, ended: io::Result<u8>) -> io::Result<u8> {
+/// The status of a run, which is 52 where its files may not be opened; its line then is tried.
+fn status_of(rt: &HostRuntime, ended: io::Result<u8>) -> u8 {
     match ended {
-        Ok(status) => Ok(status),
+        Ok(status) => status,
+        Err(error) if error.kind() == io::ErrorKind::OutOfMemory => 32,
         Err(_) => {
-            println!(rt; "{CANNOT_OPEN}")?;
-            Ok(52)
+            let _ = println!(rt; "{CANNOT_OPEN}");
+            52
         }
     }
 }
 
-fn status(rt: &HostRuntime) -> io::Result<u8> {
-    let words = words(rt)?;
+/// Runs the words of the command line.
+fn run_line(rt: &HostRuntime) -> u8 {
+    let words = match words(rt) {
+        Ok(words) => words,
+        Err(error) if error.kind() == io::ErrorKind::InvalidData => {
+            say(rt, "a word isn't UTF-8");
+            return refuse(rt, &[]);
+        }
+        Err(_) => return 32,
+    };
     match read_words(rt.alloc(), &words) {
-        Ok(asked) => ended(rt, run_words(rt, &words, asked)),
-        Err(WordsFault::BadWords) => Ok(refuse(rt, &words)),
-        Err(WordsFault::NoMemory) => Ok(32),
+        Ok(asked) => status_of(rt, run_words(rt, &words, &asked)),
+        Err(WordsFault::BadWords) => {
+            say_usage(rt, &words);
+            refuse(rt, &words)
+        }
+        Err(WordsFault::NoMemory) => 32,
     }
 }
 
 fn main(rt: HostRuntime) -> ExitCode {
-    ExitCode::from(status(&rt).unwrap_or(32))
-}
-
-#[cfg(test)]
-mod tests {
-    use super::*;
-    use std::fs;
-    use std::test::Fail;
-
-    #[test]
-    fn a_file_that_is_missing_is_not_opened(rt: HostRuntime) -> Result<(), Fail> {
-        let units = UnitPaths::new(rt.alloc());
-        let journal = Word::copy_of(rt.alloc(), "no-such-file")?;
-        let sysin = Word::copy_of(rt.alloc(), "no-such-file")?;
-        assert!(rt; run_jobs(&rt, &[], units, journal, sysin).is_err());
-        Ok(())
-    }
-
-    #[test]
-    fn a_journal_that_is_missing_is_made(rt: HostRuntime) -> Result<(), Fail> {
-        let path = env::temp_dir(&rt)?.join(rt.alloc(), "adrdssu_journal")?;
-        let name = path.to_str().unwrap_or("");
-        for _ in 0..2 {
-            let file = journal_file(&rt, name, 3)?;
-            assert_eq!(rt; file.metadata()?.len(), 512 + 7 * 65_536);
+    let status = match take_closed(&rt) {
+        Ok(_taken) => run_line(&rt),
+        Err(error) => {
+            say_file(&rt, NULL_DEVICE, &error);
+            status_of(&rt, Err(error))
         }
-        fs::remove_file(&rt, &path)?;
-        Ok(())
-    }
+    };
+    ExitCode::from(status)
 }

@@ -10,7 +10,7 @@ use Rattle.free_map.specs.Runs.{Holds, InRuns}
 use Rattle.free_map.proofs.Gaps.{in_append}
 use Rattle.volume_model.specs.declared.format.Format.{Format}
 use Rattle.volume_model.specs.Dscbs.{format_of, is_f1, is_f3, ExtentField, extents_of, pointer_in}
-use Rattle.volume_model.specs.Directory.{Placed, DirectoryRow, named_record, named_place, same_place, if_format, next_format_3, extended, chain_of, row_of, rows_of, AreInOrder}
+use Rattle.volume_model.specs.Directory.{Placed, DirectoryRow, named_record, named_place, record_at, same_place, if_format, next_format_3, extended, chain_of, row_of, rows_of, AreInOrder}
 use Rattle.volume_model.specs.Space.{track_at, is_run, run_of}
 use Rattle.volume_model.specs.Check.{Vtoc, breach, records_of, bad_ranges, breaches_of}
 use Rattle.volume_model.specs.Sound.{Slots}
@@ -63,7 +63,9 @@ module _ (P : Placed → Type 0) where
 
   found_named : (heads : ℕ) (records : List Placed) (pointer : Option Cchhr) → AllByRecursion P records → Found P (named_record heads records pointer)
   found_named heads records None all = tt
-  found_named heads records (Some pointer) all = found_in (λ placed. same_place placed.place (named_place heads pointer)) records all
+  found_named heads records (Some pointer) all =
+      cond_both (nat_lt pointer.at.head heads) (record_at records (named_place heads pointer)) None (Found P)
+      (λ yes. found_in (λ placed. same_place placed.place (named_place heads pointer)) records all) (λ no. tt)
 
   found_format : (test : Format → Bool) (found : Option Placed) → Found P found → Found P (if_format test found)
   found_format test None is = tt

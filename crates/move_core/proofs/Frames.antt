@@ -1,5 +1,5 @@
 -- What a unit is rests on its vital blocks alone.
-use Rattle.std.proofs.Common.{◌≡◌, ◌⊎◌, ⊎_elim, inl, inr, ℕ, zero, suc, ◌+◌, ◌<◌, ◌≤◌, List, [], ◌∷◌, map, Bool, refl, sym, ap, subst, ◌∙◌, arith}
+use Rattle.std.proofs.Common.{◌≡◌, ◌⊎◌, ⊎_elim, inl, inr, ℕ, zero, suc, ◌+◌, ◌-◌, ◌<◌, ◌≤◌, List, [], ◌∷◌, map, Bool, refl, sym, ap, subst, ◌∙◌, arith}
 use Rattle.std.specs.Prelude.{All, None, slice_index_or}
 use Rattle.std.specs.List.{AllByRecursion}
 use Rattle.std.proofs.lemmas.Bool.{and_parts, ltb-true, leb-true}
@@ -25,6 +25,7 @@ use Rattle.volume_model.specs.Space.{track_at, run_of, end_of}
 use Rattle.volume_model.specs.Check.{Vtoc, Breach}
 use Rattle.volume_model.specs.Sound.{Slots, IsTrackReading, IsReading, IsFormat4, IsFirstRuleBroken, IsVtoc, IsCheckFault, IsVolume, limit_of}
 use Rattle.volume_model.specs.Unit.{Text, Extent, DataSet, OnlineVolume, UnitModel, online, offline, run_in, tracks_in, tracks_of, runs_of_sets}
+use Rattle.volume_model.proofs.Blocks.{blocks_same}
 use Rattle.volume_model.specs.Reads.{IsTextAt, AreTexts, IsDataSet, AreDataSets, IsOnline, HasBadLabel, HasLabelOf, HasBadVtoc, HasBlocks, IsUnit, IsVitalTrack, IsVital}
 use Rattle.move_core.proofs.Below.{RowHasRuns, run_below, sound_rows, sets_below}
 
@@ -145,8 +146,8 @@ bad_vtoc_moves sliding head blocks old new track number why same is = record {
   why_is = is.why_is;
 }
 
-blocks_move : (blocks : ℕ) (old new kept : Slots) → ((t : ℕ) → t < blocks → new t ≡ old t) → HasBlocks blocks old kept → HasBlocks blocks new kept
-blocks_move blocks old new kept same is track less = is track less ∙ sym (same track less)
+blocks_move : (blocks : ℕ) (old new : Slots) (kept : List (List ℕ)) → ((t : ℕ) → t < blocks → new t ≡ old t) → HasBlocks blocks old kept → HasBlocks blocks new kept
+blocks_move blocks old new kept same is = is ∙ blocks_same old new 0 blocks (λ track low less. same track (omega (arith, less)))
 
 -- ---- texts
 
@@ -252,7 +253,7 @@ module _ (sliding : Bool) (place : ℕ → ℕ) (head : List ℕ) (blocks : ℕ)
     indexed_is = is.indexed_is;
     dscbs_are = is.dscbs_are;
     fives_are = is.fives_are;
-    tail_is = λ track behind less. is.tail_is track behind less ∙ sym (same track less (inl behind));
+    tail_is = is.tail_is ∙ blocks_same old new volume.usable (blocks - volume.usable) (λ track behind less. same track (omega (arith, behind, less)) (inl behind));
   }
 
 -- ---- a unit

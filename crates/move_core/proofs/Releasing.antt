@@ -32,7 +32,8 @@ use Rattle.move_core.specs.Laws.{WillStand}
 use Rattle.move_core.specs.Releasing.{vtoc_track, ShrinksTrack}
 use Rattle.move_core.specs.Shrinking.{AreShort}
 use Rattle.move_core.specs.Stands.{Means, IsSettled}
-use Rattle.move_core.specs.Steps.{shrunk, Changes, IsStep}
+use Rattle.volume_model.specs.Changed.{Changes}
+use Rattle.move_core.specs.Steps.{shrunk, IsStep}
 use Rattle.move_core.proofs.Frames.{vtoc_below, pointer_held}
 use Rattle.move_core.proofs.OneVtoc.{heads_15, one_vtoc}
 use Rattle.move_core.proofs.Online.{one_image, same_label, is_online}

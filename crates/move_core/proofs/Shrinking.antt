@@ -1,5 +1,5 @@
 -- A VTOC that is shrunk for a data set makes its volume one with the data set's first tracks alone.
-use Rattle.std.proofs.Common.{◌≡◌, inl, inr, ℕ, zero, suc, ◌+◌, ◌<◌, ◌≤◌, List, [], ◌∷◌, ◌++◌, length, map, take, true, false, not, ◌&&◌, ◌||◌, ◌==◌, refl, sym, ap, subst, ◌∙◌, arith, append_assoc, append-nil}
+use Rattle.std.proofs.Common.{◌≡◌, inl, inr, ℕ, zero, suc, ◌+◌, ◌<◌, ◌≤◌, List, [], ◌∷◌, ◌++◌, length, map, take, true, false, not, ◌&&◌, ◌||◌, ◌==◌, refl, sym, ap, subst, ◌∙◌, arith, append_assoc, append-nil, ◌-◌}
 use Rattle.std.specs.Prelude.{bit_and, slice_index, nat_le, if◌then◌else◌}
 use Rattle.std.proofs.lemmas.Bool.{cases_eq, cond-false, ne_eqb, lt-leb}
 use Rattle.std.proofs.lemmas.List.{length-map, length-append}
@@ -14,10 +14,12 @@ use Rattle.volume_model.specs.Space.{run_of}
 use Rattle.volume_model.specs.Check.{records_of}
 use Rattle.volume_model.specs.Sound.{Slots, is_valid, Volume, IsVolume}
 use Rattle.volume_model.specs.Unit.{Text, Extent, DataSet, OnlineVolume, tracks_in, tracks_of, fives_for}
+use Rattle.volume_model.proofs.Blocks.{blocks_same}
 use Rattle.volume_model.specs.Reads.{AreTexts, fields_of_4, extent_in, IsDataSet, AreDataSets, has_index, IsOnline}
 use Rattle.vtoc_core.specs.Plain.{HasPlainVtoc}
 use Rattle.vtoc_core.specs.Shrink.{IsShrunkRow, ShrinksVtoc}
-use Rattle.move_core.specs.Steps.{cut, threes_for, shrunk, HasRightFives, Changes}
+use Rattle.volume_model.specs.Changed.{threes_for, HasRightFives, Changes}
+use Rattle.move_core.specs.Steps.{cut, shrunk}
 use Rattle.move_core.proofs.Frames.{sets_move}
 use Rattle.move_core.proofs.OneVtoc.{heads_15}
 use Rattle.move_core.proofs.Used.{outside_vtoc, vtoc_usable, free_runs}
@@ -224,7 +226,7 @@ module _ (head : List ℕ) (blocks : ℕ) (slots later : Slots) (old : OnlineVol
         h.indexed_is ∙ ap has_index (sym same_bytes) ∙ plain_index before.stands.bytes before.indicators ∙ sym (plain_index s.stands.stands.bytes s.stands.indicators);
     dscbs_are = h.dscbs_are ∙ sym s.frame.dscbs;
     fives_are = h.fives_are ∙ sym s.frame.fives;
-    tail_is = λ track behind less. h.tail_is track behind less ∙ sym (tail_same track behind);
+    tail_is = h.tail_is ∙ blocks_same slots later old.usable (blocks - old.usable) (λ track behind less. tail_same track behind);
   }
 
   new_fives : HasRightFives new

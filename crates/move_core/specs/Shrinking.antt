@@ -12,7 +12,8 @@ use Rattle.volume_model.specs.Unit.{DataSet, OnlineVolume, UnitModel, online}
 use Rattle.volume_model.specs.Reads.{IsOnline, IsUnit}
 use Rattle.vtoc_core.specs.Plain.{HasPlainVtoc}
 use Rattle.vtoc_core.specs.Shrink.{ShrinksVtoc}
-use Rattle.move_core.specs.Steps.{shrunk, Changes}
+use Rattle.volume_model.specs.Changed.{Changes}
+use Rattle.move_core.specs.Steps.{shrunk}
 
 -- the slots of a run's tracks are no longer than a track's slot can be
 abbrev pub AreShort : Slots → Run → Type 0

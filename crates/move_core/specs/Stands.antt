@@ -11,7 +11,8 @@ use Rattle.redo_core.specs.Opening.{IsJournalSynced, IsSure}
 use Rattle.volume_model.specs.Unit.{Text, good, Extent, DataSet, OnlineVolume, UnitModel, online, tracks_of, IsFreeTrack}
 use Rattle.volume_model.specs.Reads.{IsUnit, IsVital}
 use Rattle.volume_model.specs.Pinned.{IsPinned}
-use Rattle.move_core.specs.Steps.{threes_for, Changes, Replaces}
+use Rattle.volume_model.specs.Changed.{threes_for, Changes, used_records}
+use Rattle.move_core.specs.Steps.{Replaces}
 
 -- ---- an open slide
 
@@ -46,14 +47,6 @@ moved_to extent to len =
     let extents = extent.front ++ (extent_from to len extent.kind ∷ extent.back) in
     record extent.set { extents = extents; threes = threes_for (length extents) }
 
--- the records of a VTOC that are in use, beside its format 4
-abbrev pub used_records : OnlineVolume → ℕ
-used_records volume = volume.fives + sum_of volume.sets
-  where
-    sum_of : List DataSet → ℕ
-    sum_of [] = 0
-    sum_of (set ∷ sets) = 1 + set.threes + sum_of sets
-
 -- a slide of some data set's extent, from its first track to a lower one, and the volume after it
 pub record Slides (room from to len : ℕ) (before after : OnlineVolume) : Type 0 where
   pub down : to < from
@@ -65,7 +58,7 @@ pub record Slides (room from to len : ℕ) (before after : OnlineVolume) : Type 
   pub texts : All IsGood (take len (drop (length (tracks_of extent.front)) extent.set.texts))
   pub free : (track : ℕ) → to ≤ track → track < from → IsFreeTrack before track
   pub changes : Changes before after extent.set (moved_to extent to len)
-  pub fits : used_records after + 1 ≤ after.dscbs
+  pub fits : used_records after ≤ after.dscbs
 
 -- ---- the units of a reading
 

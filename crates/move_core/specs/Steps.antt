@@ -3,6 +3,7 @@ use Rattle.std.specs.Prelude.{◌≡◌, ℕ, ◌-◌, ◌<◌, ◌≤◌, false
 use Rattle.free_map.specs.declared.run.Run.{Run}
 use Rattle.dsn_filter.specs.declared.dsn.Dsn.{Dsn}
 use Rattle.volume_model.specs.Unit.{Extent, DataSet, OnlineVolume, UnitModel, online, tracks_of, AreFreeRunsOf, fives_for}
+use Rattle.volume_model.specs.Changed.{threes_for, Changes}
 use Rattle.volume_model.specs.Pinned.{IsNameOf}
 use Rattle.move_core.specs.declared.steps.Step.{Step}
 use Rattle.move_core.specs.declared.steps.Step.TheVariants.{Shrink}
@@ -15,10 +16,6 @@ cut count (extent ∷ extents) =
     else if nat_le extent.run.len count then extent ∷ cut (count - extent.run.len) extents
     else record { run = record { first = extent.run.first; len = count }; kind = extent.kind } ∷ []
 
--- the format 3s that a changed data set of so many extents uses
-abbrev pub threes_for : ℕ → ℕ
-threes_for extents = if nat_le 4 extents then 1 else 0
-
 -- a data set of which only so many tracks stay
 abbrev pub shrunk : ℕ → DataSet → DataSet
 shrunk keep set = record {
@@ -28,21 +25,6 @@ shrunk keep set = record {
   texts = take keep set.texts;
   threes = threes_for (length (cut keep set.extents));
 }
-
--- the format 5s of a volume are those that its free runs need
-pub record HasRightFives (volume : OnlineVolume) : Type 0 where
-  pub runs : List Run
-  pub runs_are : AreFreeRunsOf volume runs
-  pub fives_are : volume.fives ≡ fives_for (length runs)
-
--- One data set becomes another. All else stays, but the free space is stated after each change.
-pub record Changes (before after : OnlineVolume) (old new : DataSet) : Type 0 where
-  pub front : List DataSet
-  pub back : List DataSet
-  pub old_is : before.sets ≡ front ++ (old ∷ back)
-  pub few : length new.extents ≤ 16
-  pub new_is : after ≡ record before { sets = front ++ (new ∷ back); repair = false; fives = after.fives }
-  pub fives : HasRightFives after
 
 -- a list with another element at one place
 pub record Replaces {X : Type 0} (place : ℕ) (old new : X) (before after : List X) : Type 0 where

@@ -1,5 +1,6 @@
 pub mod Crash
 pub mod Transitions
+pub mod Written
 pub mod Directory
 pub mod CommitMoments
 pub mod Readings

@@ -1,9 +1,10 @@
 -- What an opening keeps, and what a format makes.
-use Rattle.std.specs.Prelude.{◌≡◌, ◌≢◌, ◌<◌, ◌≤◌, ◌⊎◌, ℕ, List, length, All, AllPairs, Bool, true, false}
-use Rattle.dasd_pool.specs.Disk.{Image, Shape, State, IsSynced}
+use Rattle.std.specs.Prelude.{◌≡◌, ◌≢◌, ◌<◌, ◌≤◌, ◌⊎◌, ℕ, List, length, All, AllPairs, Bool, true, false, ◌&&◌, ◌||◌}
+use Rattle.dasd_pool.specs.Disk.{Image, Shape, State, IsSynced, is_at}
 use Rattle.vol_label.specs.declared.serial.Serial.{Serial}
 use Rattle.vol_label.specs.Serial.{IsSerial}
 use Rattle.redo_core.specs.declared.control.Control.{Control}
+use Rattle.redo_core.specs.declared.target.Target.{Target}
 use Rattle.redo_core.specs.declared.control.Control.TheVariants.{Idle}
 use Rattle.redo_core.specs.Format.{is_open, directory_in}
 use Rattle.redo_core.specs.Reading.{journal_of, among, fills_of, Reading, Reads}
@@ -19,6 +20,14 @@ pub record AreNames (shape : Shape) (names : List Serial) : Type 0 where
 -- all blocks of the journal are synced
 abbrev pub IsJournalSynced : Shape → State → Type 0
 IsJournalSynced shape state = (b : ℕ) → state.synced (journal_of shape) b ≡ true
+
+-- the blocks that putting a body in place may write: its targets, and the gate
+abbrev pub of_redo : ℕ → List Target → ℕ → ℕ → Bool
+of_redo journal list u b = is_at journal 1 u b || among list u b
+
+-- the blocks that an opening may write: behind an open gate those, and else none
+abbrev pub of_opening : ℕ → Image → ℕ → ℕ → Bool
+of_opening journal image u b = is_open (image journal 1) && of_redo journal (directory_in (image journal 3)) u b
 
 -- a block that was synced, or that an open body replaces
 abbrev pub IsSure : Shape → State → ℕ → ℕ → Type 0

@@ -2,11 +2,11 @@
 
 ghost use Rattle.std.specs.Prelude.{◌≡◌, ◌≢◌, ◌≤◌, ◌<◌, ℕ, All, AllPairs, length, false, IfOk, IfErr, OnOk};
 ghost use Rattle.dasd_pool.specs.Count.{Rose, HasCause};
-ghost use Rattle.dasd_pool.specs.Disk.{Image, LeavesOnly, Runs, Touches, IsSynced, none, is_at};
+ghost use Rattle.dasd_pool.specs.Disk.{Image, LeavesOnly, Runs, IsSynced, none, is_at};
 ghost use Rattle.redo_core.specs.declared.control.Control.TheVariants.{Idle};
 ghost use Rattle.redo_core.specs.Reading.{journal_of, fills_of};
 ghost use Rattle.redo_core.specs.Phases.{targets, of_commit, IsAtRest, IsEntry, OldOrNew, IsCommitted};
-ghost use Rattle.redo_core.specs.Opening.{AreNames, IsFormatted, IsJournalSynced, IsOpened, ReadsSame, SparesVolumes};
+ghost use Rattle.redo_core.specs.Opening.{AreNames, IsFormatted, IsJournalSynced, IsOpened, ReadsSame, SparesVolumes, of_opening};
 ghost use Rattle.redo_core.specs.Faults.{IsFormatFault, IsOpenFault, MayFormat, MayOpen};
 ghost use Rattle.redo_core.specs.Stops.{pool_after, pool_of, IsStatusOf};
 
@@ -76,10 +76,11 @@ impl<P: Pool> Journal<P> {
         ensures shape { P.shape (pool_of result) ≡ P.shape pool }
         ensures formatted { P.tells → IfOk result (λ new. IsFormatted (P.shape pool) (P.disk pool).state names.now room (P.disk new).state) }
 
-        // It is made only where nothing stands against it. A refusal names the first cause, and nothing was written.
+        // It is made only where nothing stands against it. A refusal names the first cause, and at no moment was anything written.
         ensures allowed { P.tells → OnOk result (MayFormat (P.shape pool) (P.disk pool).state.contents names.now) }
         ensures refused { P.tells → IfErr result (λ stop. IsFormatFault (P.shape pool) (P.disk pool).state.contents names.now room stop.cause) }
         ensures unwritten { P.tells → IfErr result (λ stop. (stop.cause ≡ JournalFault.Pool → ⊥) → (P.disk stop.pool).state ≡ (P.disk pool).state) }
+        ensures untouched { P.tells → IfErr result (λ stop. (stop.cause ≡ JournalFault.Pool → ⊥) → Runs none (P.disk pool) (P.disk stop.pool)) }
 
         // At every moment, whatever the answer.
         ensures any_moment { P.tells → LeavesOnly (P.disk pool) (P.disk (pool_of result)) (SparesVolumes (P.shape pool) (P.disk pool).state) }
@@ -116,12 +117,13 @@ impl<P: Pool> Journal<P> {
         ensures room { IfOk result (λ journal. 3 ≤ journal.room) }
         ensures idle { IfOk result (λ journal. (journal.control ≡ Idle) × ((u : ℕ) → u < journal_of (P.shape pool) → fills_of journal.fills u ≡ false)) }
 
-        // It opens only where nothing stands against it. A refusal names the first cause; nothing was written, and what was synced still is.
+        // It opens only where nothing stands against it. A refusal names the first cause, and at no moment was anything written.
         ensures allowed { P.tells → OnOk result (MayOpen (P.shape pool) (P.disk pool).state.contents names.now) }
         ensures refused { P.tells → IfErr result (λ stop. IsOpenFault (P.shape pool) (P.disk pool).state.contents names.now stop.cause) }
-        ensures unwritten { P.tells → IfErr result (λ stop. (stop.cause ≡ JournalFault.Pool → ⊥) → Touches none (P.disk pool).state (P.disk stop.pool).state) }
+        ensures unwritten { P.tells → IfErr result (λ stop. (stop.cause ≡ JournalFault.Pool → ⊥) → Runs none (P.disk pool) (P.disk stop.pool)) }
 
-        // At every moment, whatever the answer.
+        // At every moment, whatever the answer. Written are at most the gate and the targets of an open body.
+        ensures runs { P.tells → Runs (of_opening (journal_of (P.shape pool)) (P.disk pool).state.contents) (P.disk pool) (P.disk (pool_after result)) }
         ensures any_moment { P.tells → IsJournalSynced (P.shape pool) (P.disk pool).state
             → LeavesOnly (P.disk pool) (P.disk (pool_after result)) (ReadsSame (P.shape pool) (P.disk pool).state) }
         ensures faults { P.faults pool ≤ P.faults (pool_after result) }
@@ -218,6 +220,7 @@ impl<P: Pool> Journal<P> {
         ensures same { P.tells → (P.disk self.new.pool).state ≡ (P.disk self.old.pool).state }
         ensures runs { P.tells → Runs none (P.disk self.old.pool) (P.disk self.new.pool) }
         ensures status { IsStatusOf self.old self.new }
+        ensures rest { P.tells → IsAtRest (P.shape self.new.pool) (P.disk self.new.pool).state self.new.room self.new.control self.new.fills }
         ensures cause { HasCause (P.faults self.old.pool) (P.faults self.new.pool) result }
     {
         self.pool.read(unit, block, buf)
@@ -232,6 +235,7 @@ impl<P: Pool> Journal<P> {
         ensures written { P.tells → OnOk result ((P.disk self.new.pool).state.contents unit block ≡ buf.now) }
         ensures runs { P.tells → Runs (is_at unit block) (P.disk self.old.pool) (P.disk self.new.pool) }
         ensures status { IsStatusOf self.old self.new }
+        ensures rest { P.tells → IsAtRest (P.shape self.new.pool) (P.disk self.new.pool).state self.new.room self.new.control self.new.fills }
         ensures cause { HasCause (P.faults self.old.pool) (P.faults self.new.pool) result }
     {
         self.pool.write(unit, block, buf)
@@ -243,6 +247,7 @@ impl<P: Pool> Journal<P> {
         ensures synced { P.tells → OnOk result (IsSynced (P.disk self.new.pool).state) }
         ensures runs { P.tells → Runs none (P.disk self.old.pool) (P.disk self.new.pool) }
         ensures status { IsStatusOf self.old self.new }
+        ensures rest { P.tells → IsAtRest (P.shape self.new.pool) (P.disk self.new.pool).state self.new.room self.new.control self.new.fills }
         ensures cause { HasCause (P.faults self.old.pool) (P.faults self.new.pool) result }
     {
         self.pool.sync()
@@ -268,6 +273,7 @@ impl<P: Pool> Journal<P> {
         ensures each_image { P.tells → (image : Image) → (P.disk (pool_after result)).left_since (P.disk self.pool).moment image
             → OldOrNew (P.shape self.pool) (P.disk self.pool).state entries image }
         ensures runs { P.tells → Runs (of_commit (journal_of (P.shape self.pool)) entries) (P.disk self.pool) (P.disk (pool_after result)) }
+        ensures rest { P.tells → IfOk result (λ journal. IsAtRest (P.shape self.pool) (P.disk journal.pool).state journal.room journal.control journal.fills) }
         ensures committed { P.tells → IfOk result (λ journal. IsCommitted (P.shape self.pool) (P.disk self.pool).state entries (P.disk journal.pool).state) }
         ensures same { IfOk result (λ journal. (journal.room ≡ self.room) × (journal.control ≡ self.control) × (journal.fills ≡ self.fills)) }
         ensures faults { P.faults self.pool ≤ P.faults (pool_after result) }

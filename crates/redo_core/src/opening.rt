@@ -2,14 +2,14 @@
 
 ghost use Rattle.std.specs.Prelude.{◌≡◌, ◌≢◌, ◌⊎◌, ◌↔◌, true, IsTrue, ◌<◌, ◌≤◌, ◌+◌, ◌==◌, ◌&&◌, ℕ, List, Bool, Some, All, length, take, false, IfSome, IfOk, IfErr, OnOk, if◌then◌else◌};
 ghost use Rattle.dasd_pool.specs.Count.{Rose, HasCause};
-ghost use Rattle.dasd_pool.specs.Disk.{Image, IsSynced, LeavesOnly, Runs, none, is_at, Touches};
+ghost use Rattle.dasd_pool.specs.Disk.{Image, IsSynced, LeavesOnly, Runs, none, is_at};
 ghost use Rattle.vol_label.specs.declared.serial.Serial.{Serial};
 ghost use Rattle.redo_core.specs.declared.control.Control.TheVariants.{Idle};
 ghost use Rattle.redo_core.specs.declared.fault.JournalRule.{JournalRule};
 ghost use Rattle.redo_core.specs.Format.{wide, control_in, is_filling};
 ghost use Rattle.redo_core.specs.Reading.{journal_of, placed, body_for, fills_of, control_block, HasHead, IsRegistration, HasBody, IsControl, IsTarget, Obeys, Reads, overlay};
 ghost use Rattle.redo_core.specs.Phases.{IsAtRest};
-ghost use Rattle.redo_core.specs.Opening.{IsJournalSynced, IsOpened, ReadsSame};
+ghost use Rattle.redo_core.specs.Opening.{IsJournalSynced, IsOpened, ReadsSame, of_opening};
 ghost use Rattle.redo_core.specs.Steps.{IsJournal, HasTargets, shown};
 ghost use Rattle.redo_core.specs.Faults.{zeroed, Fails, IsRuleFault, IsNameFault, IsIdle, IsWhoFault, IsOpenFault, LabelsAre, MayOpen};
 
@@ -390,7 +390,8 @@ pub fn open_on<P: Pool>(
     ensures allowed { P.tells → OnOk result (MayOpen (P.shape pool.old) (P.disk pool.old).state.contents names.now) }
     ensures quiet { IfOk result (λ f. (f.control ≡ Idle) × ((u : ℕ) → u < journal_of (P.shape pool.old) → fills_of f.fills u ≡ false)) }
     ensures refused { P.tells → IfErr result (IsOpenFault (P.shape pool.old) (P.disk pool.old).state.contents names.now) }
-    ensures unwritten { P.tells → IfErr result (λ fault. (fault ≡ JournalFault.Pool → ⊥) → Touches none (P.disk pool.old).state (P.disk pool.new).state) }
+    ensures unwritten { P.tells → IfErr result (λ fault. (fault ≡ JournalFault.Pool → ⊥) → Runs none (P.disk pool.old) (P.disk pool.new)) }
+    ensures runs { P.tells → Runs (of_opening journal (P.disk pool.old).state.contents) (P.disk pool.old) (P.disk pool.new) }
     ensures any_moment { P.tells → IsJournalSynced (P.shape pool.old) (P.disk pool.old).state
         → LeavesOnly (P.disk pool.old) (P.disk pool.new) (ReadsSame (P.shape pool.old) (P.disk pool.old).state) }
     ensures faults { P.faults pool.old ≤ P.faults pool.new }

@@ -5,6 +5,7 @@ ghost use Rattle.dasd_pool.specs.Count.{HasCause};
 ghost use Rattle.dasd_pool.specs.Disk.{IsSynced, LeavesOnly, Runs};
 ghost use Rattle.redo_core.specs.Format.{wide, is_open, directory_in};
 ghost use Rattle.redo_core.specs.Reading.{among, placed, body_for, IsTarget};
+ghost use Rattle.redo_core.specs.Opening.{of_redo, of_opening};
 ghost use Rattle.redo_core.specs.Steps.{IsJournal, HasTargets, HoldsNew, HoldsSame, IsDone, IsRedone};
 
 use crate::blocks::set_gate;
@@ -60,6 +61,7 @@ pub fn redo<P: Pool>(
         (body_for (P.shape pool.old).block_size journal (P.disk pool.old).state.contents targets.now)) }
     ensures done { P.tells → OnOk result (IsDone journal (P.disk pool.old).state
         (body_for (P.shape pool.old).block_size journal (P.disk pool.old).state.contents targets.now) (P.disk pool.new).state) }
+    ensures runs { P.tells → Runs (of_redo journal targets.now) (P.disk pool.old) (P.disk pool.new) }
     ensures cause { HasCause (P.faults pool.old) (P.faults pool.new) result }
 {
     place_images(pool, journal, buffer, targets)?;
@@ -82,6 +84,7 @@ pub fn finish<P: Pool>(
     ensures shape { P.shape pool.new ≡ P.shape pool.old }
     ensures any_moment { P.tells → LeavesOnly (P.disk pool.old) (P.disk pool.new) (HoldsSame (P.shape pool.old).block_size journal (P.disk pool.old).state.contents) }
     ensures redone { P.tells → OnOk result (IsRedone (P.shape pool.old).block_size journal (P.disk pool.old).state.contents (P.disk pool.new).state) }
+    ensures runs { P.tells → Runs (of_opening journal (P.disk pool.old).state.contents) (P.disk pool.old) (P.disk pool.new) }
     ensures cause { HasCause (P.faults pool.old) (P.faults pool.new) result }
 {
     if targets.is_empty() {

@@ -1,3 +1,4 @@
+pub mod Blocks
 pub mod Formats
 pub mod Filters
 pub mod Samples

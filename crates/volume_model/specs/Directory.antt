@@ -1,5 +1,5 @@
 -- The records of a VTOC with their places, and the data sets that they describe.
-use Rattle.std.specs.Prelude.{ℕ, zero, suc, ◌+◌, ◌*◌, Bool, ◌==◌, ◌&&◌, if◌then◌else◌, List, [], ◌∷◌, ◌++◌, length, map, filter, find, take, Option, Some, None}
+use Rattle.std.specs.Prelude.{ℕ, zero, suc, ◌+◌, ◌*◌, Bool, ◌==◌, ◌&&◌, nat_lt, if◌then◌else◌, List, [], ◌∷◌, ◌++◌, length, map, filter, find, take, Option, Some, None}
 use Rattle.std.specs.List.{flat_map}
 use Rattle.std.specs.List.Sorted.{IsPermutation, IsSortedBy}
 use Rattle.std.specs.Ordering.{is_lt, nat_cmp}
@@ -29,7 +29,7 @@ placed_in track [] = []
 placed_in track (None ∷ tracks) = placed_in (track + 1) tracks
 placed_in track (Some dscbs ∷ tracks) = placed_from track 1 dscbs ++ placed_in (track + 1) tracks
 
--- the place that a pointer names, on a device with so many heads
+-- the place of an address and a record number, on a device with so many heads
 abbrev pub named_place : ℕ → Cchhr → Place
 named_place heads pointer = record { track = pointer.at.cylinder * heads + pointer.at.head; record_number = pointer.r }
 
@@ -40,10 +40,11 @@ same_place a b = (a.track == b.track) && (a.record_number == b.record_number)
 abbrev pub record_at : List Placed → Place → Option Placed
 record_at records place = find (λ placed. same_place placed.place place) records
 
--- the record that a pointer names, where there is a pointer and a record
+-- The record that a pointer names: there is a pointer, its address is that of a track, and a record stands at that place. A head
+-- that the device doesn't have is no track's.
 abbrev pub named_record : ℕ → List Placed → Option Cchhr → Option Placed
 named_record heads records None = None
-named_record heads records (Some pointer) = record_at records (named_place heads pointer)
+named_record heads records (Some pointer) = if nat_lt pointer.at.head heads then record_at records (named_place heads pointer) else None
 
 -- the record, where it has this format
 abbrev pub if_format : (Format → Bool) → Option Placed → Option Placed

@@ -7,3 +7,4 @@ pub mod Sound
 pub mod Unit
 pub mod Reads
 pub mod Pinned
+pub mod Changed

@@ -5,7 +5,7 @@ use Rattle.dsn_filter.specs.Dsn.{IsDsn}
 use Rattle.vol_label.specs.CodePage.{ascii_of}
 use Rattle.volume_model.specs.Dscbs.{number_at}
 use Rattle.volume_model.specs.Space.{ceil_div}
-use Rattle.volume_model.specs.Unit.{Extent, DataSet, tracks_of}
+use Rattle.volume_model.specs.Unit.{Extent, DataSet}
 
 -- 44 bytes are this name in the code page, filled up with blanks
 pub record IsNameOf (name : Dsn) (bytes : List ℕ) : Type 0 where

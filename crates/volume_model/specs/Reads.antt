@@ -1,6 +1,5 @@
 -- What the bytes of a unit say it is.
-use Rattle.std.specs.Prelude.{◌≡◌, ◌⊎◌, ℕ, ◌<◌, ◌≤◌, Bool, true, false, not, ◌==◌, List, [], ◌∷◌, ◌++◌, length, map, take, drop, replicate, bit_and, slice_index}
-use Rattle.ckd_image.specs.declared.device.Device.{Device}
+use Rattle.std.specs.Prelude.{◌≡◌, ◌⊎◌, ℕ, ◌+◌, ◌-◌, ◌≤◌, Bool, true, false, not, ◌==◌, List, [], ◌∷◌, ◌++◌, length, map, take, drop, replicate, bit_and, slice_index}
 use Rattle.ckd_image.specs.declared.fault.CkdFault.TheVariants.{BadHead}
 use Rattle.ckd_image.specs.declared.head.Head.{Head}
 use Rattle.ckd_image.specs.declared.track.Track.{Track}
@@ -12,9 +11,8 @@ use Rattle.vol_label.specs.declared.fault.LabelFault.TheVariants.{BadLabel}
 use Rattle.vol_label.specs.declared.label.Label.{Label}
 use Rattle.vol_label.specs.Label.{IsLabel, IsLabelFault}
 use Rattle.free_map.specs.Runs.{Holds, InRuns}
-use Rattle.volume_model.specs.declared.why.Why.{Why}
 use Rattle.volume_model.specs.declared.why.Why.TheVariants as whys
-use Rattle.volume_model.specs.Dscbs.{ExtentField}
+use Rattle.volume_model.specs.Dscbs.{ExtentField, numbers_below}
 use Rattle.volume_model.specs.Directory.{DirectoryRow}
 use Rattle.volume_model.specs.Rules.{number_of}
 use Rattle.volume_model.specs.Space.{run_of, track_at}
@@ -63,6 +61,10 @@ AreDataSets heads place slots _ _ = ⊥
 
 -- ---- an online volume
 
+-- the bytes of so many blocks of a unit, from one on
+abbrev pub blocks_from : Slots → ℕ → ℕ → List (List ℕ)
+blocks_from slots first count = map (λ place. slots (first + place)) (numbers_below count)
+
 -- the indicator of an index in a format 4
 abbrev pub has_index : List ℕ → Bool
 has_index bytes = not (bit_and (slice_index bytes 58) 0x01 == 0)
@@ -82,7 +84,7 @@ pub record IsOnline (sliding : Bool) (place : ℕ → ℕ) (head : List ℕ) (bl
   pub indexed_is : volume.indexed ≡ has_index stands.vtoc_stands.bytes
   pub dscbs_are : volume.dscbs ≡ length (records_of stands.vtoc)
   pub fives_are : volume.fives ≡ length (fives_of stands.vtoc)
-  pub tail_is : (track : ℕ) → volume.usable ≤ track → track < blocks → volume.tail track ≡ slots track
+  pub tail_is : volume.tail ≡ blocks_from slots volume.usable (blocks - volume.usable)
 
 -- ---- an offline unit
 
@@ -120,9 +122,9 @@ pub record HasBadVtoc (sliding : Bool) (head : List ℕ) (blocks : ℕ) (slots :
   pub number_is : number ≡ told.place.record_number
   pub why_is : why ≡ number_of told.rule
 
--- the blocks of a unit
-abbrev pub HasBlocks : ℕ → Slots → Slots → Type 0
-HasBlocks blocks slots kept = (track : ℕ) → track < blocks → kept track ≡ slots track
+-- all blocks of a unit
+abbrev pub HasBlocks : ℕ → Slots → List (List ℕ) → Type 0
+HasBlocks blocks slots kept = kept ≡ blocks_from slots 0 blocks
 
 -- ---- a unit
 
@@ -130,7 +132,7 @@ HasBlocks blocks slots kept = (track : ℕ) → track < blocks → kept track �
 abbrev pub IsUnit : Bool → Bool → (ℕ → ℕ) → List ℕ → ℕ → Slots → UnitModel → Type 0
 IsUnit filling sliding place head blocks slots (online volume) = (filling ≡ false) × IsOnline sliding place head blocks slots volume
 IsUnit filling sliding place head blocks slots (offline (whys.Head why) kept) = IsHeadFault head blocks (BadHead why) × HasBlocks blocks slots kept
-IsUnit filling sliding place head blocks slots (offline whys.Filling kept) = (filling ≡ true) × ((image : Head) × HasImage head blocks image)
+IsUnit filling sliding place head blocks slots (offline whys.Filling kept) = (filling ≡ true) × ((image : Head) × HasImage head blocks image) × (kept ≡ [])
 IsUnit filling sliding place head blocks slots (offline (whys.Label why) kept) = (filling ≡ false) × HasBadLabel head blocks slots why × HasBlocks blocks slots kept
 IsUnit filling sliding place head blocks slots (offline (whys.Vtoc track number why) kept) =
     (filling ≡ false) × HasBadVtoc sliding head blocks slots track number why × HasBlocks blocks slots kept

@@ -1,5 +1,5 @@
 -- What a unit is, whatever bytes say it: an online volume with its data sets, or an offline unit and why.
-use Rattle.std.specs.Prelude.{◌≡◌, ◌⊎◌, ℕ, ◌+◌, ◌<◌, ◌≤◌, max, Bool, List, length, map}
+use Rattle.std.specs.Prelude.{◌≡◌, ℕ, ◌+◌, ◌<◌, max, Bool, List, map}
 use Rattle.std.specs.List.{flat_map}
 use Rattle.ckd_image.specs.declared.device.Device.{Device}
 use Rattle.ckd_image.specs.declared.track.Track.{Track}
@@ -8,7 +8,6 @@ use Rattle.free_map.specs.Runs.{Holds, InRuns, AreMaximalRuns}
 use Rattle.vol_label.specs.declared.serial.Serial.{Serial}
 use Rattle.volume_model.specs.declared.why.Why.{Why}
 use Rattle.volume_model.specs.Dscbs.{numbers_below}
-use Rattle.volume_model.specs.Sound.{Slots}
 use Rattle.volume_model.specs.Space.{ceil_div}
 
 -- the text of a track: what its slot says, or the bytes of a slot that says nothing
@@ -45,12 +44,12 @@ pub record OnlineVolume : Type 0 where
   pub indexed : Bool
   pub dscbs : ℕ
   pub fives : ℕ
-  pub tail : Slots
+  pub tail : List (List ℕ)
 
--- a unit: online, or offline with its blocks; the blocks of an unfinished restore mean nothing
+-- a unit: online, or offline with the bytes of its blocks; an unfinished restore has none that mean anything
 pub data UnitModel : Type 0 where
   online : OnlineVolume → UnitModel
-  offline : Why → Slots → UnitModel
+  offline : Why → List (List ℕ) → UnitModel
 
 -- ---- tracks
 

@@ -1,6 +1,7 @@
 use Rattle.std.proofs.Common.{ℕ, List, [], refl, sym, subst, ◌∙◌, inl, inr}
 use Rattle.std.specs.Prelude.{string_bytes}
-use Rattle.dasd_pool.specs.Disk.{Shape, State}
+use Rattle.dasd_pool.specs.Disk.{Shape, State, none}
+use Rattle.dasd_pool.specs.Moments.{runs_then}
 use Rattle.dasd_pool.specs.Stream.{Appends, AppendsSome}
 use Rattle.move_core.specs.Runs.{KeepsUnits}
 use Rattle.move_core.specs.Stands.{IsSettled}
@@ -57,6 +58,11 @@ returns-in-Ok-Cut-clause-settled g c = λ told not_16 names units settled.
     let K : Shape → Type 0 = λ s. IsSettled s names mid units → IsSettledAfter s names units c.put.result.steps.items last in
     subst K c.plan_release.ensures.shape (c.put.ensures.settled told not_16 names units)
     (subst (λ (state : State). IsSettled shape names state units) (sym (c.plan_release.ensures.same told)) settled)
+
+pub returns-in-Ok-Cut-clause-quiet : goal.returns-in-Ok-Cut-clause-quiet
+returns-in-Ok-Cut-clause-quiet g c = λ told no_step none_pending.
+    runs_then none none none (g.P.Pool.disk c.args.journal.pool) (g.P.Pool.disk c.plan_release.new.journal.pool) (g.P.Pool.disk c.put.result.pool)
+    (λ u b apart. refl) (λ u b apart. refl) (c.plan_release.ensures.runs told) (c.put.ensures.quiet told no_step none_pending)
 
 -- ---- none is given back
 

@@ -1,5 +1,8 @@
 use Rattle.std.proofs.Common.{ℕ, ◌∷◌, [], refl, ap, subst, ◌∙◌, arith, inl, inr}
-use Rattle.dasd_pool.specs.Disk.{Shape}
+use Rattle.dasd_pool.specs.Disk.{Shape, none}
+use Rattle.dasd_pool.specs.Moments.{runs_start, runs_then}
+use Rattle.redo_core.specs.Opening.{of_opening}
+use Rattle.redo_core.specs.Reading.{journal_of}
 use Rattle.move_core.specs.Runs.{KeepsUnits}
 use Rattle.move_core.specs.Stands.{IsSettled}
 use Rattle.move_core.proofs.Keeping.{idle_run, keeps_then, refused_opening, settled_touches}
@@ -8,7 +11,7 @@ use Rattle.adr_top.specs.Listed.{Tells}
 use Rattle.adr_top.specs.Meaning.{ReadsAfter, IsSettledAfter}
 use Rattle.adr_top.specs.Parts.{named_by, fault_status, EndsStatement}
 use Rattle.adr_top.proofs.Made.{one_name}
-use Rattle.adr_top.proofs.Openings.{untouched, touches_reads, reads_after, settled_any, opened_any}
+use Rattle.adr_top.proofs.Openings.{touches_reads, reads_after, settled_any, opened_any}
 use Rattle.adr_top.proofs.Ran.{not_20_24, text_stopped, not_opened, performed}
 use Rattle.adr_top.proofs.runner.run.Goals as goal
 
@@ -49,6 +52,7 @@ returns-in-Ok-open_units-clause-ran g c =
     (g.O.Sink.faults c.args.out.now) (g.O.Sink.faults c.perform.new.out) named c.in-Ok.request.statement c.in-Ok.ensures.asked
     c.perform.result.status (g.P.Pool.disk journal.pool).state (g.P.Pool.faults journal.pool) (c.in-Ok.request.parts.files.serial ∷ [])
     journal.room journal.control journal.fills c.perform.result.steps.items c.perform.result.pending (omega (arith, c.requires)) c.in-Ok-open_units.ensures.faults
+    (λ told. (c.in-Ok.request.parts.files.serial ∷ [], (c.in-Ok.request.parts.files.serial.text, c.in-Ok.ensures.spelled, refl), c.in-Ok-open_units.ensures.allowed told))
     c.in-Ok-open_units.ensures.opened (subst S c.in-Ok-open_units.ensures.shape c.perform.ensures.ends)
 
 pub returns-in-Ok-open_units-clause-reads : goal.returns-in-Ok-open_units-clause-reads
@@ -99,6 +103,13 @@ returns-in-Ok-open_units-clause-settled g c = λ told not_16 names units settled
 pub returns-in-Ok-open_units-clause-unwritten : goal.returns-in-Ok-open_units-clause-unwritten
 returns-in-Ok-open_units-clause-unwritten g c = λ told either. absurd (not_20_24 c.perform.result.status c.perform.ensures.ends.known either)
 
+pub returns-in-Ok-open_units-clause-quiet : goal.returns-in-Ok-open_units-clause-quiet
+returns-in-Ok-open_units-clause-quiet g c = λ told no_step none_pending.
+    let old = g.P.Pool.disk c.args.pool in
+    let opening = of_opening (journal_of (g.P.Pool.shape c.args.pool)) old.state.contents in
+    runs_then opening opening none old (g.P.Pool.disk c.in-Ok-open_units.journal.pool) (g.P.Pool.disk c.perform.result.pool)
+    (λ u b apart. apart) (λ u b apart. refl) (c.in-Ok-open_units.ensures.runs told) (c.perform.ensures.quiet told no_step none_pending)
+
 -- ---- the journal isn't opened
 
 pub returns-in-Err-open_units-clause-ran : goal.returns-in-Err-open_units-clause-ran
@@ -123,7 +134,7 @@ returns-in-Err-open_units-clause-reads g c = λ told not_16.
     (inl (
       refl,
       touches_reads (g.P.Pool.shape c.args.pool) (g.P.Pool.disk c.args.pool).state (g.P.Pool.disk c.in-Err-open_units.stop.pool).state
-          (c.in-Err-open_units.ensures.unwritten told (λ is_pool. not_16 (own.status ∙ c.tell_fault-status.ensures.status ∙ ap fault_status is_pool))),
+          (c.in-Err-open_units.ensures.unwritten told (λ is_pool. not_16 (own.status ∙ c.tell_fault-status.ensures.status ∙ ap fault_status is_pool))).touches,
     ))
 
 pub returns-in-Err-open_units-clause-keeps : goal.returns-in-Err-open_units-clause-keeps
@@ -131,7 +142,7 @@ returns-in-Err-open_units-clause-keeps g c = λ told names units settled.
     rw (c.unmoved-in-Err-open_units.ensures.pool, c.unmoved-in-Err-open_units.ensures.steps, c.unmoved-in-Err-open_units.ensures.pending)
     (refused_opening (g.P.Pool.shape c.args.pool) names (g.P.Pool.disk c.args.pool) (g.P.Pool.disk c.in-Err-open_units.stop.pool)
     (g.P.Pool.faults c.args.pool) (g.P.Pool.faults c.in-Err-open_units.stop.pool) units settled
-    (c.in-Err-open_units.ensures.any_moment told settled.journal) (λ calm. c.in-Err-open_units.ensures.unwritten told (λ is_pool. calm (c.in-Err-open_units.ensures.cause is_pool))))
+    (c.in-Err-open_units.ensures.any_moment told settled.journal) (λ calm. (c.in-Err-open_units.ensures.unwritten told (λ is_pool. calm (c.in-Err-open_units.ensures.cause is_pool))).touches))
 
 pub returns-in-Err-open_units-clause-settled : goal.returns-in-Err-open_units-clause-settled
 returns-in-Err-open_units-clause-settled g c = λ told not_16 names units settled.
@@ -140,13 +151,13 @@ returns-in-Err-open_units-clause-settled g c = λ told not_16 names units settle
       units,
       refl,
       settled_touches (g.P.Pool.shape c.args.pool) names (g.P.Pool.disk c.args.pool).state (g.P.Pool.disk c.in-Err-open_units.stop.pool).state units settled
-          (c.in-Err-open_units.ensures.unwritten told (λ is_pool. not_16 (own.status ∙ c.tell_fault-status.ensures.status ∙ ap fault_status is_pool))),
+          (c.in-Err-open_units.ensures.unwritten told (λ is_pool. not_16 (own.status ∙ c.tell_fault-status.ensures.status ∙ ap fault_status is_pool))).touches,
     )
 
 -- ---- nothing is asked
 
 pub returns-in-Err-clause-unasked : goal.returns-in-Err-clause-unasked
-returns-in-Err-clause-unasked g c = λ told none. rw (c.unmoved.ensures.pool) (untouched (g.P.Pool.disk c.args.pool).state)
+returns-in-Err-clause-unasked g c = λ told asked. rw (c.unmoved.ensures.pool) (runs_start none (g.P.Pool.disk c.args.pool))
 
 pub returns-in-Ok-open_units-clause-unasked : goal.returns-in-Ok-open_units-clause-unasked
 returns-in-Ok-open_units-clause-unasked g c = λ told none. absurd (none (named_by c.in-Ok.request.parts, c.in-Ok.request.statement, c.in-Ok.ensures.asked))

@@ -5,6 +5,7 @@ use Rattle.redo_core.specs.declared.target.Target.{Target}
 use Rattle.redo_core.specs.Reading.{journal_of, IsTarget}
 use Rattle.redo_core.specs.Steps.{IsJournal, HasTargets, HoldsSame}
 use Rattle.redo_core.proofs.Openings.{look_moments, open_moments, opened_well, rests_well, redone_at}
+use Rattle.redo_core.proofs.Written.{opening_runs}
 use Rattle.redo_core.proofs.opening.open_on.Goals as goal
 
 pub finish-requires-clause-has : goal.finish-requires-clause-has
@@ -84,4 +85,12 @@ returns-in-Ok-finish-clause-opened g c = λ told.
     (redone_at shape (g.P.Pool.shape c.look.new.pool) c.args.journal mid.state.contents old.state.contents new c.in-Ok.ensures.shape unit same (c.in-Ok-finish.ensures.redone told))
 
 pub returns-in-Err-clause-unwritten : goal.returns-in-Err-clause-unwritten
-returns-in-Err-clause-unwritten g c = λ told other. (c.look.ensures.runs told).touches
+returns-in-Err-clause-unwritten g c = λ told other. c.look.ensures.runs told
+
+pub returns-in-Ok-finish-clause-runs : goal.returns-in-Ok-finish-clause-runs
+returns-in-Ok-finish-clause-runs g c = λ told.
+    opening_runs c.args.journal (g.P.Pool.disk c.args.pool.now) (g.P.Pool.disk c.look.new.pool) (g.P.Pool.disk c.finish.new.pool) (c.look.ensures.runs told) (c.finish.ensures.runs told)
+
+pub returns-in-Err-finish-clause-runs : goal.returns-in-Err-finish-clause-runs
+returns-in-Err-finish-clause-runs g c = λ told.
+    opening_runs c.args.journal (g.P.Pool.disk c.args.pool.now) (g.P.Pool.disk c.look.new.pool) (g.P.Pool.disk c.finish.new.pool) (c.look.ensures.runs told) (c.finish.ensures.runs told)

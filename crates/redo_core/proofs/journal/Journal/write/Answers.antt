@@ -19,3 +19,12 @@ invariant_of-self g c =
           (rest_written (g.P.Pool.shape j.pool) (g.P.Pool.disk j.pool).state (g.P.Pool.disk c.write.new.self).state j.room j.control j.fills c.args.unit c.args.block volume
           ((c.write.ensures.runs told).touches) (c.self.invariant.3 told)),
     )
+
+pub returns-clause-rest : goal.returns-clause-rest
+returns-clause-rest g c = λ told.
+    let j = c.self.inside in
+    let same = c.write.ensures.shape in
+    let volume : c.args.unit < journal_of (g.P.Pool.shape j.pool) = subst (λ (v : JournalView _). c.args.unit < journal_of (g.P.Pool.shape v.pool)) (sym c.self.view_is) c.requires.unit in
+    subst (λ (s : Shape). IsAtRest s (g.P.Pool.disk c.write.new.self).state j.room j.control j.fills) (sym same)
+    (rest_written (g.P.Pool.shape j.pool) (g.P.Pool.disk j.pool).state (g.P.Pool.disk c.write.new.self).state j.room j.control j.fills c.args.unit c.args.block volume
+    ((c.write.ensures.runs told).touches) (c.self.invariant.3 told))
