@@ -1,6 +1,8 @@
 -- Reading a text token by token.
 use Rattle.std.proofs.Common.{◌≡◌, inl, inr, ℕ, ◌-◌, List, [], ◌∷◌, ◌++◌, length, refl, sym, ap, ◌∙◌, arith, Some, append_assoc, append-nil, length-append}
 use Rattle.ckd_image.proofs.Texts.{texts_push}
+use Rattle.by_rules.specs.declared.criterion.Criterion.{Criterion}
+use Rattle.by_rules.specs.declared.state.State.TheVariants as states
 use Rattle.by_rules.specs.declared.fault.ByFault.{ByFault}
 use Rattle.by_rules.specs.declared.fault.ByFault.TheVariants.{BadCriterion, NoMemory}
 use Rattle.by_rules.specs.Token.{Symbol, bytes_of, text_of, tokens_of}
@@ -68,3 +70,13 @@ ends_early text rest machine r e not_ended =
       right = right (tokens_of text) machine ran;
       early = λ criteria s. let done = complete (tokens_of text) criteria s in not_ended (let same : machine ≡ at _ criteria [] = cc in ap (λ (m : Machine). m.state) same);
     })
+
+-- ---- tokens handed in one by one
+
+pub read_is_spelled : (tokens : List Symbol) (machine : Machine) → run start tokens ≡ Some machine → HasEnded machine → Spell tokens machine.criteria
+read_is_spelled tokens machine ran ended =
+    let same : machine ≡ at machine.state machine.criteria machine.values = refl in
+    spelled tokens machine.criteria machine.values (ran ∙ ap (λ (s : _). Some (at s machine.criteria machine.values)) ended)
+
+pub spelled_is_read : (tokens : List Symbol) (criteria : List Criterion) → Spell tokens criteria → (machine : Machine) × (run start tokens ≡ Some machine) × HasEnded machine × (machine.criteria ≡ criteria)
+spelled_is_read tokens criteria s = (at states.Ended criteria [], complete tokens criteria s, refl, refl)

@@ -3,7 +3,7 @@
 ghost use Rattle.std.specs.Prelude.{◌≡◌, ◌↔◌, ◌≤◌, List, length, All, IsTrue, IfOk, IfErr};
 ghost use Rattle.by_rules.specs.declared.criterion.Criterion.{Criterion};
 ghost use Rattle.by_rules.specs.Day.{IsToday};
-ghost use Rattle.by_rules.specs.Criterion.{Holds};
+ghost use Rattle.by_rules.specs.Criterion.{Holds, IsSound};
 ghost use Rattle.by_rules.specs.Token.{tokens_of};
 ghost use Rattle.by_rules.specs.Grammar.{Spell};
 ghost use Rattle.by_rules.specs.Refusal.{IsRefusal};
@@ -53,6 +53,13 @@ impl Criteria {
     {
         let criteria = criteria_at(alloc, text)?;
         Ok(Criteria { criteria })
+    }
+
+    pub(crate) fn of(criteria: Listed<Criterion>) -> Criteria
+        requires { All IsSound criteria }
+        ensures { result ≡ criteria }
+    {
+        Criteria { criteria }
     }
 
     /// Whether a row satisfies each of the criteria.

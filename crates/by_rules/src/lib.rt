@@ -16,8 +16,10 @@ pub use criteria::Criteria;
 pub use criterion::{Criterion, Key, Op, Organization, Value, When};
 pub use day::Day;
 pub use fault::ByFault;
-pub use laws::{criteria_laws, day_laws, token_laws};
+pub use laws::{criteria_laws, day_laws, reading_laws, token_laws};
+pub use reading::Reading;
 pub use row::{AllocKind, RowFacts};
+pub use token::Token;
 pub use words::number_of;
 
 #[cfg(test)]

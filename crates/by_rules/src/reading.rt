@@ -1,9 +1,11 @@
 //! Reading criteria token by token.
 
-ghost use Rattle.std.specs.Prelude.{◌≡◌, ◌≤◌, Some, None, OnOk, IfErr, IsTrue, ◌↔◌};
-ghost use Rattle.by_rules.specs.Token.{symbol_of};
-ghost use Rattle.by_rules.specs.Reading.{start, next, Stops, HasEnded};
+ghost use Rattle.std.specs.Prelude.{◌≡◌, ◌≤◌, List, Some, None, OnOk, IfErr, IsTrue, ◌↔◌, length};
+ghost use Rattle.by_rules.specs.Token.{Symbol, symbol_of};
+ghost use Rattle.by_rules.specs.Grammar.{most_criteria};
+ghost use Rattle.by_rules.specs.Reading.{start, next, run, Stops, HasEnded};
 
+use crate::criteria::Criteria;
 use crate::criterion::{Criterion, Value};
 use crate::fault::ByFault;
 use crate::state::{State, Step};
@@ -15,9 +17,9 @@ use std::mem;
 
 const MOST_CRITERIA: usize = 255;
 
-/// What is read of a text so far. After an `Err` it is of no more use.
+/// Reads criteria from tokens handed in one by one. After an `Err` it is of no more use.
 #[derive(Drop)]
-pub(crate) struct Reading {
+pub struct Reading {
     alloc: Global,
     state: State,
     criteria: Listed<Criterion>,
@@ -33,7 +35,7 @@ impl Model for Reading {
 }
 
 impl Reading {
-    pub(crate) fn new(alloc: Global) -> Reading
+    pub fn new(alloc: Global) -> Reading
         ensures { result ≡ start }
     {
         Reading {
@@ -45,7 +47,7 @@ impl Reading {
     }
 
     /// Reads the next token, which stands at the offset.
-    pub(crate) fn take(&mut self, token: Token<'_>, offset: u32) -> Result<(), ByFault>
+    pub fn take(&mut self, token: Token<'_>, offset: u32) -> Result<(), ByFault>
         ensures taken { OnOk result (next self.old (symbol_of token.entry) ≡ Some self.new) }
         ensures refused { IfErr result (Stops self.old (symbol_of token.entry) offset) }
     {
@@ -74,10 +76,26 @@ impl Reading {
     }
 
     /// Whether the text may end here.
-    pub(crate) fn has_ended(&self) -> bool
+    pub fn has_ended(&self) -> bool
         ensures { IsTrue result ↔ HasEnded self.now }
     {
         self.state == State::Ended
+    }
+
+    /// Whether there are as many criteria as there may be.
+    pub fn is_full(&self) -> bool
+        ensures { IsTrue result ↔ (length self.now.criteria ≡ most_criteria) }
+    {
+        self.criteria.len() == MOST_CRITERIA
+    }
+
+    /// The criteria that were read.
+    pub fn finish(self) -> Criteria
+        requires read { (tokens : List Symbol) × (run start tokens ≡ Some self) }
+        requires ended { HasEnded self }
+        ensures { result ≡ self.criteria }
+    {
+        Criteria::of(self.into_criteria())
     }
 
     pub(crate) fn into_criteria(self) -> Listed<Criterion>

@@ -6,7 +6,7 @@ ghost use Rattle.by_rules.specs.Token.{is_word_byte, sign_of, tokens_of, bytes_o
 
 /// A token: a bracket, a comma, a word, or any other byte.
 #[derive(Clone, Copy, Debug)]
-pub(crate) enum Token<'a> {
+pub enum Token<'a> {
     Open,
     Close,
     Comma,

@@ -1,10 +1,9 @@
 //! What the blocks of a pool stand for, and the steps that change it.
 #![tactic(auto)]
 
-mod dd;
 mod laws;
 mod steps;
 
-pub use dd::DdName;
+pub use dump_fmt::DdName;
 pub use laws::{online_laws, releasing_laws, shrinking_laws, standing_laws};
 pub use steps::{Dsn, Origin, Runs, Step};

@@ -1,6 +1,6 @@
 //! The steps that change volumes.
 
-use crate::dd::DdName;
+use dump_fmt::DdName;
 pub use dsn_filter::Dsn;
 pub use free_map::Runs;
 
