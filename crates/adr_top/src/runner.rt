@@ -2,7 +2,7 @@
 
 ghost use Rattle.std.specs.Prelude.{◌≡◌, ◌≢◌, ◌⊎◌, ◌↔◌, ◌<◌, ◌≤◌, List, [], Some, None, length, take, IsTrue, MatchOption, IfSome, IfOk, OnOk, IfErr};
 ghost use Rattle.dasd_pool.specs.Count.{Rose};
-ghost use Rattle.dasd_pool.specs.Disk.{LeavesOnly, Runs, none};
+ghost use Rattle.dasd_pool.specs.Disk.{Image, LeavesOnly, Runs, none};
 ghost use Rattle.dasd_pool.specs.Stream.{Appends, AppendsSome};
 ghost use Rattle.redo_core.specs.Opening.{SparesVolumes, of_opening};
 ghost use Rattle.redo_core.specs.Reading.{journal_of};
@@ -10,7 +10,7 @@ ghost use Rattle.vol_label.specs.declared.serial.Serial.{Serial};
 ghost use Rattle.vol_label.specs.Serial.{Spells};
 ghost use Rattle.volume_model.specs.Unit.{UnitModel};
 ghost use Rattle.move_core.specs.Stands.{IsSettled};
-ghost use Rattle.move_core.specs.Runs.{KeepsUnits};
+ghost use Rattle.move_core.specs.Runs.{KeepsUnits, StandsAfterSome, moves_of};
 ghost use Rattle.adr_top.specs.Causes.{IsOutOfWords, HasStatusCause, SaysForm};
 ghost use Rattle.adr_top.specs.Form.{Asks, AsksSome, IsOutsideText};
 ghost use Rattle.adr_top.specs.Listed.{Tells, TakesFew};
@@ -224,10 +224,14 @@ pub fn batch<S: Source, H: Source, O: Sink, P: Pool>(
     ensures unread { (named : FormatNamed) → AreFormatWords words.now named → (S.left sysin.new ≡ S.left sysin.old) × (S.faults sysin.new ≡ S.faults sysin.old) }
 
     // Over a settled pool: whatever moment a stop comes at, the units stand as they were, or as the steps leave them. Where the pool
-    // didn't fail they stand as all steps leave them, and the pool is settled.
+    // didn't fail they stand as all steps leave them, and the pool is settled. So each image that a stop may have left since the run began stands
+    // for the units after a prefix of its moves.
     ensures headline { P.tells → ((named : FormatNamed) → ¬ AreFormatWords words.now named) → (names : List Serial) (units : List UnitModel)
         → IsSettled (P.shape pool) names (P.disk pool).state units
         → KeepsUnits (P.shape pool) names (P.disk pool) (P.disk result.pool) (P.faults pool) (P.faults result.pool) units result.steps.items result.pending }
+    ensures stops { P.tells → ((named : FormatNamed) → ¬ AreFormatWords words.now named) → (names : List Serial) (units : List UnitModel)
+        → IsSettled (P.shape pool) names (P.disk pool).state units → (image : Image) → (P.disk result.pool).left_since (P.disk pool).moment image
+        → StandsAfterSome (P.shape pool) names units (moves_of result.steps.items result.pending) image }
     ensures settled { P.tells → ((named : FormatNamed) → ¬ AreFormatWords words.now named) → result.status ≢ 16 → (names : List Serial) (units : List UnitModel)
         → IsSettled (P.shape pool) names (P.disk pool).state units
         → IsSettledAfter (P.shape pool) names units result.steps.items (P.disk result.pool).state }

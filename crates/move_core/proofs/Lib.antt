@@ -10,3 +10,4 @@ pub mod Replacing
 pub mod Releasing
 pub mod Kept
 pub mod Keeping
+pub mod Resuming

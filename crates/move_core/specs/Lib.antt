@@ -5,3 +5,4 @@ pub mod Shrinking
 pub mod Releasing
 pub mod Runs
 pub mod Release
+pub mod Resuming

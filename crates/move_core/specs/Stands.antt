@@ -1,5 +1,5 @@
 -- The units that a pool's blocks stand for.
-use Rattle.std.specs.Prelude.{◌≡◌, ℕ, ◌+◌, ◌-◌, ◌/◌, ◌<◌, ◌≤◌, Bool, false, ◌&&◌, ◌==◌, nat_le, nat_lt, if◌then◌else◌, List, [], ◌∷◌, ◌++◌, length, take, drop, All, Some, slice_get}
+use Rattle.std.specs.Prelude.{◌≡◌, ℕ, ◌+◌, ◌-◌, ◌/◌, ◌<◌, ◌≤◌, Bool, false, ◌&&◌, ◌==◌, nat_le, nat_lt, if◌then◌else◌, List, ◌∷◌, ◌++◌, length, take, drop, All, Some, slice_get}
 use Rattle.ckd_image.specs.Device.{heads_of}
 use Rattle.dasd_pool.specs.Disk.{Image, Shape, State}
 use Rattle.vol_label.specs.declared.serial.Serial.{Serial}

@@ -1,8 +1,7 @@
 -- What each step changes on the volumes.
-use Rattle.std.specs.Prelude.{◌≡◌, ℕ, ◌-◌, ◌<◌, ◌≤◌, false, ◌==◌, nat_le, if◌then◌else◌, List, [], ◌∷◌, ◌++◌, length, take}
-use Rattle.free_map.specs.declared.run.Run.{Run}
+use Rattle.std.specs.Prelude.{◌≡◌, ℕ, ◌-◌, ◌<◌, ◌==◌, nat_le, if◌then◌else◌, List, [], ◌∷◌, ◌++◌, length, take}
 use Rattle.dsn_filter.specs.declared.dsn.Dsn.{Dsn}
-use Rattle.volume_model.specs.Unit.{Extent, DataSet, OnlineVolume, UnitModel, online, tracks_of, AreFreeRunsOf, fives_for}
+use Rattle.volume_model.specs.Unit.{Extent, DataSet, OnlineVolume, UnitModel, online, tracks_of}
 use Rattle.volume_model.specs.Changed.{threes_for, Changes}
 use Rattle.volume_model.specs.Pinned.{IsNameOf}
 use Rattle.move_core.specs.declared.steps.Step.{Step}

@@ -2,6 +2,7 @@
 
 ghost use Rattle.move_core.specs.Laws.{KeepsMeaning, EachImageStands, OpeningStands, OpenedIsSettled, CommitStands, CommittedIsSettled};
 ghost use Rattle.move_core.specs.Shrinking.{OneVtoc, LoadedIsOnline, ShrinkStands};
+ghost use Rattle.move_core.specs.Resuming.{FormattedIsSettled, SyncedIsSettled, StandingMayOpen};
 ghost use Rattle.move_core.specs.Releasing.{KeptOfTracks, ReleaseStands};
 
 /// A stop, an opening and a commit leave what a pool stands for, or what the commit makes of it.
@@ -12,6 +13,13 @@ pub fn standing_laws()
     ensures opened { OpenedIsSettled }
     ensures commit { CommitStands }
     ensures committed { CommittedIsSettled }
+{}
+
+/// A journal that was made leads into a run, and what a stop left into the next opening and the next run.
+pub fn resuming_laws()
+    ensures formatted { FormattedIsSettled }
+    ensures synced { SyncedIsSettled }
+    ensures opens { StandingMayOpen }
 {}
 
 /// A VTOC reads in one way, and a unit on which a loader finds a volume is online.

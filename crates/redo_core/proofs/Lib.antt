@@ -14,3 +14,4 @@ pub mod Samples
 pub mod Formatting
 pub mod Formatted
 pub mod FormatFaults
+pub mod Allowed

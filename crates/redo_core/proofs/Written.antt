@@ -1,13 +1,11 @@
 -- Which blocks an opening writes.
-use Rattle.std.proofs.Common.{◌≡◌, inl, inr, ℕ, ◌≤◌, List, [], length, Bool, true, false, ◌&&◌, refl, sym, ap, subst, arith}
-use Rattle.std.proofs.lemmas.Bool.{or_parts, cases_Bool}
+use Rattle.std.proofs.Common.{◌≡◌, ℕ, List, false, refl, sym, subst}
+use Rattle.std.proofs.lemmas.Bool.{or_parts}
 use Rattle.dasd_pool.specs.Disk.{Image, Disk, Runs, none, is_at}
-use Rattle.dasd_pool.specs.Moments.{runs_start, runs_then}
+use Rattle.dasd_pool.specs.Moments.{runs_then}
 use Rattle.redo_core.specs.declared.target.Target.{Target}
-use Rattle.redo_core.specs.Format.{is_open, directory_in}
 use Rattle.redo_core.specs.Reading.{among}
 use Rattle.redo_core.specs.Opening.{of_redo, of_opening}
-use Rattle.redo_core.specs.Steps.{HasTargets}
 
 -- the images of a body are put in place, and then the gate is closed
 pub redo_runs : (journal : ℕ) (list : List Target) (old mid new : Disk) → Runs (among list) old mid → Runs (is_at journal 1) mid new → Runs (of_redo journal list) old new

@@ -128,10 +128,13 @@ pub record IsIdle (shape : Shape) (image : Image) (reading : Reading) : Type 0 w
   pub obeys : Obeys shape (zeroed shape image) reading
   pub idle : ¬ IsBusy shape reading
 
--- Nothing stands against an opening: the rules hold, nothing is under way, and each label that reads has its name, with an open body in place.
+-- Nothing stands against an opening: the rules hold, nothing is under way, the journal has all its blocks, the names are the registered
+-- ones, and each label that reads has its name, with an open body in place.
 pub record MayOpen (shape : Shape) (image : Image) (names : List Serial) : Type 0 where
   pub reading : Reading
   pub idle : IsIdle shape image reading
+  pub long : 4 + reading.room ≤ shape.blocks (journal_of shape)
+  pub names_are : reading.names ≡ names
   pub labels : LabelsAre shape (overlay shape.block_size (journal_of shape) image) names (journal_of shape)
 
 -- Why an opening refuses: the rules, the length, the names, and then the labels, with an open body in place.

@@ -5,3 +5,4 @@ pub mod Steps
 pub mod Opening
 pub mod Faults
 pub mod Stops
+pub mod Laws

@@ -10,6 +10,7 @@ mod format;
 mod head;
 mod journal;
 mod labels;
+mod laws;
 mod opening;
 mod redo;
 mod survey;
@@ -20,6 +21,7 @@ pub use entries::{Entries, Entry};
 pub use fault::{JournalFault, JournalRule};
 pub use head::journal_head;
 pub use journal::{Journal, JournalStop};
+pub use laws::opening_laws;
 pub use target::Target;
 
 #[cfg(test)]

@@ -1,5 +1,6 @@
 use Rattle.std.proofs.Common.{◌≡◌, ◌⊎◌, ℕ, false, true, refl, inl, inr, sym, subst, ◌∙◌}
 use Rattle.move_core.proofs.Keeping.{idle_run}
+use Rattle.move_core.proofs.Resuming.{each_moment_stands}
 use Rattle.adr_top.specs.Causes.{last_line}
 use Rattle.adr_top.specs.Listed.{Tells}
 use Rattle.adr_top.specs.Parts.{format_named_by}
@@ -109,3 +110,11 @@ returns-clause-unread_words g c = λ is. absurd (not_36 c.run.result.status c.ru
 
 pub returns-clause-unasked : goal.returns-clause-unasked
 returns-clause-unasked g c = λ told none nothing. rw (c.end-2.ensures.pool) (c.run.ensures.unasked told nothing)
+
+pub returns-then-not-is_ready-clause-stops : goal.returns-then-not-is_ready-clause-stops
+returns-then-not-is_ready-clause-stops g c = λ told none names units settled.
+    each_moment_stands (g.P.Pool.shape c.args.pool) names (g.P.Pool.disk c.args.pool) _ (g.P.Pool.faults c.args.pool) _ units _ _ settled (returns-then-not-is_ready-clause-headline g c told none names units settled)
+
+pub returns-clause-stops : goal.returns-clause-stops
+returns-clause-stops g c = λ told none names units settled.
+    each_moment_stands (g.P.Pool.shape c.args.pool) names (g.P.Pool.disk c.args.pool) _ (g.P.Pool.faults c.args.pool) _ units _ _ settled (returns-clause-headline g c told none names units settled)

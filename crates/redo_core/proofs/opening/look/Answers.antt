@@ -124,6 +124,8 @@ returns-in-Ok-check_who-clause-allowed g c = λ told.
     may_at shape s1 contents d1.contents c.args.names.now c.sync.ensures.shape same (record {
       reading = record { volumes = d1.contents; names = f.names.items; room = f.room; control = f.control; fills = fills_of f.fills };
       idle = e.idle told;
+      long = long;
+      names_are = c.in-Ok-check_who.ensures.names;
       labels = labels_at s1 (g.P.Pool.shape c.find_idle.new.pool) d1 (g.P.Pool.disk c.find_idle.new.pool).state c.args.journal list c.args.names.now e.shape (e.same told) unit
           (targets_there s1 d1.contents f.room list long e.few (e.targets told)) (c.in-Ok-check_who.ensures.labels told);
     })
