@@ -31,7 +31,7 @@ AreFull device [] = Unit {0}
 AreFull device (group ∷ []) = Unit {0}
 AreFull device (group ∷ next ∷ more) = IsFullBefore device group next × AreFull device (next ∷ more)
 
--- the blocks in their order, parted into the fewest for one track each
+-- the blocks in their order, parted into the fewest for one track each; no part is empty but where there are no blocks at all, as `fit` and `full` say
 pub record AreGrouped (device : Device) (blocks : List Block) (groups : List (List Block)) : Type 0 where
   pub whole : flat_map (λ group. group) groups ≡ blocks
   pub fit : All (FitTrack device) groups
