@@ -1,0 +1,174 @@
+//! Runs over a volume and its journal in memory. No clause speaks of them: a test looks at what comes out.
+
+ghost use Rattle.std.specs.Prelude.{◌<◌};
+
+use crate::fault::RowsFault;
+use crate::journals::{REGISTERED, journal};
+use crate::volumes::{Given, volume};
+use adr_top::{Day, Step, batch};
+use ckd_image::{Bytes, Word};
+use dasd_pool::{MemoryPool, MemorySink, MemorySource, Pool, Tear, UnitText};
+use std::alloc::Global;
+
+/// A volume and what stands where its journal is.
+#[derive(Debug, Drop)]
+pub struct Machine {
+    pool: MemoryPool,
+}
+
+/// What a run is given beside its machine: its words and its text, and the numbers of the reads of the text and of the writes of
+/// lines that fail, each counted from 0.
+#[derive(Clone, Copy, Debug)]
+pub struct Job<'a> {
+    pub words: &'a [&'a str],
+    pub text: &'a [u8],
+    pub failing_reads: &'a [u64],
+    pub failing_writes: &'a [u64],
+}
+
+/// The words of a text over VOL001.
+pub const LISTING_WORDS: [&str; 6] = ["--unit", "VOL001=a", "--journal", "b", "--sysin", "c"];
+
+/// What a run leaves.
+#[derive(Drop)]
+pub struct Ran {
+    pub status: u8,
+    pub lines: String,
+    pub steps: Vec<Step>,
+    pub pending: Option<Step>,
+    pub machine: Machine,
+}
+
+impl<'a> Job<'a> {
+    /// A text over VOL001, of which nothing fails.
+    pub fn of_text(text: &'a [u8]) -> Job<'a> {
+        Job {
+            words: &LISTING_WORDS,
+            text,
+            failing_reads: &[],
+            failing_writes: &[],
+        }
+    }
+}
+
+/// Copies of words.
+fn words_of(alloc: Global, words: &[&str]) -> Result<Vec<Word>, RowsFault> {
+    let mut list = Vec::new(alloc);
+    for word in words {
+        list.push(Word::copy_of(alloc, word)?)?;
+    }
+    Ok(list)
+}
+
+/// The text that a sink took.
+fn lines_of(alloc: Global, out: &MemorySink) -> Result<String, RowsFault> {
+    match String::from_utf8(out.text().to_vec(alloc)?) {
+        Ok(lines) => Ok(lines),
+        Err(_) => Err(RowsFault::NotText),
+    }
+}
+
+impl Machine {
+    /// A volume and its journal, all synced. It keeps its first calls, so many, and fails at the calls with these numbers.
+    pub fn new(
+        alloc: Global,
+        volume: UnitText,
+        journal: UnitText,
+        failing: &[u64],
+        keep: u32,
+    ) -> Result<Machine, RowsFault> {
+        let mut units = Vec::new(alloc);
+        units.push(volume)?;
+        units.push(journal)?;
+        let pool = MemoryPool::new(alloc, units, failing.to_vec(alloc)?, keep)?;
+        Ok(Machine { pool })
+    }
+
+    /// A volume and a journal that is registered for it, with room 64.
+    pub fn of(alloc: Global, given: Given, keep: u32) -> Result<Machine, RowsFault> {
+        let journal = journal(alloc, 68, &REGISTERED)?;
+        Machine::new(alloc, volume(alloc, given)?, journal, &[], keep)
+    }
+
+    /// The same, which keeps no call and fails at the calls with these numbers.
+    pub fn failing(alloc: Global, given: Given, calls: &[u64]) -> Result<Machine, RowsFault> {
+        let journal = journal(alloc, 68, &REGISTERED)?;
+        Machine::new(alloc, volume(alloc, given)?, journal, calls, 0)
+    }
+
+    /// Runs words and text.
+    pub fn run(self, alloc: Global, job: Job<'_>) -> Result<Ran, RowsFault> {
+        let words = words_of(alloc, job.words)?;
+        let text = Bytes::from_slice(alloc, job.text)?;
+        let mut sysin = MemorySource::new(text, job.failing_reads.to_vec(alloc)?);
+        let mut held = MemorySource::new(Bytes::new(alloc), Vec::new(alloc));
+        let mut out = MemorySink::new(alloc, 1000, job.failing_writes.to_vec(alloc)?)?;
+        let (outs, ins) = (Vec::new(alloc), Vec::new(alloc));
+        let today = Day { year: 2024, day: 1 };
+        let ended = batch(
+            alloc, &words, &mut sysin, &mut held, &mut out, self.pool, outs, ins, today,
+        );
+        Ok(Ran {
+            status: ended.status,
+            lines: lines_of(alloc, &out)?,
+            steps: ended.steps,
+            pending: ended.pending,
+            machine: Machine { pool: ended.pool },
+        })
+    }
+
+    /// What a stop after so many of the kept calls leaves.
+    pub fn stopped(&self, alloc: Global, calls: u64, tear: Tear) -> Result<Machine, RowsFault> {
+        let pool = self.pool.crash(alloc, calls, tear)?;
+        Ok(Machine { pool })
+    }
+
+    /// How many calls the pool had.
+    pub fn calls(&self) -> u64 {
+        self.pool.calls()
+    }
+
+    /// The bytes of each block of a unit, at least one.
+    fn block_size(&self, unit: u32) -> usize
+        ensures { 0 < result }
+    {
+        if unit >= self.pool.units() {
+            return 1;
+        }
+        (self.pool.block_size(unit) as usize).max(1)
+    }
+
+    /// The bytes of a block, or none where there is no such block.
+    pub fn block(&mut self, alloc: Global, unit: u32, block: u32) -> Result<Vec<u8>, RowsFault> {
+        let mut bytes = Vec::new(alloc);
+        if unit >= self.pool.units() || block >= self.pool.blocks(unit) {
+            return Ok(bytes);
+        }
+        bytes.resize(self.pool.block_size(unit) as usize, 0)?;
+        self.pool.read(unit, block, &mut bytes)?;
+        Ok(bytes)
+    }
+
+    /// The numbers of the blocks of a unit that aren't as they were given.
+    pub fn changed_blocks(
+        &mut self,
+        alloc: Global,
+        unit: u32,
+        given: &UnitText,
+    ) -> Result<Vec<u32>, RowsFault> {
+        let mut changed = Vec::new(alloc);
+        let mut number = 0u32;
+        for bytes in given.blocks.as_slice().chunks(self.block_size(unit)) {
+            if self.block(alloc, unit, number)?.as_slice() != bytes {
+                changed.push(number)?;
+            }
+            number = number.saturating_add(1);
+        }
+        Ok(changed)
+    }
+
+    /// Whether all blocks of a unit are as they were given.
+    pub fn holds(&mut self, alloc: Global, unit: u32, given: &UnitText) -> Result<bool, RowsFault> {
+        Ok(self.changed_blocks(alloc, unit, given)?.is_empty())
+    }
+}

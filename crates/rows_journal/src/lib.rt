@@ -1,0 +1,5 @@
+//! Tests: journals that are made, opened and refused.
+#![tactic(auto)]
+
+#[cfg(test)]
+mod tests;

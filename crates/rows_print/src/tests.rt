@@ -1,0 +1,258 @@
+use rows_base::{BASE, GIVEN, Given, Job, Machine, RowsFault, SLOT, Vtoc, WITH_SET};
+use std::alloc::Global;
+use std::test::*;
+
+const TEXT: &[u8] = b" PRINT VTOC INDDNAME(VOL001)\n";
+
+const LISTING: &str = "ADR101I (001) PRINT STARTED
+ADR110I (001) VOLUME VOL001 3390 USABLE 15 FREE 13 IN 1 RUNS INDEX 0
+ADR102I (001) PRINT ENDED CODE 0
+ADR103I (000) MAXIMUM CODE 0
+";
+
+const A_B: &str = "ADR101I (001) PRINT STARTED
+ADR110I (001) VOLUME VOL001 3390 USABLE 15 FREE 3 IN 1 RUNS INDEX 0
+ADR111I (001) A.B PS EXTENTS 1 TRACKS 10 LAST 000203
+ADR112I (001) EXTENT 1 KIND 01 FROM 2 LENGTH 10
+ADR102I (001) PRINT ENDED CODE 0
+ADR103I (000) MAXIMUM CODE 0
+";
+
+const PAYROLL: &str = "ADR101I (001) PRINT STARTED
+ADR110I (001) VOLUME VOL001 3390 USABLE 15 FREE 3 IN 1 RUNS INDEX 0
+ADR111I (001) PAYROLL.DATA PS EXTENTS 1 TRACKS 10 LAST 00093C
+ADR112I (001) EXTENT 1 KIND 01 FROM 2 LENGTH 10
+ADR102I (001) PRINT ENDED CODE 0
+ADR103I (000) MAXIMUM CODE 0
+";
+
+const LIBRARY: &str = "ADR101I (001) PRINT STARTED
+ADR110I (001) VOLUME VOL001 3390 USABLE 15 FREE 3 IN 1 RUNS INDEX 0
+ADR111I (001) SYS1.LIB POU EXTENTS 1 TRACKS 10 LAST 0ABCDE
+ADR112I (001) EXTENT 1 KIND 81 FROM 2 LENGTH 10
+ADR102I (001) PRINT ENDED CODE 0
+ADR103I (000) MAXIMUM CODE 0
+";
+
+const WITHOUT_EXTENTS: &str = "ADR101I (001) PRINT STARTED
+ADR110I (001) VOLUME VOL001 3390 USABLE 15 FREE 13 IN 1 RUNS INDEX 0
+ADR111I (001) A?B C -- EXTENTS 0 TRACKS 0 LAST 000000
+ADR102I (001) PRINT ENDED CODE 0
+ADR103I (000) MAXIMUM CODE 0
+";
+
+const NOT_OF_THE_FORM: &str = "ADR548T (000) RUN ENDED WITH STATUS 48\n";
+
+/// Where the bytes of the first, the second and the third DSCB begin among those of the unit.
+const FOUR: usize = SLOT + 29;
+
+const FIVE: usize = SLOT + 177;
+
+const THIRD: usize = SLOT + 325;
+
+/// Status and lines of a run of a text over a volume.
+fn ends(alloc: Global, text: &[u8], given: Given) -> Result<(u8, String), RowsFault> {
+    let ran = Machine::of(alloc, given, 0)?.run(alloc, Job::of_text(text))?;
+    Ok((ran.status, ran.lines))
+}
+
+#[test]
+fn a_volume_without_data_sets_is_listed(rt: HostRuntime) -> Result<(), Fail> {
+    for text in [TEXT, b" PRINT VTOC INDDNAME(VOL001)"] {
+        let (status, lines) = ends(rt.alloc(), text, GIVEN)?;
+        assert_eq!(rt; status, 0);
+        assert_eq!(rt; lines.as_str(), LISTING);
+    }
+    Ok(())
+}
+
+/// Volumes with a data set on tracks 2 to 11, and their listings.
+const SETS: [(Given, &str); 4] = [
+    (
+        Given {
+            last: Some([0, 2, 3]),
+            ..WITH_SET
+        },
+        A_B,
+    ),
+    (
+        Given {
+            last: Some([0, 9, 0x3c]),
+            blocks: &[
+                (THIRD, 0xd7),
+                (THIRD + 1, 0xc1),
+                (THIRD + 2, 0xe8),
+                (THIRD + 3, 0xd9),
+                (THIRD + 4, 0xd6),
+                (THIRD + 5, 0xd3),
+                (THIRD + 6, 0xd3),
+                (THIRD + 7, 0x4b),
+                (THIRD + 8, 0xc4),
+                (THIRD + 9, 0xc1),
+                (THIRD + 10, 0xe3),
+                (THIRD + 11, 0xc1),
+            ],
+            ..WITH_SET
+        },
+        PAYROLL,
+    ),
+    // partitioned and not to be moved, with an extent of cylinders
+    (
+        Given {
+            last: Some([0x0a, 0xbc, 0xde]),
+            blocks: &[
+                (THIRD, 0xe2),
+                (THIRD + 1, 0xe8),
+                (THIRD + 2, 0xe2),
+                (THIRD + 3, 0xf1),
+                (THIRD + 4, 0x4b),
+                (THIRD + 5, 0xd3),
+                (THIRD + 6, 0xc9),
+                (THIRD + 7, 0xc2),
+                (THIRD + 82, 3),
+                (THIRD + 105, 0x81),
+            ],
+            ..WITH_SET
+        },
+        LIBRARY,
+    ),
+    // a name with a byte that isn't in the code page, and a blank within, without organization and extents
+    (
+        Given {
+            vtoc: BASE,
+            last: Some([0, 0, 0]),
+            blocks: &[
+                (THIRD + 1, 0),
+                (THIRD + 3, 0x40),
+                (THIRD + 4, 0xc3),
+                (THIRD + 82, 0),
+                (THIRD + 105, 0),
+            ],
+            ..WITH_SET
+        },
+        WITHOUT_EXTENTS,
+    ),
+];
+
+#[test]
+fn a_volume_with_a_data_set_is_listed(rt: HostRuntime) -> Result<(), Fail> {
+    for (given, want) in SETS {
+        let (status, lines) = ends(rt.alloc(), TEXT, given)?;
+        assert_eq!(rt; status, 0);
+        assert_eq!(rt; lines.as_str(), want);
+    }
+    Ok(())
+}
+
+/// A VTOC, and how its volume is told.
+const VOLUMES: [(Vtoc, &str); 5] = [
+    // as a utility makes it that writes 12 records
+    (
+        Vtoc {
+            records: 12,
+            ..BASE
+        },
+        "ADR110I (001) VOLUME VOL001 3390 USABLE 15 FREE 13 IN 1 RUNS INDEX 0",
+    ),
+    // elsewhere, in another order, and with two runs, of which the longer has 9 of 13 tracks
+    (
+        Vtoc {
+            head: 5,
+            records: 3,
+            four: 3,
+            five: 1,
+            entries: &[(6, 9), (1, 4)],
+        },
+        "ADR110I (001) VOLUME VOL001 3390 USABLE 15 FREE 13 IN 2 RUNS INDEX 308",
+    ),
+    // two entries that touch
+    (
+        Vtoc {
+            entries: &[(7, 8), (2, 5)],
+            ..BASE
+        },
+        "ADR110I (001) VOLUME VOL001 3390 USABLE 15 FREE 13 IN 1 RUNS INDEX 0",
+    ),
+    // the last tracks are neither used nor free
+    (
+        Vtoc {
+            entries: &[(2, 3)],
+            ..BASE
+        },
+        "ADR110I (001) VOLUME VOL001 3390 USABLE 5 FREE 3 IN 1 RUNS INDEX 0",
+    ),
+    (
+        Vtoc {
+            entries: &[],
+            ..BASE
+        },
+        "ADR110I (001) VOLUME VOL001 3390 USABLE 2 FREE 0 IN 0 RUNS INDEX 0",
+    ),
+];
+
+#[test]
+fn each_volume_of_the_form_is_listed_with_its_free_space(rt: HostRuntime) -> Result<(), Fail> {
+    for (vtoc, want) in VOLUMES {
+        let (status, lines) = ends(rt.alloc(), TEXT, Given { vtoc, ..GIVEN })?;
+        assert_eq!(rt; status, 0);
+        assert_eq!(rt; lines.lines().nth(1), Some(want));
+    }
+    Ok(())
+}
+
+/// A volume of which some bytes of its blocks are others.
+fn with(blocks: &'static [(usize, u8)]) -> Given {
+    Given { blocks, ..GIVEN }
+}
+
+fn with_head(head: &'static [(usize, u8)]) -> Given {
+    Given { head, ..GIVEN }
+}
+
+/// Whether a volume has the status 48 and its line alone.
+fn is_refused(alloc: Global, given: Given) -> Result<bool, RowsFault> {
+    let (status, lines) = ends(alloc, TEXT, given)?;
+    Ok(status == 48 && lines.as_str() == NOT_OF_THE_FORM)
+}
+
+#[test]
+fn other_heads_and_labels_are_refused_with_one_line(rt: HostRuntime) -> Result<(), Fail> {
+    let cases = [
+        with_head(&[(0, 0)]),
+        with_head(&[(16, 0x80), (13, 0xba)]), // a 3380
+        with(&[(4, 1)]), // track 0 at another address
+        with(&[(221, 0)]), // the label's key
+        with(&[(239, 2)]), // its pointer to a track without records
+        with(&[(239, 0)]), // to track 0
+        with(&[(240, 3)]), // to a free record
+    ];
+    for given in cases {
+        assert!(rt; is_refused(rt.alloc(), given)?, "{given:?}");
+    }
+    Ok(())
+}
+
+#[test]
+fn other_vtocs_are_refused_with_one_line(rt: HostRuntime) -> Result<(), Fail> {
+    let cases = [
+        with(&[(SLOT + 4, 2)]), // the track at another address
+        with(&[(FIVE - 4, 3)]), // a number twice
+        with(&[(FOUR + 44, 0xf6)]), // no format 4
+        with(&[(FOUR + 58, 1)]), // an indicator
+        with(&[(FOUR + 63, 0)]), // no cylinders
+        with(&[(FOUR + 65, 14)]), // other heads
+        with(&[(FOUR + 105, 0)]), // no extent
+        with(&[(FOUR + 114, 2)]), // two tracks
+        with(&[(FIVE + 44, 0)]), // no format 5, and bytes that are none
+        with(&[(FIVE + 139, 1)]), // a pointer
+        with(&[(THIRD + 139, 1)]), // a record that is no DSCB
+        with(&[(FIVE + 5, 1), (FIVE + 8, 14)]), // the VTOC is stated free
+        with(&[(FIVE + 5, 3), (FIVE + 8, 12)]), // track 2 is neither used nor free
+        with(&[(FIVE + 8, 14)]), // a track past the end
+        with(&[(FIVE + 10, 14), (FIVE + 13, 1)]), // track 14 is stated twice
+    ];
+    for given in cases {
+        assert!(rt; is_refused(rt.alloc(), given)?, "{given:?}");
+    }
+    Ok(())
+}
