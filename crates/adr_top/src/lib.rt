@@ -26,18 +26,3 @@ pub use lists::{Day, InDd, OutDd, OutState};
 pub use move_core::{DdName, Dsn, Origin, Runs, Step};
 pub use runner::{Ended, batch};
 pub use words::{DdPaths, Run, UnitPaths, WordsFault, read_words};
-
-#[cfg(test)]
-mod base;
-#[cfg(test)]
-mod base_tests;
-#[cfg(test)]
-mod format_tests;
-#[cfg(test)]
-mod print_tests;
-#[cfg(test)]
-mod release_base;
-#[cfg(test)]
-mod release_tests;
-#[cfg(test)]
-mod tests;

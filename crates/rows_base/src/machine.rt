@@ -117,6 +117,12 @@ impl Machine {
         })
     }
 
+    /// Status and lines of a run of words and text.
+    pub fn ends(self, alloc: Global, job: Job<'_>) -> Result<(u8, String), RowsFault> {
+        let ran = self.run(alloc, job)?;
+        Ok((ran.status, ran.lines))
+    }
+
     /// What a stop after so many of the kept calls leaves.
     pub fn stopped(&self, alloc: Global, calls: u64, tear: Tear) -> Result<Machine, RowsFault> {
         let pool = self.pool.crash(alloc, calls, tear)?;

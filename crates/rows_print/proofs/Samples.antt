@@ -1,6 +1,7 @@
 -- The listing of a volume with two data sets, of which one has several extents, worked by hand. What a run prints is proved to be such a listing.
 use Rattle.std.specs.Prelude.{◌≡◌, ℕ, List, [], ◌∷◌, ◌++◌, codes, replicate}
 use Rattle.std.proofs.Common.{refl}
+use Rattle.std.specs.Fmt.{digits}
 use Rattle.ckd_image.specs.declared.device.Device.TheVariants.{D3390}
 use Rattle.ckd_image.specs.declared.track.TrackAt.{TrackAt}
 use Rattle.free_map.specs.declared.run.Run.{Run}
@@ -47,6 +48,7 @@ library_lines =
     ++ (codes "ADR112I (001) EXTENT 2 KIND 01 FROM 46 LENGTH 3" ++ line_feed))))
 
 pub library_has_its_lines : row_lines 1 15 library ≡ library_lines
+unfolding digits
 library_has_its_lines = refl
 
 -- a volume of 50 tracks with both: free are 12 to 14, 45 and 49, of which three lie together, and 1000 * 3 / 5 is 600
@@ -67,4 +69,5 @@ pub both_are_listed : printed_run both ≡
     ++ (library_lines
     ++ (codes "ADR102I (001) PRINT ENDED CODE 0" ++ (line_feed
     ++ (codes "ADR103I (000) MAXIMUM CODE 0" ++ line_feed)))))))))))
+unfolding digits
 both_are_listed = refl

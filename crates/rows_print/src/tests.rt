@@ -52,8 +52,7 @@ const THIRD: usize = SLOT + 325;
 
 /// Status and lines of a run of a text over a volume.
 fn ends(alloc: Global, text: &[u8], given: Given) -> Result<(u8, String), RowsFault> {
-    let ran = Machine::of(alloc, given, 0)?.run(alloc, Job::of_text(text))?;
-    Ok((ran.status, ran.lines))
+    Machine::of(alloc, given, 0)?.ends(alloc, Job::of_text(text))
 }
 
 #[test]

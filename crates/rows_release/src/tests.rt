@@ -42,13 +42,16 @@ const THIRD: usize = SLOT + 325;
 
 /// How many tracks of A.B on unit 0 a step keeps, where it shrinks it.
 fn kept_by(step: &Step) -> Option<u32> {
-    match step {
-        Step::Shrink { unit, name, keep } => {
-            let is_set = Dsn::read(b"A.B").is_ok_and(|set| set.is_same(name));
-            (*unit == 0 && is_set).then_some(*keep)
-        }
-        _ => None,
+    let Step::Shrink { unit, name, keep } = step else {
+        return None;
+    };
+    let Ok(set) = Dsn::read(b"A.B") else {
+        return None;
+    };
+    if *unit != 0 || !set.is_same(name) {
+        return None;
     }
+    Some(*keep)
 }
 
 /// How many tracks of A.B the one step of a run keeps.
@@ -200,22 +203,33 @@ ADR102I (001) PRINT ENDED CODE 0
 ADR103I (000) MAXIMUM CODE 0
 ";
 
-#[test]
-fn a_release_is_done_whose_lines_are_lost(rt: HostRuntime) -> Result<(), Fail> {
+/// What a release leaves whose lines can't be written.
+fn released_in_silence(alloc: Global) -> Result<Ran, RowsFault> {
     let job = Job {
         failing_writes: &[0],
         ..Job::of_text(RELEASE)
     };
-    let mut ran = Machine::of(rt.alloc(), WITH_SET, 0)?.run(rt.alloc(), job)?;
+    Machine::of(alloc, WITH_SET, 0)?.run(alloc, job)
+}
+
+#[test]
+fn a_release_is_done_whose_lines_are_lost(rt: HostRuntime) -> Result<(), Fail> {
+    let ran = released_in_silence(rt.alloc())?;
     assert_eq!(rt; ran.status, 28);
     assert_eq!(rt; ran.lines.as_str(), "");
     assert_eq!(rt; kept_by_run(&ran), Some(3));
     assert!(rt; ran.pending.is_none());
+    Ok(())
+}
+
+#[test]
+fn a_release_whose_lines_are_lost_is_there_afterwards(rt: HostRuntime) -> Result<(), Fail> {
+    let mut machine = released_in_silence(rt.alloc())?.machine;
     let [(before, _, _, after), _] = SHRUNK;
-    let (changed, is_after) = left(rt.alloc(), &mut ran.machine, before, after)?;
+    let (changed, is_after) = left(rt.alloc(), &mut machine, before, after)?;
     assert_eq!(rt; changed.as_slice(), [1].as_slice());
     assert!(rt; is_after);
-    let listed = ran.machine.run(rt.alloc(), Job::of_text(b" PRINT VTOC INDDNAME(VOL001)"))?;
-    assert_eq!(rt; listed.lines.as_str(), AFTER);
+    let (_, lines) = machine.ends(rt.alloc(), Job::of_text(b" PRINT VTOC INDDNAME(VOL001)"))?;
+    assert_eq!(rt; lines.as_str(), AFTER);
     Ok(())
 }

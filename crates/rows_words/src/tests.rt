@@ -18,8 +18,7 @@ const LISTING: Job<'static> = Job {
 
 /// Status and lines of a run over a volume without data sets whose pool fails at these calls.
 fn ends(alloc: Global, job: Job<'_>, failing: &[u64]) -> Result<(u8, String), RowsFault> {
-    let ran = Machine::failing(alloc, GIVEN, failing)?.run(alloc, job)?;
-    Ok((ran.status, ran.lines))
+    Machine::failing(alloc, GIVEN, failing)?.ends(alloc, job)
 }
 
 #[test]
@@ -54,20 +53,29 @@ fn format_words(room: &str) -> [&str; 6] {
 
 #[test]
 fn other_words_are_refused_with_one_line(rt: HostRuntime) -> Result<(), Fail> {
-    let cases: [&[&str]; 10] = [
+    let cases: [&[&str]; 6] = [
         &["--unit", "VOL001=a", "--journal", "b"],
         &["--journal", "b", "--unit", "VOL001=a", "--sysin", "c"],
         &["--unit", "VOL001", "--journal", "b", "--sysin", "c"],
         &["--unit", "VOL001=", "--journal", "b", "--sysin", "c"],
         &["--unit", "vol001=a", "--journal", "b", "--sysin", "c"],
         &["--unit", "VOL001=a", "--journal", "b", "--sysin", ""],
-        &format_words("2"),
-        &format_words("8192"),
-        &format_words("+64"),
-        &format_words(""),
     ];
     for words in cases {
         assert!(rt; is_refused(rt.alloc(), Job { words, ..LISTING })?, "{words:?}");
+    }
+    Ok(())
+}
+
+#[test]
+fn other_rooms_are_refused_with_one_line(rt: HostRuntime) -> Result<(), Fail> {
+    for room in ["2", "8192", "+64", ""] {
+        let words = format_words(room);
+        let job = Job {
+            words: &words,
+            ..LISTING
+        };
+        assert!(rt; is_refused(rt.alloc(), job)?, "{room}");
     }
     Ok(())
 }
@@ -118,24 +126,33 @@ fn each_failing_stream_has_its_status(rt: HostRuntime) -> Result<(), Fail> {
     Ok(())
 }
 
-/// Whether words are read as those of a text, and those of a journal with this room.
+/// Whether a run is of the journal `b` with this room, or without one of that journal and the text `c`.
+fn is_run_of(run: &Run, want: Option<u32>) -> bool {
+    match run {
+        Run::Jobs { journal, sysin, .. } => {
+            want.is_none() && journal.as_str() == "b" && sysin.as_str() == "c"
+        }
+        Run::Format { journal, room, .. } => want == Some(*room) && journal.as_str() == "b",
+        Run::Make { .. } => false,
+    }
+}
+
+/// Whether words are read as such a run.
 fn is_read_as(alloc: Global, words: &[&str], want: Option<u32>) -> Result<bool, RowsFault> {
     let mut list = Vec::new(alloc);
     for word in words {
         list.push(Word::copy_of(alloc, word)?)?;
     }
-    Ok(match read_words(alloc, &list) {
-        Ok(Run::Jobs { journal, sysin, .. }) => {
-            want.is_none() && journal.as_str() == "b" && sysin.as_str() == "c"
-        }
-        Ok(Run::Format { journal, room, .. }) => want == Some(room) && journal.as_str() == "b",
-        _ => false,
-    })
+    let Ok(run) = read_words(alloc, &list) else {
+        return Ok(false);
+    };
+    Ok(is_run_of(&run, want))
 }
 
 #[test]
 fn words_are_read_as_what_they_name(rt: HostRuntime) -> Result<(), Fail> {
     assert!(rt; is_read_as(rt.alloc(), &LISTING_WORDS, None)?);
-    assert!(rt; is_read_as(rt.alloc(), &format_words("064"), Some(64))?);
+    let words = format_words("064");
+    assert!(rt; is_read_as(rt.alloc(), &words, Some(64))?);
     Ok(())
 }
