@@ -9,10 +9,10 @@ mod say;
 use crate::descriptors::{NULL_DEVICE, take_closed};
 use crate::files::{add, named, open_alone, open_volumes};
 use crate::journal_file::{JournalFile, journal_file};
-use crate::say::{say, say_end, say_file, say_form, say_usage};
+use crate::say::{Outside, is_other_text, say, say_end, say_file, say_outside, say_usage};
 use adr_top::{Day, Ended, Run, UnitPaths, WordsFault, batch, read_words};
-use ckd_image::{Bytes, Word};
-use dasd_pool::{FilePool, FileSink, FileSource, MemorySource, Source};
+use ckd_image::{Bytes, NoMemory, Word};
+use dasd_pool::{FilePool, FileSink, FileSource, MemorySink, MemorySource, Sink, Source};
 use std::alloc::Global;
 use std::fs::{self, File};
 use std::process::ExitCode;
@@ -50,10 +50,20 @@ fn run<S: Source + Drop>(
     rt: &HostRuntime,
     words: &[Word],
     pool: FilePool<File>,
+    sysin: S,
+) -> Finished {
+    run_to(rt, words, pool, sysin, FileSink::new(io::writer(rt)))
+}
+
+/// Runs words over a pool and a text, and writes the lines to a sink.
+fn run_to<S: Source + Drop, O: Sink + Drop>(
+    rt: &HostRuntime,
+    words: &[Word],
+    pool: FilePool<File>,
     mut sysin: S,
+    mut out: O,
 ) -> Finished {
     let alloc = rt.alloc();
-    let mut out = FileSink::new(io::writer(rt));
     let mut held = no_text(alloc);
     let Ended { pool, status, .. } = batch(
         alloc,
@@ -87,11 +97,39 @@ fn run_jobs(
     add(rt, &mut pool, journal, open_alone(rt, journal))?;
     let text = named(rt, sysin, File::open(rt, sysin))?;
     let ended = run(rt, words, pool, FileSource::new(text));
-    if ended.status == 48 {
-        say_form(rt, words, sysin);
-    }
     say_end(rt, &ended, units, journal);
+    if ended.status == 48 {
+        say_outside(rt, outside(rt, words, ended.pool, sysin));
+        return Ok(48);
+    }
     Ok(ended.status)
+}
+
+/// What has a form that isn't built: the text, or else the volume where it isn't listed either.
+fn outside(rt: &HostRuntime, words: &[Word], pool: FilePool<File>, sysin: &str) -> Outside {
+    match is_other_text(rt, words, sysin) {
+        None => return Outside::Unknown,
+        Some(true) => return Outside::Text,
+        Some(false) => {}
+    }
+    match is_listed(rt, words, pool) {
+        Ok(true) => Outside::DataSet,
+        Ok(false) => Outside::Volume,
+        Err(NoMemory) => Outside::Unknown,
+    }
+}
+
+/// Whether the volume that words name is listed. The lines are for nobody.
+fn is_listed(rt: &HostRuntime, words: &[Word], pool: FilePool<File>) -> Result<bool, NoMemory> {
+    let alloc = rt.alloc();
+    let Some((name, _)) = words.get(1).and_then(|unit| unit.as_str().split_once('=')) else {
+        return Ok(false);
+    };
+    let text = format!(in alloc; " PRINT VTOC INDDNAME({name})")?;
+    let text = Bytes::from_slice(alloc, text.as_str().as_bytes())?;
+    let sysin = MemorySource::new(text, Vec::new(alloc));
+    let out = MemorySink::new(alloc, 0, Vec::new(alloc))?;
+    Ok(matches!(run_to(rt, words, pool, sysin, out).status, 0 | 28))
 }
 
 /// Makes a journal for volumes. A file that was made for a journal that is refused goes again, while this run still holds it.

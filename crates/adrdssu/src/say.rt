@@ -98,22 +98,31 @@ fn say_failure(rt: &HostRuntime, pool: &FilePool<File>, units: &UnitPaths, journ
     }
 }
 
+/// What of a run has a form that isn't built.
+#[derive(Clone, Copy)]
+pub enum Outside {
+    Text,
+    Volume,
+    DataSet,
+    Unknown,
+}
+
 /// Says what of a run has a form that isn't built.
-pub fn say_form(rt: &HostRuntime, words: &[Word], sysin: &str) {
+pub fn say_outside(rt: &HostRuntime, outside: Outside) {
+    let line = match outside {
+        Outside::Text => "the text is no statement that is built yet",
+        Outside::Volume => "the volume has a form that isn't built yet",
+        Outside::DataSet => "the data set has a form that isn't built yet",
+        Outside::Unknown => "the text, the volume or the data set has a form that isn't built yet",
+    };
+    say(rt, line);
+}
+
+/// Whether a text, as far as it can be read once more, is no statement that is built. None where it can't be read.
+pub fn is_other_text(rt: &HostRuntime, words: &[Word], sysin: &str) -> Option<bool> {
     let mut text = [0; LONG_TEXT];
-    match read_again(rt, sysin, &mut text) {
-        Ok(count) if asks_some(words, &text[..count]) => {
-            say(
-                rt,
-                "the volume, or the data set on it, has a form that isn't built yet",
-            );
-        }
-        Ok(_) => say(rt, "the text is no statement that is built yet"),
-        Err(_) => say(
-            rt,
-            "the text, the volume or the data set has a form that isn't built yet",
-        ),
-    }
+    let count = read_again(rt, sysin, &mut text).ok()?;
+    Some(!asks_some(words, &text[..count]))
 }
 
 /// Reads the front of a text once more, where it is a plain file, and says how much that is.
