@@ -35,7 +35,10 @@ fn is_moved_back(rt: &HostRuntime, from: TrackAt, slot: &[u8]) -> Result<bool, F
 
 #[test]
 fn tracks_are_written_and_moved_again(rt: HostRuntime) -> Result<(), Fail> {
-    for (head, slot) in [(0, label_slot(rt.alloc(), BASE)?), (1, vtoc_slot(rt.alloc(), GIVEN)?)] {
+    for (head, slot) in [
+        (0, label_slot(rt.alloc(), BASE)?),
+        (1, vtoc_slot(rt.alloc(), GIVEN)?),
+    ] {
         if slot.len() > 65_536 {
             continue;
         }

@@ -140,7 +140,10 @@ fn a_journal_is_made_again(rt: HostRuntime) -> Result<(), Fail> {
 fn a_pool_that_fails_makes_no_journal(rt: HostRuntime) -> Result<(), Fail> {
     let ran = format_on(rt.alloc(), Machine::failing(rt.alloc(), GIVEN, &[0])?, "64")?;
     assert_eq!(rt; ran.status, 16);
-    assert_eq!(rt; ran.lines.as_str(), "ADR516T (000) RUN ENDED WITH STATUS 16\n");
+    assert_eq!(rt;
+        ran.lines.as_str(),
+        "ADR516T (000) RUN ENDED WITH STATUS 16\n"
+    );
     Ok(())
 }
 

@@ -175,7 +175,10 @@ fn other_releases_change_nothing(rt: HostRuntime) -> Result<(), Fail> {
         assert_eq!(rt; ran.lines.as_str(), want);
         assert!(rt; ran.steps.is_empty());
         assert!(rt; ran.pending.is_none());
-        assert!(rt; ran.machine.holds(rt.alloc(), 0, &volume(rt.alloc(), given)?)?);
+        assert!(rt;
+            ran.machine
+                .holds(rt.alloc(), 0, &volume(rt.alloc(), given)?)?
+        );
     }
     Ok(())
 }

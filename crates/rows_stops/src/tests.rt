@@ -114,7 +114,10 @@ fn is_as_given(alloc: Global, machine: &mut Machine, head: u8) -> Result<bool, R
     };
     let is_bare = track.flag == 0 && track.r0 == [0; 8];
     Ok(match track.recs.as_slice() {
-        [rec] => is_bare && rec.r == 1 && rec.key.len() == 0 && rec.body.as_slice() == [head; 80].as_slice(),
+        [rec] => is_bare
+            && rec.r == 1
+            && rec.key.len() == 0
+            && rec.body.as_slice() == [head; 80].as_slice(),
         _ => false,
     })
 }
@@ -174,7 +177,14 @@ fn a_release_has_so_many_calls(rt: HostRuntime) -> Result<(), Fail> {
     assert_eq!(rt; ran.status, 0);
     assert_eq!(rt; ran.lines.as_str(), SEVEN_RELEASED);
     assert_eq!(rt; ran.machine.calls(), CALLS);
-    assert!(rt; is_left(rt.alloc(), &mut ran.machine, true, &make_volumes(rt.alloc())?)?);
+    assert!(rt;
+        is_left(
+            rt.alloc(),
+            &mut ran.machine,
+            true,
+            &make_volumes(rt.alloc())?
+        )?
+    );
     Ok(())
 }
 
@@ -187,8 +197,8 @@ fn is_put_right(
 ) -> Result<bool, RowsFault> {
     let stopped = machine.stopped(alloc, stop.calls, stop.tear)?;
     let mut ran = stopped.run(alloc, Job::of_text(PRINT))?;
-    let is_listed =
-        ran.lines.as_str() == stop.listing() && ran.machine.calls() == stop.listing_calls();
+    let is_listed = ran.lines.as_str() == stop.listing()
+        && ran.machine.calls() == stop.listing_calls();
     Ok(is_listed && is_left(alloc, &mut ran.machine, stop.is_after(), volumes)?)
 }
 
@@ -199,7 +209,10 @@ fn a_release_is_whole_wherever_it_stops(rt: HostRuntime) -> Result<(), Fail> {
     for calls in 0..=CALLS {
         for tear in TEARS {
             let stop = Stop { calls, tear };
-            assert!(rt; is_put_right(rt.alloc(), &machine, stop, &volumes)?, "{stop:?}");
+            assert!(rt;
+                is_put_right(rt.alloc(), &machine, stop, &volumes)?,
+                "{stop:?}"
+            );
         }
     }
     Ok(())

@@ -62,7 +62,10 @@ fn other_words_are_refused_with_one_line(rt: HostRuntime) -> Result<(), Fail> {
         &["--unit", "VOL001=a", "--journal", "b", "--sysin", ""],
     ];
     for words in cases {
-        assert!(rt; is_refused(rt.alloc(), Job { words, ..LISTING })?, "{words:?}");
+        assert!(rt;
+            is_refused(rt.alloc(), Job { words, ..LISTING })?,
+            "{words:?}"
+        );
     }
     Ok(())
 }
@@ -115,7 +118,12 @@ fn each_failing_stream_has_its_status(rt: HostRuntime) -> Result<(), Fail> {
             24,
             "ADR524T (000) RUN ENDED WITH STATUS 24: SYSIN\n",
         ),
-        (LISTING, &[0], 16, "ADR516T (000) RUN ENDED WITH STATUS 16\n"),
+        (
+            LISTING,
+            &[0],
+            16,
+            "ADR516T (000) RUN ENDED WITH STATUS 16\n",
+        ),
         (no_write, &[], 28, ""),
     ];
     for (job, failing, want, line) in cases {
