@@ -4,8 +4,6 @@ use Rattle.std.proofs.Common.{refl}
 use Rattle.std.specs.Fmt.{digits}
 use Rattle.ckd_image.specs.declared.device.Device.TheVariants.{D3390}
 use Rattle.ckd_image.specs.declared.track.TrackAt.{TrackAt}
-use Rattle.free_map.specs.declared.run.Run.{Run}
-use Rattle.vol_label.specs.declared.label.Label.{Label}
 use Rattle.volume_model.specs.Dscbs.{ExtentField}
 use Rattle.volume_model.specs.Directory.{DirectoryRow}
 use Rattle.volume_model.specs.Sound.{Volume}
