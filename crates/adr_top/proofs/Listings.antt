@@ -15,7 +15,7 @@ use Rattle.vol_label.specs.Serial.{IsSerialName}
 use Rattle.dscb_rec.specs.declared.field.Extent.{Extent}
 use Rattle.free_map.specs.declared.run.Run.{Run}
 use Rattle.free_map.specs.Free.{count_of, index_of}
-use Rattle.volume_model.specs.Dscbs.{ExtentField}
+use Rattle.volume_model.specs.declared.extent.ExtentField.{ExtentField}
 use Rattle.volume_model.specs.Directory.{DirectoryRow}
 use Rattle.volume_model.specs.Sound.{Volume}
 use Rattle.volume_model.specs.Space.{run_of}

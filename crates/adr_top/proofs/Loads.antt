@@ -13,7 +13,7 @@ use Rattle.vol_label.specs.declared.label.Label.{Label}
 use Rattle.vol_label.specs.Label.{IsLabel}
 use Rattle.vol_label.specs.Serial.{Spells}
 use Rattle.vol_label.proofs.OneLabel.{one_label, one_spelling}
-use Rattle.volume_model.specs.Check.{Vtoc}
+use Rattle.volume_model.specs.declared.place.Vtoc.{Vtoc}
 use Rattle.volume_model.specs.Sound.{Slots, Volume}
 use Rattle.volume_model.specs.Check.{extents_in}
 use Rattle.volume_model.specs.Space.{is_free, track_at}

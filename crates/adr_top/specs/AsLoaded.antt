@@ -6,7 +6,7 @@ use Rattle.ckd_image.specs.declared.device.Device.TheVariants.{D3390}
 use Rattle.vol_label.specs.Serial.{Spells}
 use Rattle.free_map.specs.declared.run.Run.{Run}
 use Rattle.free_map.specs.Free.{count_of, index_of}
-use Rattle.volume_model.specs.Dscbs.{ExtentField}
+use Rattle.volume_model.specs.declared.extent.ExtentField.{ExtentField}
 use Rattle.volume_model.specs.Space.{run_of}
 use Rattle.volume_model.specs.Sound.{Volume}
 use Rattle.vtoc_core.specs.declared.volume.Volume.{Volume as LoadedVolume}

@@ -5,9 +5,9 @@ use Rattle.dasd_pool.specs.Disk.{Image, Shape}
 use Rattle.dsn_filter.specs.declared.dsn.Dsn.{Dsn}
 use Rattle.vol_label.specs.declared.serial.Serial.{Serial}
 use Rattle.vol_label.specs.Serial.{Spells}
-use Rattle.volume_model.specs.Check.{Vtoc}
+use Rattle.volume_model.specs.declared.place.Vtoc.{Vtoc}
 use Rattle.volume_model.specs.Directory.{DirectoryRow}
-use Rattle.volume_model.specs.Dscbs.{ExtentField}
+use Rattle.volume_model.specs.declared.extent.ExtentField.{ExtentField}
 use Rattle.volume_model.specs.Pinned.{IsNameOf, kept_tracks}
 use Rattle.volume_model.specs.Reads.{IsDataSet}
 use Rattle.volume_model.specs.Sound.{Slots, Volume, IsVolume}

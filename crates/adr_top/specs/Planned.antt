@@ -4,7 +4,7 @@ use Rattle.ckd_image.specs.declared.track.Track.{Track}
 use Rattle.ckd_image.specs.Track.{IsTrackText}
 use Rattle.dsn_filter.specs.declared.dsn.Dsn.{Dsn}
 use Rattle.redo_core.specs.declared.entries.Entry.{Entry}
-use Rattle.volume_model.specs.Check.{Vtoc}
+use Rattle.volume_model.specs.declared.place.Vtoc.{Vtoc}
 use Rattle.volume_model.specs.Sound.{Slots, Volume}
 use Rattle.vtoc_core.specs.declared.volume.Row.{Row}
 use Rattle.vtoc_core.specs.Plain.{HasPlainVtoc}

@@ -7,7 +7,8 @@ use Rattle.ckd_image.specs.declared.device.Device.TheVariants.{D3390, D3380}
 use Rattle.vol_label.specs.CodePage.{ascii_of}
 use Rattle.dsn_filter.specs.declared.dsn.Dsn.{Dsn}
 use Rattle.dsn_filter.specs.Dsn.{text_of}
-use Rattle.volume_model.specs.Dscbs.{ExtentField, number_at}
+use Rattle.volume_model.specs.declared.extent.ExtentField.{ExtentField}
+use Rattle.volume_model.specs.Dscbs.{number_at}
 use Rattle.volume_model.specs.Directory.{DirectoryRow}
 use Rattle.free_map.specs.declared.run.Run.{Run}
 use Rattle.free_map.specs.Free.{count_of, index_of}

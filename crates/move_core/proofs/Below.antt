@@ -9,10 +9,13 @@ use Rattle.ckd_image.specs.declared.track.Cchhr.{Cchhr}
 use Rattle.free_map.specs.Runs.{Holds, InRuns}
 use Rattle.free_map.proofs.Gaps.{in_append}
 use Rattle.volume_model.specs.declared.format.Format.{Format}
-use Rattle.volume_model.specs.Dscbs.{format_of, is_f1, is_f3, ExtentField, extents_of, pointer_in}
-use Rattle.volume_model.specs.Directory.{Placed, DirectoryRow, named_record, named_place, record_at, same_place, if_format, next_format_3, extended, chain_of, row_of, rows_of, AreInOrder}
+use Rattle.volume_model.specs.declared.extent.ExtentField.{ExtentField}
+use Rattle.volume_model.specs.Dscbs.{format_of, is_f1, is_f3, extents_of, pointer_in}
+use Rattle.volume_model.specs.declared.place.Placed.{Placed}
+use Rattle.volume_model.specs.Directory.{DirectoryRow, named_record, named_place, record_at, same_place, if_format, next_format_3, extended, chain_of, row_of, rows_of, AreInOrder}
 use Rattle.volume_model.specs.Space.{track_at, is_run, run_of}
-use Rattle.volume_model.specs.Check.{Vtoc, breach, records_of, bad_ranges, breaches_of}
+use Rattle.volume_model.specs.declared.place.Vtoc.{Vtoc}
+use Rattle.volume_model.specs.Check.{breach, records_of, bad_ranges, breaches_of}
 use Rattle.volume_model.specs.Sound.{Slots}
 use Rattle.volume_model.specs.Unit.{Extent, DataSet, run_in, runs_of_sets}
 use Rattle.volume_model.specs.Reads.{extent_in, IsDataSet, AreDataSets}

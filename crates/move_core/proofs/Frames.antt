@@ -22,7 +22,8 @@ use Rattle.volume_model.specs.declared.rule.VtocRule.TheVariants as rules
 use Rattle.volume_model.specs.Dscbs.{numbers_below, extent_at}
 use Rattle.volume_model.specs.Directory.{DirectoryRow}
 use Rattle.volume_model.specs.Space.{track_at, run_of, end_of}
-use Rattle.volume_model.specs.Check.{Vtoc, Breach}
+use Rattle.volume_model.specs.declared.place.Vtoc.{Vtoc}
+use Rattle.volume_model.specs.declared.place.Breach.{Breach}
 use Rattle.volume_model.specs.Sound.{Slots, IsTrackReading, IsReading, IsFormat4, IsFirstRuleBroken, IsVtoc, IsCheckFault, IsVolume, limit_of}
 use Rattle.volume_model.specs.Unit.{Text, Extent, DataSet, OnlineVolume, UnitModel, online, offline, run_in, tracks_in, tracks_of, runs_of_sets}
 use Rattle.volume_model.proofs.Blocks.{blocks_same}

@@ -16,7 +16,8 @@ use Rattle.redo_core.proofs.Heads.{one_device, no_head}
 use Rattle.volume_model.specs.declared.why.Why.TheVariants as whys
 use Rattle.volume_model.specs.declared.rule.VtocRule.{VtocRule}
 use Rattle.volume_model.specs.declared.rule.VtocRule.TheVariants as rules
-use Rattle.volume_model.specs.Check.{Breach, breaches_of}
+use Rattle.volume_model.specs.declared.place.Breach.{Breach}
+use Rattle.volume_model.specs.Check.{breaches_of}
 use Rattle.volume_model.specs.Space.{track_at}
 use Rattle.volume_model.specs.Sound.{Slots, IsFormat4, HasGeometry, HasVtocExtent, IsFirstRuleBroken, IsCheckFault, Volume, IsVolume}
 use Rattle.volume_model.specs.Unit.{OnlineVolume, UnitModel, online, offline}

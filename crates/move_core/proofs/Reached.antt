@@ -7,9 +7,13 @@ use Rattle.std.proofs.lemmas.List.Elements.{All-nil, All-from_recursion, recursi
 use Rattle.std.proofs.lemmas.Option.{same_Some}
 use Rattle.volume_model.specs.declared.format.Format.{Format}
 use Rattle.volume_model.specs.declared.format.Format.TheVariants.{Broken, Free, F1, F3, F4, F5}
-use Rattle.volume_model.specs.Dscbs.{format_of, is_f1, is_f3, ExtentField, extent_at, extent_offsets, extents_of}
-use Rattle.volume_model.specs.Directory.{Place, Placed, placed_from, placed_in, same_place, record_at, chain_of, row_of, rows_of}
-use Rattle.volume_model.specs.Check.{Vtoc, breach, records_of, reached_3s, is_among, bad_pointers, breaches_of}
+use Rattle.volume_model.specs.declared.extent.ExtentField.{ExtentField}
+use Rattle.volume_model.specs.Dscbs.{format_of, is_f1, is_f3, extent_at, extent_offsets, extents_of}
+use Rattle.volume_model.specs.declared.place.Place.{Place}
+use Rattle.volume_model.specs.declared.place.Placed.{Placed}
+use Rattle.volume_model.specs.Directory.{placed_from, placed_in, same_place, record_at, chain_of, row_of, rows_of}
+use Rattle.volume_model.specs.declared.place.Vtoc.{Vtoc}
+use Rattle.volume_model.specs.Check.{breach, records_of, reached_3s, is_among, bad_pointers, breaches_of}
 use Rattle.volume_model.specs.declared.rule.VtocRule.TheVariants as rules
 use Rattle.volume_model.proofs.Filters.{filter_skip, filter_keep}
 use Rattle.move_core.proofs.Below.{filter_nil, map_nil, nil_parts, weaker, flat_all, chain_all, RecordHas, RowHas}

@@ -19,7 +19,8 @@ use Rattle.redo_core.specs.Reading.{journal_of, set_block, fills_of, Reading}
 use Rattle.redo_core.specs.Faults.{HasSerial}
 use Rattle.redo_core.specs.Phases.{IsAtRest}
 use Rattle.redo_core.proofs.Crash.{closed_overlay, other_block}
-use Rattle.volume_model.specs.Check.{Vtoc, records_of}
+use Rattle.volume_model.specs.declared.place.Vtoc.{Vtoc}
+use Rattle.volume_model.specs.Check.{records_of}
 use Rattle.volume_model.specs.Directory.{DirectoryRow, AreInOrder, rows_of}
 use Rattle.volume_model.specs.Pinned.{IsNameOf}
 use Rattle.volume_model.specs.Sound.{Slots, IsVtoc, Volume, IsVolume}

@@ -9,10 +9,13 @@ use Rattle.ckd_image.specs.Device.{heads_of}
 use Rattle.free_map.specs.declared.run.Run.{Run}
 use Rattle.free_map.specs.Runs.{Holds, InRuns}
 use Rattle.free_map.proofs.Gaps.{in_append, append_left, append_right}
-use Rattle.volume_model.specs.Dscbs.{ExtentField, extents_of}
-use Rattle.volume_model.specs.Directory.{Placed, DirectoryRow, rows_of}
+use Rattle.volume_model.specs.declared.extent.ExtentField.{ExtentField}
+use Rattle.volume_model.specs.Dscbs.{extents_of}
+use Rattle.volume_model.specs.declared.place.Placed.{Placed}
+use Rattle.volume_model.specs.Directory.{DirectoryRow, rows_of}
 use Rattle.volume_model.specs.Space.{end_of, has_track, overlap, is_run, run_of, runs_of, all_extents, greatest_end, ceil_div, is_used, is_free}
-use Rattle.volume_model.specs.Check.{Vtoc, breach, records_of, own_runs, track_0, any_overlap, overlap_within, bad_overlaps, extents_in, entries_in, usable_in, breaches_of}
+use Rattle.volume_model.specs.declared.place.Vtoc.{Vtoc}
+use Rattle.volume_model.specs.Check.{breach, records_of, own_runs, track_0, any_overlap, overlap_within, bad_overlaps, extents_in, entries_in, usable_in, breaches_of}
 use Rattle.volume_model.specs.declared.rule.VtocRule.TheVariants as rules
 use Rattle.volume_model.specs.Sound.{Slots}
 use Rattle.volume_model.specs.Unit.{Extent, DataSet, OnlineVolume, run_in, runs_of_sets, IsFreeTrack, AreFreeRunsOf}

@@ -10,7 +10,8 @@ use Rattle.redo_core.specs.declared.control.Control.{Control}
 use Rattle.redo_core.specs.declared.control.Control.TheVariants.{Idle}
 use Rattle.redo_core.specs.Reading.{journal_of, fills_of}
 use Rattle.redo_core.specs.Phases.{IsAtRest}
-use Rattle.volume_model.specs.Check.{Vtoc, records_of}
+use Rattle.volume_model.specs.declared.place.Vtoc.{Vtoc}
+use Rattle.volume_model.specs.Check.{records_of}
 use Rattle.volume_model.specs.Directory.{DirectoryRow, AreInOrder, rows_of}
 use Rattle.volume_model.specs.Pinned.{IsNameOf, IsOfTracks, used_tracks, kept_tracks}
 use Rattle.volume_model.specs.Sound.{Slots, Volume, IsVolume}

@@ -4,7 +4,7 @@ use Rattle.std.proofs.Common.{refl}
 use Rattle.std.specs.Fmt.{digits}
 use Rattle.ckd_image.specs.declared.device.Device.TheVariants.{D3390}
 use Rattle.ckd_image.specs.declared.track.TrackAt.{TrackAt}
-use Rattle.volume_model.specs.Dscbs.{ExtentField}
+use Rattle.volume_model.specs.declared.extent.ExtentField.{ExtentField}
 use Rattle.volume_model.specs.Directory.{DirectoryRow}
 use Rattle.volume_model.specs.Sound.{Volume}
 use Rattle.adr_top.specs.Print.{row_lines, printed_run}

@@ -7,7 +7,9 @@ use Rattle.volume_model.specs.Dscbs.{numbers_below}
 use Rattle.volume_model.specs.Directory.{rows_of}
 use Rattle.volume_model.specs.Space.{is_free, track_at, usable_of}
 use Rattle.free_map.specs.Free.{index_of}
-use Rattle.volume_model.specs.Check.{Vtoc, Breach, breaches_of, records_of, usable_in, extents_in}
+use Rattle.volume_model.specs.declared.place.Breach.{Breach}
+use Rattle.volume_model.specs.declared.place.Vtoc.{Vtoc}
+use Rattle.volume_model.specs.Check.{breaches_of, records_of, usable_in, extents_in}
 use Rattle.volume_model.specs.Pinned.{whole_tracks}
 use Rattle.volume_model.specs.Sound.{is_valid}
 

@@ -5,26 +5,12 @@ use Rattle.volume_model.specs.declared.rule.VtocRule.{VtocRule}
 use Rattle.volume_model.specs.declared.rule.VtocRule.TheVariants as rules
 use Rattle.volume_model.specs.Rules.{number_of}
 use Rattle.volume_model.specs.Dscbs.{numbers_below, format_of, is_broken, is_f1, is_f3, is_f4, is_f5, extents_of, pointer_in}
-use Rattle.volume_model.specs.Directory.{Place, Placed, placed_in, named_record, same_place, chain_of}
+use Rattle.volume_model.specs.declared.place.Placed.{Placed}
+use Rattle.volume_model.specs.declared.place.Breach.{Breach}
+use Rattle.volume_model.specs.declared.place.Vtoc.{Vtoc}
+use Rattle.volume_model.specs.Directory.{placed_in, named_record, same_place, chain_of}
 use Rattle.free_map.specs.declared.run.Run.{Run}
 use Rattle.volume_model.specs.Space.{end_of, overlap, is_run, runs_of, all_extents, all_entries, usable_of, is_used, has_track}
-
--- What the rules from the fourth on look at: the heads of a cylinder, the end of the volume, the place of the format 4,
--- whether format 5 is valid, the alternate tracks, the run of the VTOC, and for each of its tracks the DSCBs, or none where
--- the track is no VTOC track.
-pub record Vtoc : Type 0 where
-  pub heads : ℕ
-  pub limit : ℕ
-  pub format_4 : Place
-  pub valid : Bool
-  pub alternates : ℕ
-  pub run : Run
-  pub tracks : List (Option (List (List ℕ)))
-
--- a place that breaks a rule
-pub record Breach : Type 0 where
-  pub place : Place
-  pub rule : VtocRule
 
 abbrev pub breach : VtocRule → Placed → Breach
 breach rule placed = record { place = placed.place; rule = rule }
@@ -223,7 +209,16 @@ IsNotAfter a b =
     ⊎ ((a.place.track ≡ b.place.track) × (a.place.record_number < b.place.record_number))
     ⊎ ((a.place.track ≡ b.place.track) × (a.place.record_number ≡ b.place.record_number) × (number_of a.rule ≤ number_of b.rule))
 
+-- a breach is one of these, and the lowest
+pub record IsLowest (breaches : List Breach) (told : Breach) : Type 0 where
+  pub is_there : Contains breaches told
+  pub lowest : All (IsNotAfter told) breaches
+
+-- the lowest of these breaches, or none where there are none
+abbrev pub IsLowestOf : List Breach → Option Breach → Type 0
+IsLowestOf breaches None = breaches ≡ []
+IsLowestOf breaches (Some told) = IsLowest breaches told
+
 -- the breach that is told: the lowest of all
-pub record IsLowestBreach (vtoc : Vtoc) (told : Breach) : Type 0 where
-  pub is_there : Contains (breaches_of vtoc) told
-  pub lowest : All (IsNotAfter told) (breaches_of vtoc)
+abbrev pub IsLowestBreach : Vtoc → Breach → Type 0
+IsLowestBreach vtoc told = IsLowest (breaches_of vtoc) told

@@ -6,17 +6,10 @@ use Rattle.std.specs.Ordering.{is_lt, nat_cmp}
 use Rattle.std.specs.Cmp.Lexicographic.{slice_cmp}
 use Rattle.ckd_image.specs.declared.track.Cchhr.{Cchhr}
 use Rattle.volume_model.specs.declared.format.Format.{Format}
-use Rattle.volume_model.specs.Dscbs.{format_of, is_f1, is_f3, ExtentField, extents_of, pointer_in}
-
--- where a record of the VTOC stands: a track by its number, and the record's number there
-pub record Place : Type 0 where
-  pub track : ℕ
-  pub record_number : ℕ
-
--- a record of the VTOC: its place and its 140 bytes
-pub record Placed : Type 0 where
-  pub place : Place
-  pub bytes : List ℕ
+use Rattle.volume_model.specs.declared.place.Place.{Place}
+use Rattle.volume_model.specs.declared.place.Placed.{Placed}
+use Rattle.volume_model.specs.declared.extent.ExtentField.{ExtentField}
+use Rattle.volume_model.specs.Dscbs.{format_of, is_f1, is_f3, extents_of, pointer_in}
 
 -- the records of one track, numbered from a number on
 abbrev pub placed_from : ℕ → ℕ → List (List ℕ) → List Placed

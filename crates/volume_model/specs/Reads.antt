@@ -12,11 +12,13 @@ use Rattle.vol_label.specs.declared.label.Label.{Label}
 use Rattle.vol_label.specs.Label.{IsLabel, IsLabelFault}
 use Rattle.free_map.specs.Runs.{Holds, InRuns}
 use Rattle.volume_model.specs.declared.why.Why.TheVariants as whys
-use Rattle.volume_model.specs.Dscbs.{ExtentField, numbers_below}
+use Rattle.volume_model.specs.declared.extent.ExtentField.{ExtentField}
+use Rattle.volume_model.specs.declared.place.Breach.{Breach}
+use Rattle.volume_model.specs.Dscbs.{numbers_below}
 use Rattle.volume_model.specs.Directory.{DirectoryRow}
 use Rattle.volume_model.specs.Rules.{number_of}
 use Rattle.volume_model.specs.Space.{run_of, track_at}
-use Rattle.volume_model.specs.Check.{Breach, records_of, fives_of}
+use Rattle.volume_model.specs.Check.{records_of, fives_of}
 use Rattle.volume_model.specs.Sound.{Slots, IsCheckFault, Volume, IsVolume}
 use Rattle.volume_model.specs.Unit.{Text, good, bad, Extent, DataSet, OnlineVolume, UnitModel, online, offline, tracks_of, runs_of_sets}
 

@@ -19,7 +19,9 @@ use Rattle.volume_model.specs.Directory.{named_place, DirectoryRow, AreInOrder, 
 use Rattle.free_map.specs.declared.run.Run.{Run}
 use Rattle.free_map.specs.Runs.{AreMaximalRuns}
 use Rattle.volume_model.specs.Space.{has_track, track_at, is_run, run_of, is_free}
-use Rattle.volume_model.specs.Check.{Vtoc, Breach, records_of, extents_in, usable_in, breaches_of, IsLowestBreach}
+use Rattle.volume_model.specs.declared.place.Breach.{Breach}
+use Rattle.volume_model.specs.declared.place.Vtoc.{Vtoc}
+use Rattle.volume_model.specs.Check.{records_of, extents_in, usable_in, breaches_of, IsLowestBreach}
 
 -- the slots of a unit: of each track, its bytes
 abbrev pub Slots : Type 0

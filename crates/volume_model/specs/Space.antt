@@ -2,8 +2,9 @@
 use Rattle.std.specs.Prelude.{ℕ, ◌+◌, ◌-◌, ◌*◌, ◌/◌, max, Bool, ◌==◌, ◌&&◌, ◌||◌, not, nat_lt, nat_le, if◌then◌else◌, List, ◌∷◌, ◌++◌, map, filter, fold}
 use Rattle.std.specs.List.{flat_map, list_any}
 use Rattle.ckd_image.specs.declared.track.TrackAt.{TrackAt}
-use Rattle.volume_model.specs.Dscbs.{format_of, is_f5, ExtentField, extents_of, entry_offsets, number_at}
-use Rattle.volume_model.specs.Directory.{Placed}
+use Rattle.volume_model.specs.declared.extent.ExtentField.{ExtentField}
+use Rattle.volume_model.specs.declared.place.Placed.{Placed}
+use Rattle.volume_model.specs.Dscbs.{format_of, is_f5, extents_of, entry_offsets, number_at}
 use Rattle.free_map.specs.declared.run.Run.{Run}
 use Rattle.std.specs.Prelude.{slice_index}
 

@@ -6,7 +6,8 @@ use Rattle.ckd_image.specs.Bytes.{Begins}
 use Rattle.dscb_rec.specs.declared.field.Extent.{Extent}
 use Rattle.dscb_rec.specs.Field.{extent_text, IsExtent}
 use Rattle.volume_model.specs.declared.format.Format.TheVariants.{F1}
-use Rattle.volume_model.specs.Dscbs.{format_of, ExtentField, extent_at, extent_offsets, extents_of, number_at}
+use Rattle.volume_model.specs.declared.extent.ExtentField.{ExtentField}
+use Rattle.volume_model.specs.Dscbs.{format_of, extent_at, extent_offsets, extents_of, number_at}
 use Rattle.vtoc_core.specs.Loaded.{field_of}
 
 -- ---- an extent that is spelled at an offset

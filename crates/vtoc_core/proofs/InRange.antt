@@ -26,10 +26,14 @@ use Rattle.vol_label.specs.declared.label.Label.{Label}
 use Rattle.volume_model.specs.declared.format.Format.{Format}
 use Rattle.volume_model.specs.declared.format.Format.TheVariants.{Free, F4, F5}
 use Rattle.volume_model.specs.declared.rule.VtocRule.TheVariants as rules
-use Rattle.volume_model.specs.Dscbs.{format_of, is_f1, is_f3, ExtentField, extents_of, pointer_in}
-use Rattle.volume_model.specs.Directory.{Placed, DirectoryRow, Place, placed_in, same_place, named_record, chain_of, extended, if_format, row_of, rows_of}
+use Rattle.volume_model.specs.declared.extent.ExtentField.{ExtentField}
+use Rattle.volume_model.specs.Dscbs.{format_of, is_f1, is_f3, extents_of, pointer_in}
+use Rattle.volume_model.specs.declared.place.Placed.{Placed}
+use Rattle.volume_model.specs.declared.place.Place.{Place}
+use Rattle.volume_model.specs.Directory.{DirectoryRow, placed_in, same_place, named_record, chain_of, extended, if_format, row_of, rows_of}
 use Rattle.volume_model.specs.Space.{track_at, has_track, is_run, run_of}
-use Rattle.volume_model.specs.Check.{Vtoc, breach, records_of, bad_ranges, breaches_of}
+use Rattle.volume_model.specs.declared.place.Vtoc.{Vtoc}
+use Rattle.volume_model.specs.Check.{breach, records_of, bad_ranges, breaches_of}
 use Rattle.volume_model.specs.Sound.{Slots, dscb_of, IsTrackReading}
 use Rattle.volume_model.proofs.Filters.{filter_skip, filter_keep}
 use Rattle.vtoc_core.specs.declared.volume.Row.{Row}

@@ -16,7 +16,7 @@ use Rattle.vol_label.specs.declared.label.Label.{Label}
 use Rattle.vol_label.specs.Label.{IsInside}
 use Rattle.volume_model.specs.Directory.{DirectoryRow, AreInOrder}
 use Rattle.volume_model.specs.Space.{track_at, entries_of, is_free}
-use Rattle.volume_model.specs.Check.{Vtoc}
+use Rattle.volume_model.specs.declared.place.Vtoc.{Vtoc}
 use Rattle.volume_model.specs.Sound.{Slots, dscb_of}
 use Rattle.vtoc_core.specs.declared.volume.Row.{Row}
 use Rattle.vtoc_core.specs.declared.volume.Volume.{Volume}

@@ -7,11 +7,16 @@ use Rattle.ckd_image.specs.declared.track.Cchhr.{Cchhr}
 use Rattle.free_map.specs.declared.run.Run.{Run}
 use Rattle.volume_model.specs.declared.format.Format.{Format}
 use Rattle.volume_model.specs.declared.format.Format.TheVariants.{Broken, Free, F1, F3, F4, F5}
-use Rattle.volume_model.specs.Dscbs.{format_of, is_broken, is_f1, is_f3, is_f4, is_f5, ExtentField, extent_at, extents_of, extent_offsets, pointer_in}
-use Rattle.volume_model.specs.Directory.{Place, Placed, same_place, row_of, rows_of, named_record, chain_of, extended, if_format}
+use Rattle.volume_model.specs.declared.extent.ExtentField.{ExtentField}
+use Rattle.volume_model.specs.Dscbs.{format_of, is_broken, is_f1, is_f3, is_f4, is_f5, extent_at, extents_of, extent_offsets, pointer_in}
+use Rattle.volume_model.specs.declared.place.Place.{Place}
+use Rattle.volume_model.specs.declared.place.Placed.{Placed}
+use Rattle.volume_model.specs.Directory.{same_place, row_of, rows_of, named_record, chain_of, extended, if_format}
 use Rattle.volume_model.specs.Space.{is_run, run_of, entries_of, runs_of, usable_of, overlap}
 use Rattle.volume_model.specs.declared.rule.VtocRule.TheVariants as rules
-use Rattle.volume_model.specs.Check.{Vtoc, Breach, breach, breaches_of, bad_dscbs, bad_names, bad_pointers, bad_fives, bad_ranges, bad_overlaps, bad_free, off_chain, extents_in, entries_in, usable_in, states_free, named_by, points, names_3, same_target, same_bytes, is_among, reached_3s, any_overlap, track_0, goes_on, overlap_within, later_ones}
+use Rattle.volume_model.specs.declared.place.Vtoc.{Vtoc}
+use Rattle.volume_model.specs.declared.place.Breach.{Breach}
+use Rattle.volume_model.specs.Check.{breach, breaches_of, bad_dscbs, bad_names, bad_pointers, bad_fives, bad_ranges, bad_overlaps, bad_free, off_chain, extents_in, entries_in, usable_in, states_free, named_by, points, names_3, same_target, same_bytes, is_among, reached_3s, any_overlap, track_0, goes_on, overlap_within, later_ones}
 use Rattle.volume_model.proofs.Filters.{filter_none}
 use Rattle.vtoc_core.specs.Sets.{any_later, same_name, has_bad_range, runs_in, usable_with, AreSound, row_for}
 use Rattle.vtoc_core.proofs.Placed.{placed_on, at_place, bytes_of_passed}

@@ -2,7 +2,8 @@
 use Rattle.std.proofs.Common.{◌≡◌, ℕ, suc, ◌+◌, ◌<◌, List, [], ◌∷◌, ◌++◌, length, map, filter, get_or, Bool, true, false, cond, refl, ap, arith}
 use Rattle.std.specs.List.{AllByRecursion}
 use Rattle.ckd_image.specs.declared.track.Rec.{Rec}
-use Rattle.volume_model.specs.Directory.{Placed, placed_from}
+use Rattle.volume_model.specs.declared.place.Placed.{Placed}
+use Rattle.volume_model.specs.Directory.{placed_from}
 use Rattle.volume_model.specs.Sound.{dscb_of}
 
 -- the records are numbered from a number on

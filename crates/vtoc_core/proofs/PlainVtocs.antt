@@ -17,10 +17,13 @@ use Rattle.free_map.specs.declared.run.Run.{Run}
 use Rattle.vol_label.specs.Label.{IsInside}
 use Rattle.volume_model.specs.declared.format.Format.{Format}
 use Rattle.volume_model.specs.declared.format.Format.TheVariants.{Free, F4, F5}
-use Rattle.volume_model.specs.Dscbs.{format_of, is_f1, is_f4, is_f5, number_at, extent_at, ExtentField, pointer_in}
-use Rattle.volume_model.specs.Directory.{Placed, same_place}
+use Rattle.volume_model.specs.declared.extent.ExtentField.{ExtentField}
+use Rattle.volume_model.specs.Dscbs.{format_of, is_f1, is_f4, is_f5, number_at, extent_at, pointer_in}
+use Rattle.volume_model.specs.declared.place.Placed.{Placed}
+use Rattle.volume_model.specs.Directory.{same_place}
 use Rattle.volume_model.specs.Space.{has_track, track_at, is_run, run_of, entries_of}
-use Rattle.volume_model.specs.Check.{Vtoc, breaches_of, records_of}
+use Rattle.volume_model.specs.declared.place.Vtoc.{Vtoc}
+use Rattle.volume_model.specs.Check.{breaches_of, records_of}
 use Rattle.volume_model.specs.Sound.{dscb_of, IsVtocTrack, IsTrackReading, IsVtoc}
 use Rattle.vtoc_core.specs.Plain.{IsPlainFormat1, IsPlainRecord, IsPlainVtoc, HasPlainVtoc}
 use Rattle.vtoc_core.specs.PlainTrack.{AreDscbRecords, IsPlainFormat4, IsPlainRec, IsPlainTrack, end_in, sets_in, vtoc_run}

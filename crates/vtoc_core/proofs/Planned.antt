@@ -12,7 +12,8 @@ use Rattle.dscb_rec.specs.declared.field.Extent.{Extent}
 use Rattle.dscb_rec.specs.Field.{IsExtent}
 use Rattle.free_map.specs.declared.run.Run.{Run}
 use Rattle.volume_model.specs.declared.format.Format.TheVariants.{F1, F5}
-use Rattle.volume_model.specs.Dscbs.{ExtentField, extents_of, format_of, is_f1, is_f5}
+use Rattle.volume_model.specs.declared.extent.ExtentField.{ExtentField}
+use Rattle.volume_model.specs.Dscbs.{extents_of, format_of, is_f1, is_f5}
 use Rattle.volume_model.specs.Space.{end_of, track_at, is_run, run_of}
 use Rattle.volume_model.specs.Check.{same_bytes, track_0}
 use Rattle.volume_model.specs.Sound.{dscb_of}

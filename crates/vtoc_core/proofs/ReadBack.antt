@@ -11,7 +11,7 @@ use Rattle.free_map.specs.declared.run.Run.{Run}
 use Rattle.vol_label.specs.Label.{IsInside}
 use Rattle.volume_model.specs.Dscbs.{extent_at}
 use Rattle.volume_model.specs.Space.{track_at, run_of, entries_of}
-use Rattle.volume_model.specs.Check.{Vtoc}
+use Rattle.volume_model.specs.declared.place.Vtoc.{Vtoc}
 use Rattle.volume_model.specs.Sound.{dscb_of, IsTrackReading}
 use Rattle.vtoc_core.specs.Plain.{HasPlainVtoc}
 use Rattle.vtoc_core.specs.PlainTrack.{IsPlainTrack, end_in, sets_in, vtoc_run}

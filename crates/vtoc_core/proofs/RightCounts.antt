@@ -8,7 +8,7 @@ use Rattle.ckd_image.specs.declared.track.Cchhr.{Cchhr}
 use Rattle.volume_model.specs.declared.format.Format.{Format}
 use Rattle.volume_model.specs.declared.format.Format.TheVariants.{F4}
 use Rattle.volume_model.specs.Dscbs.{format_of, is_f1}
-use Rattle.volume_model.specs.Directory.{Placed}
+use Rattle.volume_model.specs.declared.place.Placed.{Placed}
 use Rattle.volume_model.specs.Space.{track_at}
 use Rattle.volume_model.specs.Sound.{dscb_of}
 use Rattle.vtoc_core.specs.declared.plan.Written.{Written}

@@ -6,7 +6,8 @@ use Rattle.std.proofs.lemmas.Bool.Decides.{nat_tests}
 use Rattle.std.proofs.lemmas.List.{at_drop_more}
 use Rattle.std.proofs.lemmas.List.Elements.{All-from_recursion}
 use Rattle.free_map.specs.declared.run.Run.{Run}
-use Rattle.volume_model.specs.Dscbs.{ExtentField, extents_of}
+use Rattle.volume_model.specs.declared.extent.ExtentField.{ExtentField}
+use Rattle.volume_model.specs.Dscbs.{extents_of}
 use Rattle.volume_model.specs.Space.{end_of, track_at, is_run, run_of, runs_of}
 use Rattle.vtoc_core.specs.Sets.{has_bad_range, runs_in}
 

@@ -15,10 +15,12 @@ use Rattle.free_map.specs.declared.run.Run.{Run}
 use Rattle.free_map.specs.Runs.{AreMaximalRuns}
 use Rattle.vol_label.specs.declared.label.Label.{Label}
 use Rattle.vol_label.specs.Label.{IsInside}
-use Rattle.volume_model.specs.Dscbs.{ExtentField, extents_of, format_of, is_f1}
+use Rattle.volume_model.specs.declared.extent.ExtentField.{ExtentField}
+use Rattle.volume_model.specs.Dscbs.{extents_of, format_of, is_f1}
 use Rattle.volume_model.specs.Directory.{DirectoryRow, rows_of}
 use Rattle.volume_model.specs.Space.{track_at, is_run, run_of, is_free}
-use Rattle.volume_model.specs.Check.{Vtoc, records_of, usable_in, same_bytes}
+use Rattle.volume_model.specs.declared.place.Vtoc.{Vtoc}
+use Rattle.volume_model.specs.Check.{records_of, usable_in, same_bytes}
 use Rattle.volume_model.specs.Reads.{fields_of_4}
 use Rattle.volume_model.specs.Sound.{Slots, dscb_of}
 use Rattle.vtoc_core.specs.declared.places.Places.{Places}

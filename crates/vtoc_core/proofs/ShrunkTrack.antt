@@ -6,7 +6,8 @@ use Rattle.ckd_image.specs.declared.track.Rec.{Rec}
 use Rattle.ckd_image.specs.declared.track.Cchhr.{Cchhr}
 use Rattle.volume_model.specs.declared.format.Format.{Format}
 use Rattle.volume_model.specs.declared.format.Format.TheVariants.{F1, F4, F5}
-use Rattle.volume_model.specs.Dscbs.{format_of, is_f5, ExtentField}
+use Rattle.volume_model.specs.declared.extent.ExtentField.{ExtentField}
+use Rattle.volume_model.specs.Dscbs.{format_of, is_f5}
 use Rattle.volume_model.specs.Space.{track_at}
 use Rattle.volume_model.specs.Sound.{dscb_of}
 use Rattle.vtoc_core.specs.PlainTrack.{IsPlainFormat4, IsPlainTrack, sets_in, end_in}

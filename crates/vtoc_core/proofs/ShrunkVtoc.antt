@@ -12,10 +12,13 @@ use Rattle.ckd_image.specs.declared.track.Cchhr.{Cchhr}
 use Rattle.free_map.specs.declared.run.Run.{Run}
 use Rattle.free_map.specs.Runs.{AreMaximalRuns}
 use Rattle.volume_model.specs.declared.format.Format.TheVariants.{F1}
-use Rattle.volume_model.specs.Dscbs.{format_of, is_f1, is_f5, ExtentField, extents_of}
-use Rattle.volume_model.specs.Directory.{Placed, DirectoryRow, AreInOrder, rows_of}
+use Rattle.volume_model.specs.declared.extent.ExtentField.{ExtentField}
+use Rattle.volume_model.specs.Dscbs.{format_of, is_f1, is_f5, extents_of}
+use Rattle.volume_model.specs.declared.place.Placed.{Placed}
+use Rattle.volume_model.specs.Directory.{DirectoryRow, AreInOrder, rows_of}
 use Rattle.volume_model.specs.Space.{end_of, run_of, is_run, is_free, track_at, entries_of, greatest_end}
-use Rattle.volume_model.specs.Check.{Vtoc, records_of, fives_of, extents_in, usable_in}
+use Rattle.volume_model.specs.declared.place.Vtoc.{Vtoc}
+use Rattle.volume_model.specs.Check.{records_of, fives_of, extents_in, usable_in}
 use Rattle.volume_model.specs.Reads.{fields_of_1}
 use Rattle.volume_model.specs.Sound.{dscb_of}
 use Rattle.vtoc_core.specs.PlainTrack.{IsPlainTrack, sets_in, end_in, vtoc_run}

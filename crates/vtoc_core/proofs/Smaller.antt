@@ -7,7 +7,8 @@ use Rattle.std.proofs.lemmas.List.Folds.{list_any-append}
 use Rattle.std.proofs.lemmas.Grind.{flat_map-append}
 use Rattle.std.proofs.lemmas.Bool.Decides.{nat_tests}
 use Rattle.free_map.specs.declared.run.Run.{Run}
-use Rattle.volume_model.specs.Dscbs.{ExtentField, extents_of}
+use Rattle.volume_model.specs.declared.extent.ExtentField.{ExtentField}
+use Rattle.volume_model.specs.Dscbs.{extents_of}
 use Rattle.volume_model.specs.Space.{end_of, overlap, is_run, run_of, runs_of}
 use Rattle.volume_model.specs.Check.{with_earlier, later_ones, same_bytes, track_0, any_overlap, overlap_within}
 use Rattle.volume_model.proofs.Filters.{filter_skip, filter_keep}

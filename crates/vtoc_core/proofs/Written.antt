@@ -8,7 +8,8 @@ use Rattle.dscb_rec.specs.declared.field.Extent.{Extent}
 use Rattle.dscb_rec.specs.Field.{extent_text, IsExtent}
 use Rattle.volume_model.specs.declared.format.Format.{Format}
 use Rattle.volume_model.specs.declared.format.Format.TheVariants.{Broken, Free, F1, F3, F4, F5}
-use Rattle.volume_model.specs.Dscbs.{format_of, format_by, fills, number_at, extent_at, extents_of, extent_offsets, ExtentField, pointer_in}
+use Rattle.volume_model.specs.declared.extent.ExtentField.{ExtentField}
+use Rattle.volume_model.specs.Dscbs.{format_of, format_by, fills, number_at, extent_at, extents_of, extent_offsets, pointer_in}
 use Rattle.volume_model.specs.Reads.{fields_of_1}
 use Rattle.vtoc_core.specs.Edit.{with_extent}
 

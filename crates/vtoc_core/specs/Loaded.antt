@@ -4,10 +4,11 @@ use Rattle.dscb_rec.specs.declared.field.Extent.{Extent}
 use Rattle.free_map.specs.Runs.{AreMaximalRuns}
 use Rattle.vol_label.specs.declared.label.Label.{Label}
 use Rattle.ckd_image.specs.declared.head.Head.{Head}
-use Rattle.volume_model.specs.Dscbs.{ExtentField}
+use Rattle.volume_model.specs.declared.extent.ExtentField.{ExtentField}
 use Rattle.volume_model.specs.Directory.{DirectoryRow, AreInOrder, rows_of}
 use Rattle.volume_model.specs.Space.{is_free}
-use Rattle.volume_model.specs.Check.{Vtoc, records_of, fives_of, extents_in, usable_in}
+use Rattle.volume_model.specs.declared.place.Vtoc.{Vtoc}
+use Rattle.volume_model.specs.Check.{records_of, fives_of, extents_in, usable_in}
 use Rattle.volume_model.specs.Reads.{has_index}
 use Rattle.volume_model.specs.Sound.{Slots}
 use Rattle.vtoc_core.specs.declared.volume.Row.{Row}

@@ -4,8 +4,10 @@ use Rattle.ckd_image.specs.declared.head.Head.{Head}
 use Rattle.ckd_image.specs.declared.track.Cchhr.{Cchhr}
 use Rattle.volume_model.specs.declared.format.Format.TheVariants.{Free, F1, F5}
 use Rattle.volume_model.specs.Dscbs.{format_of, extents_of, pointer_in}
-use Rattle.volume_model.specs.Directory.{Placed, same_place}
-use Rattle.volume_model.specs.Check.{Vtoc, records_of, fives_of, breaches_of}
+use Rattle.volume_model.specs.declared.place.Placed.{Placed}
+use Rattle.volume_model.specs.Directory.{same_place}
+use Rattle.volume_model.specs.declared.place.Vtoc.{Vtoc}
+use Rattle.volume_model.specs.Check.{records_of, fives_of, breaches_of}
 use Rattle.volume_model.specs.Sound.{Slots, IsVtoc}
 
 -- a format 1 without a pointer and with at most one extent

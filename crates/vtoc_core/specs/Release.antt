@@ -7,7 +7,8 @@ use Rattle.ckd_image.specs.declared.track.TrackAt.{TrackAt}
 use Rattle.free_map.specs.declared.run.Run.{Run}
 use Rattle.free_map.specs.Runs.{InRuns, AreMaximalRuns}
 use Rattle.volume_model.specs.declared.format.Format.TheVariants.{F1, F4, F5}
-use Rattle.volume_model.specs.Dscbs.{format_of, is_f1, ExtentField, extents_of, number_at, address_at, pointer_in}
+use Rattle.volume_model.specs.declared.extent.ExtentField.{ExtentField}
+use Rattle.volume_model.specs.Dscbs.{format_of, is_f1, extents_of, number_at, address_at, pointer_in}
 use Rattle.volume_model.specs.Space.{end_of, is_run, run_of, entries_of}
 use Rattle.volume_model.specs.Check.{track_0}
 use Rattle.volume_model.specs.Reads.{fields_of_1, fields_of_4}

@@ -7,7 +7,8 @@ use Rattle.dscb_rec.specs.declared.field.Extent.{Extent}
 use Rattle.free_map.specs.declared.run.Run.{Run}
 use Rattle.free_map.specs.Entries.{entry_of}
 use Rattle.free_map.specs.Runs.{AreApart}
-use Rattle.volume_model.specs.Dscbs.{ExtentField, extents_of}
+use Rattle.volume_model.specs.declared.extent.ExtentField.{ExtentField}
+use Rattle.volume_model.specs.Dscbs.{extents_of}
 use Rattle.volume_model.specs.Space.{track_at}
 use Rattle.volume_model.specs.Sound.{dscb_of}
 use Rattle.vtoc_core.specs.declared.plan.Plan.{Plan}

@@ -8,10 +8,13 @@ use Rattle.ckd_image.specs.Address.{address_of}
 use Rattle.dscb_rec.specs.declared.field.Extent.{Extent}
 use Rattle.volume_model.specs.declared.format.Format.{Format}
 use Rattle.volume_model.specs.declared.format.Format.TheVariants.{Free}
-use Rattle.volume_model.specs.Dscbs.{ExtentField, format_of, is_f1, number_at, address_at}
-use Rattle.volume_model.specs.Directory.{Placed, DirectoryRow, AreInOrder, rows_of}
+use Rattle.volume_model.specs.declared.extent.ExtentField.{ExtentField}
+use Rattle.volume_model.specs.Dscbs.{format_of, is_f1, number_at, address_at}
+use Rattle.volume_model.specs.declared.place.Placed.{Placed}
+use Rattle.volume_model.specs.Directory.{DirectoryRow, AreInOrder, rows_of}
 use Rattle.volume_model.specs.Space.{run_of, is_free}
-use Rattle.volume_model.specs.Check.{Vtoc, records_of, fives_of, extents_in, usable_in}
+use Rattle.volume_model.specs.declared.place.Vtoc.{Vtoc}
+use Rattle.volume_model.specs.Check.{records_of, fives_of, extents_in, usable_in}
 use Rattle.volume_model.specs.Reads.{fields_of_1, fields_of_4}
 use Rattle.volume_model.specs.Sound.{Slots}
 use Rattle.vtoc_core.specs.declared.volume.Row.{Row}

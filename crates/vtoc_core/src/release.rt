@@ -10,7 +10,7 @@ ghost use Rattle.ckd_image.specs.Device.{heads_of};
 ghost use Rattle.ckd_image.specs.Track.{IsTrackText};
 ghost use Rattle.vol_label.specs.Label.{IsInside};
 ghost use Rattle.volume_model.specs.Space.{track_at, run_of};
-ghost use Rattle.volume_model.specs.Check.{Vtoc};
+ghost use Rattle.volume_model.specs.declared.place.Vtoc.{Vtoc};
 ghost use Rattle.volume_model.specs.Sound.{Slots};
 ghost use Rattle.vtoc_core.specs.declared.volume.Row.{Row as RowOf};
 ghost use Rattle.vtoc_core.specs.Plain.{HasPlainVtoc};

@@ -8,7 +8,7 @@ use Rattle.free_map.specs.Free.{Free}
 use Rattle.vol_label.specs.declared.label.Label.{Label}
 use Rattle.volume_model.specs.Sound.{IsDscbRecord, Slots}
 use Rattle.volume_model.specs.Space.{track_at, entries_of}
-use Rattle.volume_model.specs.Check.{Vtoc}
+use Rattle.volume_model.specs.declared.place.Vtoc.{Vtoc}
 use Rattle.volume_model.specs.Directory.{AreInOrder}
 use Rattle.vtoc_core.specs.declared.volume.Row.{Row}
 use Rattle.vtoc_core.specs.declared.volume.Volume.{Volume}

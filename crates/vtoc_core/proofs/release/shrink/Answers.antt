@@ -6,7 +6,8 @@ use Rattle.ckd_image.specs.declared.track.Track.{Track}
 use Rattle.ckd_image.specs.Track.{IsTrackText}
 use Rattle.ckd_image.proofs.OneText.{one_text}
 use Rattle.dscb_rec.specs.declared.field.Extent.{Extent}
-use Rattle.volume_model.specs.Check.{Vtoc, same_bytes}
+use Rattle.volume_model.specs.declared.place.Vtoc.{Vtoc}
+use Rattle.volume_model.specs.Check.{same_bytes}
 use Rattle.volume_model.specs.Space.{run_of}
 use Rattle.volume_model.specs.Sound.{dscb_of}
 use Rattle.vtoc_core.specs.declared.volume.Row.{Row}
