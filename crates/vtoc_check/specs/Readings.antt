@@ -1,0 +1,19 @@
+-- The tracks of a VTOC, as they are read.
+use Rattle.std.specs.Prelude.{◌≡◌, ℕ, ◌+◌, ◌<◌, ◌≤◌, List, Option, None, length, map, All, slice_index, slice_index_or}
+use Rattle.ckd_image.specs.declared.track.Rec.{Rec}
+use Rattle.volume_model.specs.Sound.{Slots, IsDscbRecord, IsTrackReading}
+
+-- the records are numbered from 1 in order
+abbrev pub AreNumbered : List Rec → Type 0
+AreNumbered recs = (k : ℕ) → k < length recs → slice_index (map (λ rec. rec.r) recs) k ≡ k + 1
+
+-- records of a VTOC track
+pub record AreVtocRecords (recs : List Rec) : Type 0 where
+  pub some : 1 ≤ length recs
+  pub numbered : AreNumbered recs
+  pub shaped : All IsDscbRecord recs
+
+-- so many tracks are read, from one on
+pub record AreReadUpTo (heads : ℕ) (slots : Slots) (first count : ℕ) (tracks : List (Option (List (List ℕ)))) : Type 0 where
+  pub long : length tracks ≡ count
+  pub each : (k : ℕ) → k < count → IsTrackReading heads (first + k) (slots (first + k)) (slice_index_or tracks k None)

@@ -1,0 +1,30 @@
+//! The check of a VTOC: the lowest place that breaks a rule (DFSMSdfp Advanced Services, VTOC and DSCBs).
+#![tactic(auto)]
+
+mod by_record;
+mod chain;
+mod check;
+mod directory;
+mod dscb;
+mod fault;
+mod five_rule;
+mod fives;
+mod free;
+mod front;
+mod lowest;
+mod names;
+mod overlaps;
+mod pointer_rule;
+mod pointers;
+mod reach;
+mod read;
+mod reading;
+mod space;
+mod tracks;
+
+pub use chain::chain_at;
+pub use check::{check_vtoc, lowest_breach};
+pub use directory::Directory;
+pub use fault::VtocFault;
+pub use front::vtoc_run;
+pub use space::{all_entries, all_extents, usable_tracks};
