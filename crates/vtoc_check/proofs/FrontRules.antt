@@ -1,5 +1,5 @@
 -- The format 4 of a VTOC, and the refusals of the first three rules.
-use Rattle.std.proofs.Common.{◌≡◌, ℕ, ◌≤◌, ◌==◌, List, length, find, refl, sym, ap, ◌∙◌, subst, arith, Option, Some, None}
+use Rattle.std.proofs.Common.{◌≡◌, ℕ, ◌≤◌, ◌==◌, List, length, find, refl, sym, ap, ◌∙◌, subst, Option, Some, None}
 use Rattle.std.specs.Prelude.{MatchOption, IfSome, IfNone}
 use Rattle.ckd_image.specs.declared.head.Head.{Head}
 use Rattle.ckd_image.specs.declared.track.Track.{Track}
@@ -9,18 +9,16 @@ use Rattle.ckd_image.specs.Address.{IsAddress}
 use Rattle.ckd_image.specs.Device.{heads_of}
 use Rattle.ckd_image.specs.Track.{IsTrackText}
 use Rattle.ckd_image.proofs.OneText.{one_text}
-use Rattle.free_map.specs.declared.run.Run.{Run}
 use Rattle.volume_model.specs.declared.place.Breach.{Breach}
 use Rattle.volume_model.specs.declared.rule.VtocRule.{VtocRule}
 use Rattle.volume_model.specs.declared.rule.VtocRule.TheVariants as rules
 use Rattle.volume_model.specs.Rules.{number_of}
-use Rattle.volume_model.specs.Dscbs.{extent_at}
-use Rattle.volume_model.specs.Space.{track_at, run_of}
-use Rattle.volume_model.specs.Sound.{Slots, IsFormat4, HasGeometry, HasVtocExtent, IsFirstRuleBroken, dscb_of}
+use Rattle.volume_model.specs.Space.{track_at}
+use Rattle.volume_model.specs.Sound.{Slots, IsFormat4, IsFirstRuleBroken, dscb_of}
 use Rattle.vtoc_check.specs.declared.fault.VtocFault.{VtocFault}
 use Rattle.vtoc_check.specs.declared.fault.VtocFault.TheVariants.{BadVtoc, Indexed, VtocFull, NoMemory}
 use Rattle.vtoc_check.specs.Faults.{IsToldFault}
-use Rattle.vtoc_check.specs.Front.{IsFormat4Among, IsFront, IsFrontBreach, IsVtocRun}
+use Rattle.vtoc_check.specs.Front.{IsFormat4Among, IsFront, IsFrontBreach}
 
 -- ---- refusals
 

@@ -1,16 +1,16 @@
 -- Rules that stand under a condition, and all rules together.
-use Rattle.std.proofs.Common.{◌≡◌, ℕ, zero, suc, ◌+◌, ◌<◌, ◌≤◌, List, [], ◌∷◌, ◌++◌, length, map, filter, get_or, Bool, true, false, cond, not, refl, sym, ap, ◌∙◌, subst, arith, replicate, Option, Some, None, All, append_assoc}
+use Rattle.std.proofs.Common.{◌≡◌, ℕ, zero, suc, ◌≤◌, List, [], ◌∷◌, ◌++◌, length, map, filter, Bool, true, false, cond, not, refl, sym, ap, ◌∙◌, subst, arith, replicate, Option, All, append_assoc}
 use Rattle.std.specs.Prelude.{◌&&◌, ◌||◌, nat_le, nat_lt}
-use Rattle.std.specs.List.{list_all, list_any, flat_map}
+use Rattle.std.specs.List.{list_all, list_any}
 use Rattle.std.proofs.lemmas.Bool.{leb-true, ltb-true, and_parts}
 use Rattle.std.proofs.lemmas.List.{length-replicate}
-use Rattle.std.proofs.lemmas.List.Elements.{All-nil, All-cons, All-append, All-weaker, filter_passes}
+use Rattle.std.proofs.lemmas.List.Elements.{All-nil, All-cons, All-weaker, filter_passes}
 use Rattle.free_map.specs.declared.run.Run.{Run}
 use Rattle.volume_model.specs.declared.place.Breach.{Breach}
 use Rattle.volume_model.specs.declared.place.Placed.{Placed}
 use Rattle.volume_model.specs.declared.place.Vtoc.{Vtoc}
 use Rattle.volume_model.specs.declared.rule.VtocRule.TheVariants as rules
-use Rattle.volume_model.specs.Dscbs.{entry_offsets, format_of, is_f5, numbers_below}
+use Rattle.volume_model.specs.Dscbs.{entry_offsets, numbers_below}
 use Rattle.volume_model.specs.Space.{end_of, has_track, is_used, entry_at, entries_of, all_entries, all_extents, runs_of}
 use Rattle.volume_model.specs.Check.{track_0, any_overlap, overlap_within, breach, records_of, extents_in, entries_in, usable_in, states_free, off_chain, points, bad_fives, bad_free, IsLowestOf}
 use Rattle.vtoc_check.specs.Pointers.{named}

@@ -1,5 +1,5 @@
 -- The sizes of a VTOC that was read.
-use Rattle.std.specs.Prelude.{◌≡◌, ℕ, ◌≤◌, length}
+use Rattle.std.specs.Prelude.{◌≡◌, ◌≤◌, length}
 use Rattle.volume_model.specs.declared.place.Vtoc.{Vtoc}
 use Rattle.volume_model.specs.Space.{end_of}
 use Rattle.vtoc_check.specs.Places.{AreShort}

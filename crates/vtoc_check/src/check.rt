@@ -46,11 +46,7 @@ fn broken_record(
 }
 
 /// The lowest breach of the rules on ranges, overlaps and free tracks.
-fn broken_space(
-    alloc: Global,
-    vtoc: &Vtoc,
-    records: &[Placed],
-) -> Result<Option<Breach>, NoMemory>
+fn broken_space(alloc: Global, vtoc: &Vtoc, records: &[Placed]) -> Result<Option<Breach>, NoMemory>
     requires records { records.now ≡ records_of vtoc.now }
     requires in_order { AreInOrder records.now }
     requires sized { IsSized vtoc.now }

@@ -26,6 +26,7 @@ pub enum VtocFault {
 
 impl From<OutOfMemory> for VtocFault {
     ghost from_gives = { λ _ e. e ≡ faults.NoMemory };
+
     fn from(_: OutOfMemory) -> VtocFault {
         VtocFault::NoMemory
     }

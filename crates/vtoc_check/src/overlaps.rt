@@ -123,12 +123,5 @@ pub fn broken_overlaps(
 {
     let fixed = [TRACK_0, vtoc.run];
     let mut marks = tracks_of(alloc, &fixed, vtoc.limit)?;
-    broken_overlap(
-        alloc,
-        &mut marks,
-        records,
-        vtoc.heads,
-        vtoc.limit,
-        vtoc.run,
-    )
+    broken_overlap(alloc, &mut marks, records, vtoc.heads, vtoc.limit, vtoc.run)
 }

@@ -52,12 +52,7 @@ fn front_in(
     ensures fault { IfErr result (IsToldFault (IsFrontBreach head (slot_in run (slot_of head.device) slots.now) pointer)) }
 {
     let track = track_number(pointer.at, head.device.heads());
-    front(
-        alloc,
-        head,
-        pointer,
-        slot_of_track(head, run, slots, track),
-    )
+    front(alloc, head, pointer, slot_of_track(head, run, slots, track))
 }
 
 /// What the rules from the fourth on look at, where the first three are kept.

@@ -1,8 +1,6 @@
-use Rattle.std.proofs.Common.{Option, None, Some, refl, sym, ap, ◌∙◌}
 use Rattle.std.proofs.lemmas.Result.{err_from_is_err_and}
-use Rattle.ckd_image.specs.Device.{heads_of, slot_of}
+use Rattle.ckd_image.specs.Device.{slot_of}
 use Rattle.volume_model.specs.Sound.{IsCheckFault}
-use Rattle.vtoc_check.specs.Faults.{IsToldFault}
 use Rattle.vtoc_check.specs.Front.{IsFrontBreach}
 use Rattle.vtoc_check.specs.Slots.{slot_in}
 use Rattle.vtoc_check.proofs.FrontRules.{told_weaker, told_fault}
@@ -25,9 +23,11 @@ returns-in-None-clause-sound c = λ unit are.
     let pointer = c.args.label.now.vtoc in
     let slots = slot_in c.args.run (slot_of head.device) c.args.slots.now in
     let vtoc = c.in_ok-vtoc.vtoc in
-    let read = c.in_ok-vtoc.ensures.vtoc in
-    (same_vtoc head c.args.run (slot_of head.device) c.args.slots.now unit pointer c.args.sliding vtoc are (holds_pointer head slots pointer c.args.run c.requires.run) read.1 read.0,
-    rw c.in-None.is at c.in_ok-lowest_breach.ensures, read.2)
+    let read = c.in_ok-vtoc.ensures.vtoc in (
+      same_vtoc head c.args.run (slot_of head.device) c.args.slots.now unit pointer c.args.sliding vtoc are (holds_pointer head slots pointer c.args.run c.requires.run) read.1 read.0,
+      rw c.in-None.is at c.in_ok-lowest_breach.ensures,
+      read.2,
+    )
 
 pub returns-in-Some-clause-fault : goal.returns-in-Some-clause-fault
 returns-in-Some-clause-fault c = λ unit are.

@@ -1,4 +1,4 @@
-use Rattle.std.proofs.Common.{List, ℕ, Option, ◌++◌, subst, sym, ap}
+use Rattle.std.proofs.Common.{List, ℕ, Option, ◌++◌, subst}
 use Rattle.volume_model.specs.declared.place.Breach.{Breach}
 use Rattle.volume_model.specs.Check.{bad_tracks, bad_dscbs, bad_names, bad_pointers, bad_fives, bad_ranges, bad_overlaps, bad_free, IsLowestOf}
 use Rattle.vtoc_check.proofs.Joined.{all_rules}

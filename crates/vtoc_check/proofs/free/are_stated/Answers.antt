@@ -1,8 +1,8 @@
-use Rattle.std.proofs.Common.{ℕ, List, Bool, ◌∷◌, All, arith, sym, ap, ◌∙◌, subst}
+use Rattle.std.proofs.Common.{ℕ, List, Bool, ◌∷◌, sym, ap, ◌∙◌, subst}
 use Rattle.free_map.specs.declared.run.Run.{Run}
 use Rattle.volume_model.specs.Check.{track_0, states_free}
 use Rattle.volume_model.specs.Space.{usable_of}
-use Rattle.vtoc_check.specs.Tracks.{AreTracksOf, HasTracks}
+use Rattle.vtoc_check.specs.Tracks.{AreTracksOf}
 use Rattle.vtoc_check.proofs.Joined.{not_by_limit, used_have}
 use Rattle.vtoc_check.proofs.free.are_stated.Goals as goal
 

@@ -1,7 +1,6 @@
-use Rattle.std.proofs.Common.{List, Bool, ◌≡◌, ◌≤◌, All, sym, ap, ◌∙◌, subst}
+use Rattle.std.proofs.Common.{List, ◌≡◌, ◌≤◌, All, sym, ap, ◌∙◌, subst}
 use Rattle.std.specs.Prelude.{IfOk}
 use Rattle.free_map.specs.declared.run.Run.{Run}
-use Rattle.volume_model.specs.declared.place.Placed.{Placed}
 use Rattle.volume_model.specs.Check.{states_free, records_of}
 use Rattle.volume_model.specs.Space.{end_of, usable_of, all_extents, all_entries}
 use Rattle.vtoc_check.specs.Tracks.{HasTracks}

@@ -1,4 +1,4 @@
-use Rattle.std.proofs.Common.{arith, sym, ◌∙◌, ap}
+use Rattle.std.proofs.Common.{arith}
 use Rattle.ckd_image.specs.Device.{heads_of}
 use Rattle.vtoc_check.proofs.FrontRules.{format_4_read, no_format_4}
 use Rattle.vtoc_check.proofs.front.format_4.Goals as goal

@@ -1,4 +1,4 @@
-use Rattle.std.proofs.Common.{◌≡◌, Bool, true, false, refl, sym, ◌∙◌}
+use Rattle.std.proofs.Common.{◌≡◌, true, false, refl, sym, ◌∙◌}
 use Rattle.vtoc_check.proofs.front.front.Goals as goal
 
 pub returns-in_default-clause-fault : goal.returns-in_default-clause-fault

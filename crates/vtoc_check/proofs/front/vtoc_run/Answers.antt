@@ -1,7 +1,7 @@
 use Rattle.std.proofs.Common.{sym}
 use Rattle.std.proofs.lemmas.Result.{err_from_is_err_and}
 use Rattle.vtoc_check.specs.Front.{IsFrontBreach}
-use Rattle.vtoc_check.proofs.FrontRules.{told_weaker, same_breach, same_front}
+use Rattle.vtoc_check.proofs.FrontRules.{told_weaker, same_breach}
 use Rattle.vtoc_check.proofs.front.vtoc_run.Goals as goal
 
 pub returns-in_err-bytes-clause-fault : goal.returns-in_err-bytes-clause-fault

@@ -1,4 +1,3 @@
-use Rattle.std.proofs.Common.{◌≡◌, length}
 use Rattle.ckd_image.specs.Device.{heads_of, slot_of}
 use Rattle.vtoc_check.specs.Readings.{AreReadUpTo}
 use Rattle.vtoc_check.specs.Slots.{slot_in}

@@ -1,6 +1,6 @@
-use Rattle.std.proofs.Common.{ℕ, sym, ap, ◌∙◌}
+use Rattle.std.proofs.Common.{ℕ, ap, ◌∙◌}
 use Rattle.std.proofs.lemmas.Result.{IfErr-weaker}
-use Rattle.ckd_image.specs.Device.{heads_of, slot_of}
+use Rattle.ckd_image.specs.Device.{slot_of}
 use Rattle.volume_model.specs.Space.{track_at}
 use Rattle.vtoc_check.specs.Faults.{IsToldFault}
 use Rattle.vtoc_check.specs.Front.{IsFrontBreach}

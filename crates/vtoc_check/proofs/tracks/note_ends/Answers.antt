@@ -1,4 +1,4 @@
-use Rattle.std.proofs.Common.{◌≡◌, length, ap, sym, ◌∙◌, get_or, max, arith, ◌<◌}
+use Rattle.std.proofs.Common.{◌≡◌, length, ap, ◌∙◌, get_or, max, arith, ◌<◌}
 use Rattle.std.proofs.lemmas.List.{length-set}
 use Rattle.free_map.specs.declared.run.Run.{Run}
 use Rattle.volume_model.specs.Space.{end_of}

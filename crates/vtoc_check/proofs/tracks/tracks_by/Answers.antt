@@ -1,4 +1,4 @@
-use Rattle.std.proofs.Common.{◌≡◌, List, ℕ, Bool, Vec, Global, length, ◌∙◌}
+use Rattle.std.proofs.Common.{◌≡◌, Bool, Vec, Global, length, ◌∙◌}
 use Rattle.std.proofs.lemmas.Result.{IfOk-weaker}
 use Rattle.vtoc_check.specs.Tracks.{AreBeforeEnds, AreTracksOf}
 use Rattle.vtoc_check.proofs.Ends.{all_marks}
