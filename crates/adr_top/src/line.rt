@@ -1,17 +1,14 @@
 //! A line that is put together without memory.
 
-ghost use Rattle.std.specs.Prelude.{◌≡◌, ◌≤◌, ◌+◌, ◌++◌, [], length, take, unwrap_or};
+ghost use Rattle.std.specs.Prelude.{◌≡◌, ◌≤◌, ◌+◌, ◌++◌, [], length, take};
 ghost use Rattle.std.specs.Fmt.{decimal};
-ghost use Rattle.vol_label.specs.CodePage.{ascii_of};
-ghost use Rattle.adr_top.specs.Print.{trimmed as trimmed_bytes, printed};
+ghost use Rattle.adr_top.specs.Print.{printed};
 
+use crate::names::{printed_byte, trimmed};
 use ckd_image::text::put;
 use itoa::Buffer;
 use std::marker::Model;
-use vol_label::{Serial, to_ascii};
-
-/// A blank in the code page.
-const BLANK: u8 = 0x40;
+use vol_label::Serial;
 
 /// The bytes of a line so far, at most 128. Contracts see the list of them.
 #[derive(Debug, Drop)]
@@ -28,25 +25,6 @@ impl Model for Line {
     ghost view = { λ l. take l.end l.bytes };
 
     ghost invariant = { λ l. l.end ≤ 128 };
-}
-
-/// The bytes without trailing blanks.
-fn trimmed(text: &[u8; 6]) -> &[u8]
-    ensures text { result.now ≡ trimmed_bytes text.now }
-    ensures short { length result.now ≤ 6 }
-{
-    let mut end = 6;
-    while end > 0 && text[end - 1] == BLANK {
-        end -= 1;
-    }
-    &text[..end]
-}
-
-/// A byte of the code page in ASCII; a question mark for what the code page lacks.
-fn printed_byte(byte: u8) -> u8
-    ensures { result ≡ unwrap_or (ascii_of byte) 63 }
-{
-    to_ascii(byte).unwrap_or(b'?')
 }
 
 impl Line {

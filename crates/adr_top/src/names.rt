@@ -1,18 +1,16 @@
 //! Names of the code page as they are printed.
 
-ghost use Rattle.std.specs.Prelude.{◌≡◌, ◌<◌, ◌++◌, OnOk, string_bytes, unwrap_or};
+ghost use Rattle.std.specs.Prelude.{◌≡◌, ◌<◌, ◌≤◌, ◌++◌, OnOk, length, string_bytes, unwrap_or};
 ghost use Rattle.vol_label.specs.CodePage.{ascii_of};
 ghost use Rattle.adr_top.specs.Print.{trimmed as trimmed_bytes, printed};
 
 use std::alloc::AllocError;
-use vol_label::to_ascii;
-
-/// A blank in the code page.
-const BLANK: u8 = 0x40;
+use vol_label::{BLANK, to_ascii};
 
 /// The bytes without trailing blanks.
-fn trimmed(bytes: &[u8]) -> &[u8]
-    ensures { result.now ≡ trimmed_bytes bytes.now }
+pub(crate) fn trimmed(bytes: &[u8]) -> &[u8]
+    ensures text { result.now ≡ trimmed_bytes bytes.now }
+    ensures short { length result.now ≤ length bytes.now }
 {
     let mut end = bytes.len();
     while end > 0 && bytes[end - 1] == BLANK {
@@ -21,12 +19,12 @@ fn trimmed(bytes: &[u8]) -> &[u8]
     &bytes[..end]
 }
 
-/// A byte as a character; a question mark for what the code page lacks.
-fn printed_character(byte: u8) -> char
+/// A byte of the code page in ASCII; a question mark for what the code page lacks.
+pub(crate) fn printed_byte(byte: u8) -> u8
     ensures value { result ≡ unwrap_or (ascii_of byte) 63 }
     ensures ascii { result < 128 }
 {
-    char::from(to_ascii(byte).unwrap_or(b'?'))
+    to_ascii(byte).unwrap_or(b'?')
 }
 
 /// Adds bytes as they are printed.
@@ -34,7 +32,7 @@ pub(crate) fn push_printed(text: &mut String, bytes: &[u8]) -> Result<(), AllocE
     ensures { OnOk result (string_bytes text.new ≡ string_bytes text.old ++ printed bytes.now) }
 {
     for byte in trimmed(bytes) {
-        text.push(printed_character(*byte))?;
+        text.push(char::from(printed_byte(*byte)))?;
     }
     Ok(())
 }

@@ -26,7 +26,7 @@ impl Day {
     }
 
     /// Whether it stands before the other, by year and then by day.
-    pub(crate) fn is_earlier(self, other: Day) -> bool
+    pub fn is_earlier(self, other: Day) -> bool
         ensures { IsTrue result ↔ IsEarlier self other }
     {
         self.year < other.year || (self.year == other.year && self.day < other.day)

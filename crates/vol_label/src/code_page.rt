@@ -3,6 +3,9 @@
 ghost use Rattle.std.specs.Prelude.{◌≡◌, ℕ, Some, IfSome, IfNone};
 ghost use Rattle.vol_label.specs.CodePage.{ascii_of};
 
+/// The blank, which fills names and serials.
+pub const BLANK: u8 = 0x40;
+
 /// The ASCII character of a byte of the code page.
 pub fn to_ascii(byte: u8) -> Option<u8>
     ensures { result ≡ ascii_of byte }

@@ -6,7 +6,7 @@ mod fault;
 mod label;
 mod serial;
 
-pub use code_page::{to_ascii, to_ebcdic};
+pub use code_page::{BLANK, to_ascii, to_ebcdic};
 pub use fault::{LabelFault, LabelRule};
 pub use label::{Label, put_serial, with_vtoc};
 pub use serial::{Serial, is_serial};

@@ -8,10 +8,7 @@ ghost use Rattle.vtoc_core.specs.Named.{IsByteOf};
 
 use crate::volume::Row;
 use dsn_filter::Dsn;
-use vol_label::to_ascii;
-
-/// A blank in the code page.
-const BLANK: u8 = 0x40;
+use vol_label::{BLANK, to_ascii};
 
 /// Whether a byte is the character of a name at a place, or a blank behind it.
 fn is_byte_of(byte: u8, name: Dsn, place: usize) -> bool

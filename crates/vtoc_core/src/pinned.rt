@@ -19,10 +19,7 @@ use crate::track::{HEADS, number_at, track_number};
 use crate::volume::Row;
 use dscb_rec::Extent;
 use dsn_filter::Dsn;
-use vol_label::to_ascii;
-
-/// The blank of the code page.
-const BLANK: u8 = 0x40;
+use vol_label::{BLANK, to_ascii};
 
 /// The most extents that a data set has on one volume.
 const MOST_EXTENTS: usize = 16;

@@ -1,5 +1,5 @@
 use Rattle.std.proofs.Common.{◌≡◌, ◌≢◌, ◌<◌, ◌-◌, ℕ, suc, take, length, get_or, sym, ap, ◌∙◌, arith}
-use Rattle.std.proofs.lemmas.List.{take_all}
+use Rattle.std.proofs.lemmas.List.{take_all, length-take-le}
 use Rattle.adr_top.specs.Print.{trimmed}
 use Rattle.adr_top.proofs.Lines.{trimmed_more, trimmed_to}
 use Rattle.adr_top.proofs.names.trimmed.Goals.{then-loop-end-test+else-bytes-end-eq-BLANK, else-loop-end-test}
@@ -26,8 +26,8 @@ loop-end-preserved c =
           ∙ ap (λ (n : ℕ). trimmed (take n c.args.bytes.now)) one ∙ c.loop-end.invariant.text;
     }
 
-pub returns : goal.returns
-returns c = sym (trimmed_to c.args.bytes.now c.loop-end.end c.loop-end.invariant.within last) ∙ c.loop-end.invariant.text
+pub returns-clause-text : goal.returns-clause-text
+returns-clause-text c = sym (trimmed_to c.args.bytes.now c.loop-end.end c.loop-end.invariant.within last) ∙ c.loop-end.invariant.text
   where
     last : 0 < c.loop-end.end → get_or c.args.bytes.now (c.loop-end.end - 1) 0 ≢ 0x40
     last some =
@@ -35,3 +35,6 @@ returns c = sym (trimmed_to c.args.bytes.now c.loop-end.end c.loop-end.invariant
           | then-loop-end-test+else-bytes-end-eq-BLANK w ↦ w.if-bytes-end-eq-BLANK.false
           | else-loop-end-test w ↦ absurd (omega (arith, w.loop-end-test.false, some))
         ]
+
+pub returns-clause-short : goal.returns-clause-short
+returns-clause-short c = omega (arith, length-take-le c.loop-end.end c.args.bytes.now c.loop-end.invariant.within, c.loop-end.invariant.within)

@@ -21,7 +21,7 @@ loop-byte-preserved c =
     record {
       text =
           c.push.ensures.text
-          ∙ (λ k. c.loop-byte.invariant.text k ++ (c.printed_byte.ensures k ∷ []))
+          ∙ (λ k. c.loop-byte.invariant.text k ++ (c.printed_byte.ensures.value k ∷ []))
           ∙ append_assoc c.args.self.now (map printed_byte (take i text)) (_ ∷ [])
           ∙ ap (λ (t : List ℕ). c.args.self.now ++ t) (sym (map_more printed_byte text i 0 c.loop-byte-test.true));
       length = omega (arith, c.push.ensures.length, c.loop-byte.invariant.length);
