@@ -15,15 +15,18 @@ use Rattle.set_facts.specs.Facts.{facts_of}
 abbrev pub IsNamedBy : List (List (List ℕ)) → Dsn → Type 0
 IsNamedBy patterns name = Any (λ pattern. Matches pattern (qualifiers_of name)) patterns
 
+-- a list of INCLUDE takes a name: some pattern stands for it, or there is none
+abbrev pub IsIncluded : List (List (List ℕ)) → Dsn → Type 0
+IsIncluded patterns name = (patterns ≡ []) ⊎ IsNamedBy patterns name
+
 -- the criteria of BY, where it is given
 abbrev pub criteria_in : Option (List Criterion) → List Criterion
 criteria_in None = []
 criteria_in (Some criteria) = criteria
 
--- A name with these facts passes a filter: some pattern of INCLUDE stands for it, or there is none; no pattern of EXCLUDE does; and each
--- criterion of BY holds today.
+-- A name with these facts passes a filter: INCLUDE takes it, no pattern of EXCLUDE stands for it, and each criterion of BY holds today.
 pub record Passes (include exclude : List (List (List ℕ))) (by : List Criterion) (today : Day) (name : Dsn) (facts : RowFacts) : Type 0 where
-  pub included : (include ≡ []) ⊎ IsNamedBy include name
+  pub included : IsIncluded include name
   pub not_excluded : ¬ IsNamedBy exclude name
   pub holds : All (λ criterion. Holds criterion facts today) by
 

@@ -1,6 +1,6 @@
 //! The facts of a data set, by its format 1 and its extents.
 
-ghost use Rattle.std.specs.Prelude.{◌≡◌, ◌≢◌, ◌↔◌, ◌+◌, ◌/◌, ◌≤◌, [], IsTrue, length, map, All};
+ghost use Rattle.std.specs.Prelude.{◌≡◌, ◌≢◌, ◌↔◌, ◌+◌, ◌/◌, ◌≤◌, [], IsTrue, All};
 ghost use Rattle.volume_model.specs.Dscbs.{number_at as number_in};
 ghost use Rattle.volume_model.specs.Reads.{fields_of_1};
 ghost use Rattle.set_facts.specs.Facts.{day_at as day_in, kind_of_bits as kind_in, facts_from, IsNever, IsUnexpired, AreByCylinders};
@@ -73,9 +73,19 @@ pub fn is_unexpired(f1: &[u8; 140], today: Day) -> bool
     is_never(expires) || today.is_earlier(expires)
 }
 
+/// Whether the type of each extent is that of cylinders.
+fn are_on_cylinders(extents: &[Extent]) -> bool
+    ensures { IsTrue result ↔ All (λ extent. extent.kind ≡ 0x81) extents.now }
+{
+    extents.iter().all(|extent| extent.kind == CYLINDERS)
+}
+
 /// Whether a data set with these extents is of cylinders.
 pub fn is_by_cylinders(extents: &[Extent]) -> bool
-    ensures { IsTrue result ↔ AreByCylinders (map (λ extent. extent.kind) extents.now) }
+    ensures { IsTrue result ↔ AreByCylinders (λ extent. extent.kind) extents.now }
 {
-    !extents.is_empty() && extents.iter().all(|extent| extent.kind == CYLINDERS)
+    if extents.is_empty() {
+        return false;
+    }
+    are_on_cylinders(extents)
 }

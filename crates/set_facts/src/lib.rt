@@ -7,6 +7,5 @@ mod selection;
 pub use facts::{is_by_cylinders, is_unexpired, row_facts};
 pub use selection::is_selected;
 
-
 #[cfg(test)]
 mod tests;

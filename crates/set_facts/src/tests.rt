@@ -21,12 +21,12 @@ fn format_1(bytes: &[(u8, u8)]) -> [u8; 140] {
 #[test]
 fn the_facts_of_a_format_1_are_read_from_their_bytes(rt: HostRuntime) {
     let f1 = format_1(&[
-        (52, 2),    // the second volume
-        (53, 124),  // made in 2024
-        (55, 60),   // on its day 60
-        (59, 9),    // a number of extents that isn't looked at
-        (75, 50),   // referred to in 1950
-        (76, 1),    // on its day 256
+        (52, 2), // the second volume
+        (53, 124), // made in 2024
+        (55, 60), // on its day 60
+        (59, 9), // a number of extents that isn't looked at
+        (75, 50), // referred to in 1950
+        (76, 1), // on its day 256
         (82, 0x40), // sequential
         (83, 0x00),
         (93, 0x82), // the last volume, changed

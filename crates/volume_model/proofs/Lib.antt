@@ -1,4 +1,5 @@
 pub mod Blocks
+pub mod DscbRecords
 pub mod Fields
 pub mod Formats
 pub mod Filters

@@ -11,6 +11,7 @@ use Rattle.ckd_image.specs.declared.track.TrackAt.{TrackAt}
 use Rattle.ckd_image.specs.Body.{over}
 use Rattle.ckd_image.specs.Track.{IsRecord, IsTrack, IsTrackText, record_text, records_text, count_of, count_text, end_mark, home_text, zero_text, track_text}
 use Rattle.volume_model.specs.Sound.{IsDscbRecord}
+use Rattle.volume_model.proofs.DscbRecords.{long_records}
 use Rattle.vtoc_core.specs.Slot.{dscb_offset, with_bytes, IsDscbPut}
 use Rattle.vtoc_core.specs.Release.{put_bytes}
 use Rattle.vtoc_core.proofs.PutAt.{split_at}
@@ -28,15 +29,6 @@ over_middle a old new b start is same =
         (λ i. drop (is i + same i) (a ++ (old ++ b)))
         ∙ drop-append-add a (old ++ b) (length old)
         ∙ drop-append_seam old b
-
--- each record of DSCBs is 148 bytes long
-pub long_records : (at : TrackAt) (recs : List Rec) → AllByRecursion IsDscbRecord recs → length (records_text at recs) ≡ 148 * length recs
-long_records at [] h = refl
-long_records at (rec ∷ recs) h =
-    omega (arith, length-append (record_text at rec) (records_text at recs), long_record, long_records at recs h.1)
-  where
-    long_record : length (record_text at rec) ≡ 148
-    long_record = omega (arith, length-append (count_text (count_of at rec)) (rec.key ++ rec.body), length-append rec.key rec.body, h.0.0, h.0.1)
 
 -- the parts of a slot around the bytes of one DSCB
 abbrev before : TrackAt → Track → List Rec → Rec → List ℕ

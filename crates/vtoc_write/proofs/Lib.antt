@@ -1,0 +1,4 @@
+pub mod Ascending
+pub mod Recs
+pub mod Texts
+pub mod Tracks
