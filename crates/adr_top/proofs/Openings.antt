@@ -1,21 +1,16 @@
 -- What a pool's blocks read before and after an opening.
-use Rattle.std.proofs.Common.{◌≡◌, ℕ, ◌<◌, List, [], ◌∷◌, Bool, None, refl, sym, subst, ◌∙◌, arith, inl, inr}
-use Rattle.dasd_pool.specs.Disk.{Image, Shape, State, Disk, LeavesOnly, Touches, none}
-use Rattle.dasd_pool.specs.Moments.{runs_start}
+use Rattle.std.proofs.Common.{◌≡◌, ℕ, ◌<◌, List, [], ◌∷◌, Bool, refl, sym, subst, ◌∙◌, arith, inl, inr}
+use Rattle.dasd_pool.specs.Disk.{Image, Shape, State, Touches, none}
 use Rattle.vol_label.specs.declared.serial.Serial.{Serial}
 use Rattle.redo_core.specs.declared.control.Control.{Control}
 use Rattle.redo_core.specs.Format.{directory_in}
 use Rattle.redo_core.specs.Reading.{journal_of, Reading, Reads, IsRegistration, IsDirectory}
-use Rattle.redo_core.specs.Opening.{IsOpened, ReadsSame}
+use Rattle.redo_core.specs.Opening.{IsOpened}
 use Rattle.redo_core.specs.Phases.{ReadsNew}
 use Rattle.volume_model.specs.Directory.{DirectoryRow}
 use Rattle.volume_model.specs.Sound.{Slots, Volume}
-use Rattle.volume_model.specs.Unit.{UnitModel}
-use Rattle.move_core.specs.Stands.{IsSettled}
-use Rattle.move_core.specs.Runs.{KeepsUnits}
 use Rattle.move_core.specs.declared.steps.Step.{Step}
 use Rattle.move_core.specs.Releasing.{vtoc_track, ShrinksTrack}
-use Rattle.move_core.proofs.Keeping.{opened_run, opened_is_settled}
 use Rattle.adr_top.specs.declared.statement.Statement.{Statement}
 use Rattle.adr_top.specs.declared.statement.Statement.TheVariants.{Print, Release}
 use Rattle.adr_top.specs.Form.{IsPlainUnit, IsOtherFor, IsOtherUnit}
@@ -114,24 +109,3 @@ module _ (shape : Shape) (old new : State) (names : List Serial) (room : ℕ) (c
           now = λ reading reads. back.2.7 reading (opened_reads shape old new names room control fills opened reading reads);
         },
       )
-
--- ---- an opening under any names
-
--- the serials that are registered are those of each settled pool
-registered : (shape : Shape) (names asked : List Serial) (old mid : State) (units : List UnitModel) (room : ℕ) (control : Control) (fills : List Bool)
-    → IsSettled shape names old units → IsOpened shape old asked room control fills mid → IsOpened shape old names room control fills mid
-registered shape names asked old mid units room control fills settled opened =
-    let same : asked ≡ names = sym (one_registration shape old mid asked room control fills opened settled.stands.reading settled.stands.reads) ∙ settled.stands.names_are in
-    subst (λ (n : List Serial). IsOpened shape old n room control fills mid) same opened
-
-pub settled_any : (shape : Shape) (names asked : List Serial) (old mid : State) (units : List UnitModel) (room : ℕ) (control : Control) (fills : List Bool)
-    → IsSettled shape names old units → IsOpened shape old asked room control fills mid → IsSettled shape names mid units
-settled_any shape names asked old mid units room control fills settled opened =
-    opened_is_settled shape names old mid units room control fills settled (registered shape names asked old mid units room control fills settled opened)
-
-pub opened_any : (shape : Shape) (names asked : List Serial) (old mid : Disk) (before after : ℕ) (units : List UnitModel) (room : ℕ) (control : Control) (fills : List Bool)
-    → IsSettled shape names old.state units → LeavesOnly old mid (ReadsSame shape old.state) → IsOpened shape old.state asked room control fills mid.state
-    → KeepsUnits shape names old mid before after units [] None
-opened_any shape names asked old mid before after units room control fills settled moments opened =
-    opened_run shape names old mid mid before after units room control fills settled moments
-    (registered shape names asked old.state mid.state units room control fills settled opened) (runs_start none mid)

@@ -1,5 +1,5 @@
 -- How a run of a text ends.
-use Rattle.std.proofs.Common.{◌≡◌, ◌≢◌, ◌⊎◌, ℕ, ◌<◌, ◌≤◌, List, [], ◌∷◌, ◌++◌, Bool, Option, Some, None, refl, sym, subst, ◌∙◌, arith, inl, inr}
+use Rattle.std.proofs.Common.{◌≡◌, ◌≢◌, ◌⊎◌, ℕ, ◌<◌, List, [], ◌∷◌, ◌++◌, Bool, Option, Some, None, refl, sym, subst, ◌∙◌, arith, inl, inr}
 use Rattle.std.specs.Prelude.{codes}
 use Rattle.dasd_pool.specs.Count.{Rose}
 use Rattle.dasd_pool.specs.Disk.{Shape, State}
@@ -12,7 +12,6 @@ use Rattle.redo_core.specs.Faults.{IsOpenFault}
 use Rattle.redo_core.specs.Opening.{IsOpened}
 use Rattle.redo_core.specs.Reading.{journal_of}
 use Rattle.move_core.specs.declared.steps.Step.{Step}
-use Rattle.move_core.proofs.Keeping.{rose_since}
 use Rattle.adr_top.specs.declared.statement.Statement.{Statement}
 use Rattle.adr_top.specs.declared.stop.Stop.{Stop}
 use Rattle.adr_top.specs.declared.stop.Stop.TheVariants as stops
@@ -46,11 +45,43 @@ not_20_24 status (inr (inr (inr (inl e)))) = not_both status 28 e (omega arith) 
 not_20_24 status (inr (inr (inr (inr (inl e))))) = not_both status 32 e (omega arith) (omega arith)
 not_20_24 status (inr (inr (inr (inr (inr e))))) = not_both status 48 e (omega arith) (omega arith)
 
+-- ---- the cause of a 16
+
+-- a statement whose lines were written, or cut
+pub written_not_16 : (status code : ℕ) → ((code ≡ 0) ⊎ (code ≡ 4)) → ((status ≡ code) ⊎ (status ≡ 28)) → status ≢ 16
+written_not_16 status code (inl zero) (inl e) is = omega (arith, zero, e, is)
+written_not_16 status code (inr four) (inl e) is = omega (arith, four, e, is)
+written_not_16 status code either (inr e) is = omega (arith, e, is)
+
+-- a stop before a statement did anything
+pub unit_cause : (stop : Stop) (before now : ℕ) (other : Type 0) → IsUnitStop before now other stop → ¬ (status_of stop ≢ 16) → Rose before now
+unit_cause stops.Pool before now other why not = why
+unit_cause stops.Memory before now other why not = absurd (not (λ is. omega (arith, is)))
+unit_cause stops.Form before now other why not = absurd (not (λ is. omega (arith, is)))
+unit_cause stops.Sysin before now other why not = absurd why
+unit_cause stops.Words before now other why not = absurd why
+
+-- a stop before the journal is opened
+pub text_not_16 : (stop : Stop) (before now : ℕ) (outside : Type 0) → IsTextStop before now outside stop → status_of stop ≢ 16
+text_not_16 stops.Sysin before now outside why is = omega (arith, is)
+text_not_16 stops.Form before now outside why is = omega (arith, is)
+text_not_16 stops.Pool before now outside why is = absurd why
+text_not_16 stops.Memory before now outside why is = absurd why
+text_not_16 stops.Words before now outside why is = absurd why
+
+-- a journal that isn't opened
+pub fault_cause : (fault : JournalFault) (R : Type 0) → (fault ≡ Pool → R) → ¬ (fault_status fault ≢ 16) → R
+fault_cause Pool R given not = given refl
+fault_cause NoMemory R given not = absurd (not (λ is. omega (arith, is)))
+fault_cause (BadJournal why) R given not = absurd (not (λ is. omega (arith, is)))
+fault_cause (WrongUnit unit kept found) R given not = absurd (not (λ is. omega (arith, is)))
+fault_cause (JournalSmall need have) R given not = absurd (not (λ is. omega (arith, is)))
+
 -- ---- a statement
 
-module _ (statement : Statement) (name : List ℕ) (tells : Type 0) (shape : Shape) (state : State) (pool_before pool_now : ℕ) (before after : Option (List ℕ)) (sink_before sink_now : ℕ) where
+module _ (statement : Statement) (name : List ℕ) (tells : Type 0) (shape : Shape) (state : State) (before after : Option (List ℕ)) (sink_before sink_now : ℕ) where
   abbrev Ends : ℕ → List Step → Option Step → Type 0
-  Ends status steps pending = EndsStatement statement status name tells shape state pool_before pool_now before after sink_before sink_now steps pending
+  Ends status steps pending = EndsStatement statement status name tells shape state before after sink_before sink_now steps pending
 
   -- it ended with its code, or its lines weren't taken
   module _ (status code : ℕ) (steps : List Step) (text : List ℕ) (means : tells → Means statement name shape state.contents code steps text)
@@ -83,7 +114,6 @@ module _ (statement : Statement) (name : List ℕ) (tells : Type 0) (shape : Sha
           let own = ended either is in
           (text, subst (λ (c : ℕ). tells → Means statement name shape state.contents c steps text) (sym own) means, whole own);
       cut = λ is. (code, text, means, (some is).0);
-      pool = λ is. absurd (other 16 code-is either is (omega arith) (omega arith) (omega arith));
       sink = λ is. (some is).1;
       outside = λ is. absurd (other 48 code-is either is (omega arith) (omega arith) (omega arith));
       undone = undone code-is either;
@@ -92,52 +122,48 @@ module _ (statement : Statement) (name : List ℕ) (tells : Type 0) (shape : Sha
     }
 
   -- it stopped before it did anything
-  pub statement_stopped : (stop : Stop) → IsUnitStop pool_before pool_now (tells → IsOtherUnit name statement shape state.contents) stop
+  pub statement_stopped : (stop : Stop) (pool_before pool_now : ℕ) → IsUnitStop pool_before pool_now (tells → IsOtherUnit name statement shape state.contents) stop
       → Tells before after sink_before sink_now (last_line (status_of stop)) → Ends (status_of stop) [] None
-  statement_stopped stops.Pool why told = record {
+  statement_stopped stops.Pool pool_before pool_now why told = record {
     known = inr (inr (inl refl));
     done = λ is. absurd (not_done 16 (omega arith) (omega arith) is);
     cut = λ e. absurd (omega (arith, e));
-    pool = λ e. why;
     sink = λ e. absurd (omega (arith, e));
     outside = λ e. absurd (omega (arith, e));
     undone = λ zero out. refl;
     under_way = λ step is. absurd (let e : None ≡ Some step = is in cc);
     told = λ zero four out. told;
   }
-  statement_stopped stops.Memory why told = record {
+  statement_stopped stops.Memory pool_before pool_now why told = record {
     known = inr (inr (inr (inr (inl refl))));
     done = λ is. absurd (not_done 32 (omega arith) (omega arith) is);
     cut = λ e. absurd (omega (arith, e));
-    pool = λ e. absurd (omega (arith, e));
     sink = λ e. absurd (omega (arith, e));
     outside = λ e. absurd (omega (arith, e));
     undone = λ zero out. refl;
     under_way = λ step is. absurd (let e : None ≡ Some step = is in cc);
     told = λ zero four out. told;
   }
-  statement_stopped stops.Form why told = record {
+  statement_stopped stops.Form pool_before pool_now why told = record {
     known = inr (inr (inr (inr (inr refl))));
     done = λ is. absurd (not_done 48 (omega arith) (omega arith) is);
     cut = λ e. absurd (omega (arith, e));
-    pool = λ e. absurd (omega (arith, e));
     sink = λ e. absurd (omega (arith, e));
     outside = λ e. why;
     undone = λ zero out. refl;
     under_way = λ step is. absurd (let e : None ≡ Some step = is in cc);
     told = λ zero four out. told;
   }
-  statement_stopped stops.Sysin why told = absurd why
-  statement_stopped stops.Words why told = absurd why
+  statement_stopped stops.Sysin pool_before pool_now why told = absurd why
+  statement_stopped stops.Words pool_before pool_now why told = absurd why
 
   -- a fault of the pool cut its step short
-  pub statement_cut_short : (step : Step) (text : List ℕ) → (tells → Means statement name shape state.contents 0 (step ∷ []) text) → Rose pool_before pool_now
+  pub statement_cut_short : (step : Step) (text : List ℕ) → (tells → Means statement name shape state.contents 0 (step ∷ []) text)
       → Tells before after sink_before sink_now (started 1 (codes "RELEASE") ++ last_line 16) → Ends 16 [] (Some step)
-  statement_cut_short step text means rose told = record {
+  statement_cut_short step text means told = record {
     known = inr (inr (inl refl));
     done = λ is. absurd (not_done 16 (omega arith) (omega arith) is);
     cut = λ e. absurd (omega (arith, e));
-    pool = λ e. rose;
     sink = λ e. absurd (omega (arith, e));
     outside = λ e. absurd (omega (arith, e));
     undone = λ zero out. refl;
@@ -148,8 +174,8 @@ module _ (statement : Statement) (name : List ℕ) (tells : Type 0) (shape : Sha
   }
 
 -- the same from an earlier moment on, since which nothing was written
-module _ (statement : Statement) (name : List ℕ) (tells : Type 0) (shape mid_shape : Shape) (state mid : State) (pool_before pool_mid pool_now : ℕ) (before after : Option (List ℕ)) (sink_before sink_now : ℕ)
-    (same_shape : mid_shape ≡ shape) (same : tells → mid ≡ state) (later : pool_before ≤ pool_mid) where
+module _ (statement : Statement) (name : List ℕ) (tells : Type 0) (shape mid_shape : Shape) (state mid : State) (before after : Option (List ℕ)) (sink_before sink_now : ℕ)
+    (same_shape : mid_shape ≡ shape) (same : tells → mid ≡ state) where
   meant_before : (code : ℕ) (steps : List Step) (text : List ℕ) → (tells → Means statement name mid_shape mid.contents code steps text)
       → tells → Means statement name shape state.contents code steps text
   meant_before code steps text means told =
@@ -157,13 +183,12 @@ module _ (statement : Statement) (name : List ℕ) (tells : Type 0) (shape mid_s
       (subst (λ (s : State). Means statement name mid_shape s.contents code steps text) (same told) (means told))
 
   pub statement_since : (status : ℕ) (steps : List Step) (pending : Option Step)
-      → EndsStatement statement status name tells mid_shape mid pool_mid pool_now before after sink_before sink_now steps pending
-      → EndsStatement statement status name tells shape state pool_before pool_now before after sink_before sink_now steps pending
+      → EndsStatement statement status name tells mid_shape mid before after sink_before sink_now steps pending
+      → EndsStatement statement status name tells shape state before after sink_before sink_now steps pending
   statement_since status steps pending ends = record {
     known = ends.known;
     done = λ is. let found = ends.done is in (found.0, meant_before status steps found.0 found.1, found.2);
     cut = λ is. let found = ends.cut is in (found.0, found.1, meant_before found.0 steps found.1 found.2, found.3);
-    pool = λ is. rose_since pool_before pool_mid pool_now later (ends.pool is);
     sink = ends.sink;
     outside = λ is told.
         subst (λ (s : Shape). IsOtherUnit name statement s state.contents) same_shape
@@ -175,10 +200,10 @@ module _ (statement : Statement) (name : List ℕ) (tells : Type 0) (shape mid_s
 
 -- ---- a run that ends before the journal is opened
 
-module _ (words : List (List ℕ)) (sysin : Option (List ℕ)) (tells : Type 0) (shape : Shape) (state : State) (pool_before pool_now source_before source_now : ℕ)
+module _ (words : List (List ℕ)) (sysin : Option (List ℕ)) (tells : Type 0) (shape : Shape) (state : State) (source_before source_now : ℕ)
     (before after : Option (List ℕ)) (sink_before sink_now : ℕ) where
   abbrev Run : ℕ → List Step → Option Step → Type 0
-  Run status steps pending = EndsRun status words sysin tells shape state pool_before pool_now source_before source_now before after sink_before sink_now steps pending
+  Run status steps pending = EndsRun status words sysin tells shape state source_before source_now before after sink_before sink_now steps pending
 
   pub text_stopped : (stop : Stop) → IsTextStop source_before source_now (IsOutsideText words sysin) stop → Tells before after sink_before sink_now (last_line (status_of stop))
       → Run (status_of stop) [] None
@@ -186,7 +211,6 @@ module _ (words : List (List ℕ)) (sysin : Option (List ℕ)) (tells : Type 0) 
     known = inr (inr (inr (inr (inl refl))));
     done = λ is. absurd (not_done 24 (omega arith) (omega arith) is);
     cut = λ e. absurd (omega (arith, e));
-    pool = λ e. absurd (omega (arith, e));
     source = λ e. why;
     sink = λ e. absurd (omega (arith, e));
     asked = λ e. absurd (omega (arith, e));
@@ -200,7 +224,6 @@ module _ (words : List (List ℕ)) (sysin : Option (List ℕ)) (tells : Type 0) 
     known = inr (inr (inr (inr (inr (inr (inr refl))))));
     done = λ is. absurd (not_done 48 (omega arith) (omega arith) is);
     cut = λ e. absurd (omega (arith, e));
-    pool = λ e. absurd (omega (arith, e));
     source = λ e. absurd (omega (arith, e));
     sink = λ e. absurd (omega (arith, e));
     asked = λ e. absurd (omega (arith, e));
@@ -223,7 +246,6 @@ module _ (words : List (List ℕ)) (sysin : Option (List ℕ)) (tells : Type 0) 
       known = inr (inr (inr (inl twenty)));
       done = λ is. absurd (not_done (fault_status fault) (omega (arith, twenty)) (omega (arith, twenty)) is);
       cut = λ e. absurd (omega (arith, e, twenty));
-      pool = λ e. absurd (omega (arith, e, twenty));
       source = λ e. absurd (omega (arith, e, twenty));
       sink = λ e. absurd (omega (arith, e, twenty));
       asked = λ e. absurd (omega (arith, e, twenty));
@@ -245,12 +267,11 @@ module _ (words : List (List ℕ)) (sysin : Option (List ℕ)) (tells : Type 0) 
     }
 
     pub not_opened : (names : List Serial) (fault : JournalFault) → IsOnlySerial named.name names → (tells → IsOpenFault shape state.contents names fault)
-        → (fault ≡ Pool → Rose pool_before pool_now) → Tells before after sink_before sink_now (fault_line fault) → Run (fault_status fault) [] None
-    not_opened names Pool names_are cause rose told = record {
+        → Tells before after sink_before sink_now (fault_line fault) → Run (fault_status fault) [] None
+    not_opened names Pool names_are cause told = record {
       known = inr (inr (inl refl));
       done = λ is. absurd (not_done 16 (omega arith) (omega arith) is);
       cut = λ e. absurd (omega (arith, e));
-      pool = λ e. rose refl;
       source = λ e. absurd (omega (arith, e));
       sink = λ e. absurd (omega (arith, e));
       asked = λ e. (named, statement, asked);
@@ -260,11 +281,10 @@ module _ (words : List (List ℕ)) (sysin : Option (List ℕ)) (tells : Type 0) 
       under_way = λ step is. absurd (let e : None ≡ Some step = is in cc);
       told = λ zero four twenty out. told;
     }
-    not_opened names NoMemory names_are cause rose told = record {
+    not_opened names NoMemory names_are cause told = record {
       known = inr (inr (inr (inr (inr (inr (inl refl))))));
       done = λ is. absurd (not_done 32 (omega arith) (omega arith) is);
       cut = λ e. absurd (omega (arith, e));
-      pool = λ e. absurd (omega (arith, e));
       source = λ e. absurd (omega (arith, e));
       sink = λ e. absurd (omega (arith, e));
       asked = λ e. absurd (omega (arith, e));
@@ -274,15 +294,15 @@ module _ (words : List (List ℕ)) (sysin : Option (List ℕ)) (tells : Type 0) 
       under_way = λ step is. absurd (let e : None ≡ Some step = is in cc);
       told = λ zero four twenty out. told;
     }
-    not_opened names (BadJournal why) names_are cause rose told = refusal names (BadJournal why) names_are refl refl tt cause told
-    not_opened names (WrongUnit unit kept found) names_are cause rose told = refusal names (WrongUnit unit kept found) names_are refl refl tt cause told
-    not_opened names (JournalSmall need have) names_are cause rose told = refusal names (JournalSmall need have) names_are refl refl tt cause told
+    not_opened names (BadJournal why) names_are cause told = refusal names (BadJournal why) names_are refl refl tt cause told
+    not_opened names (WrongUnit unit kept found) names_are cause told = refusal names (WrongUnit unit kept found) names_are refl refl tt cause told
+    not_opened names (JournalSmall need have) names_are cause told = refusal names (JournalSmall need have) names_are refl refl tt cause told
 
     -- ---- a statement over an open journal
 
-    module _ (status : ℕ) (mid : State) (pool_mid : ℕ) (names : List Serial) (room : ℕ) (control : Control) (fills : List Bool) (steps : List Step) (pending : Option Step)
-        (some : 0 < journal_of shape) (later : pool_before ≤ pool_mid) (opens : tells → OpensUnder named.name shape state.contents) (opened : tells → IsOpened shape state names room control fills mid)
-        (ends : EndsStatement statement status named.name tells shape mid pool_mid pool_now before after sink_before sink_now steps pending) where
+    module _ (status : ℕ) (mid : State) (names : List Serial) (room : ℕ) (control : Control) (fills : List Bool) (steps : List Step) (pending : Option Step)
+        (some : 0 < journal_of shape) (opens : tells → OpensUnder named.name shape state.contents) (opened : tells → IsOpened shape state names room control fills mid)
+        (ends : EndsStatement statement status named.name tells shape mid before after sink_before sink_now steps pending) where
       meant : (code : ℕ) (did : List Step) (text : List ℕ) → (tells → Means statement named.name shape mid.contents code did text)
           → tells → Means statement named.name shape state.contents code did text
       meant code did text means tell = means_back shape state mid names room control fills (opened tell) some statement named.name code did text (means tell)
@@ -305,7 +325,6 @@ module _ (words : List (List ℕ)) (sysin : Option (List ℕ)) (tells : Type 0) 
         cut = λ is.
             let found = ends.cut is in
             (found.0, found.1, record { named = named; statement = statement; asked = asked; opens = opens; means = meant found.0 steps found.1 found.2 }, found.3);
-        pool = λ e. rose_since pool_before pool_mid pool_now later (ends.pool e);
         source = λ e. absurd (not_20_24 status ends.known (inr e));
         sink = ends.sink;
         asked = λ e. (named, statement, asked);
@@ -318,7 +337,18 @@ module _ (words : List (List ℕ)) (sysin : Option (List ℕ)) (tells : Type 0) 
         told = λ zero four twenty out. ends.told zero four out;
       }
 
--- ---- which statuses a run that ends so doesn't have
+-- ---- which statuses a run that ends so has, and doesn't have
+
+pub some_status : (status : ℕ) → (status ≡ 0) ⊎ (status ≡ 4) ⊎ (status ≡ 16) ⊎ (status ≡ 20) ⊎ (status ≡ 24) ⊎ (status ≡ 28) ⊎ (status ≡ 32) ⊎ (status ≡ 48)
+    → (status ≡ 0) ⊎ (status ≡ 4) ⊎ (status ≡ 16) ⊎ (status ≡ 20) ⊎ (status ≡ 24) ⊎ (status ≡ 28) ⊎ (status ≡ 32) ⊎ (status ≡ 36) ⊎ (status ≡ 48)
+some_status status (inl e) = inl e
+some_status status (inr (inl e)) = inr (inl e)
+some_status status (inr (inr (inl e))) = inr (inr (inl e))
+some_status status (inr (inr (inr (inl e)))) = inr (inr (inr (inl e)))
+some_status status (inr (inr (inr (inr (inl e))))) = inr (inr (inr (inr (inl e))))
+some_status status (inr (inr (inr (inr (inr (inl e)))))) = inr (inr (inr (inr (inr (inl e)))))
+some_status status (inr (inr (inr (inr (inr (inr (inl e))))))) = inr (inr (inr (inr (inr (inr (inl e))))))
+some_status status (inr (inr (inr (inr (inr (inr (inr e))))))) = inr (inr (inr (inr (inr (inr (inr (inr e)))))))
 
 pub not_36 : (status : ℕ) → (status ≡ 0) ⊎ (status ≡ 4) ⊎ (status ≡ 16) ⊎ (status ≡ 20) ⊎ (status ≡ 24) ⊎ (status ≡ 28) ⊎ (status ≡ 32) ⊎ (status ≡ 48) → status ≡ 36 → ⊥
 not_36 status (inl e) s = omega (arith, e, s)

@@ -2,12 +2,8 @@
 use Rattle.std.specs.Prelude.{◌≡◌, ◌⊎◌, ℕ, List, [], ◌∷◌, ◌++◌, Option, Some, None, codes}
 use Rattle.dasd_pool.specs.Disk.{Image, Shape, State}
 use Rattle.dsn_filter.specs.declared.dsn.Dsn.{Dsn}
-use Rattle.vol_label.specs.declared.serial.Serial.{Serial}
-use Rattle.volume_model.specs.Unit.{UnitModel}
 use Rattle.move_core.specs.declared.steps.Step.{Step}
 use Rattle.move_core.specs.declared.steps.Step.TheVariants.{Shrink}
-use Rattle.move_core.specs.Stands.{IsSettled}
-use Rattle.move_core.specs.Steps.{Reaches}
 use Rattle.adr_top.specs.declared.statement.Statement.{Statement}
 use Rattle.adr_top.specs.declared.statement.Statement.TheVariants.{Print, Release}
 use Rattle.adr_top.specs.Causes.{last_line}
@@ -48,10 +44,6 @@ ReadsAfter name steps shape old new =
 abbrev pub ReadsAfterText : List (List ℕ) → List Step → Shape → State → State → Type 0
 ReadsAfterText words steps shape old new =
     ((steps ≡ []) × IsReadOnly shape old new) ⊎ ((named : Named) × AreUnitWords words named × ReadsAfter named.name steps shape old new)
-
--- a pool is settled, and stands for the units after these steps
-abbrev pub IsSettledAfter : Shape → List Serial → List UnitModel → List Step → State → Type 0
-IsSettledAfter shape names units steps new = (after : List UnitModel) × Reaches units steps after × IsSettled shape names new after
 
 -- ---- what a run does
 

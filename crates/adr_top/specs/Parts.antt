@@ -51,14 +51,13 @@ pub record Formats (status : ℕ) (words : List (List ℕ)) (tells : Type 0) (sh
   pub refused : status ≡ 20 → RefusesJournal words tells shape old before after sink_before sink_now
   pub told : status ≢ 0 → status ≢ 20 → status ≢ 28 → Tells before after sink_before sink_now (last_line status)
 
--- How a statement over an open journal ended, by its status: the pool's count, what the sink took and its count, each before and
--- after, the steps that were done, and the one that was under way.
-pub record EndsStatement (statement : Statement) (status : ℕ) (name : List ℕ) (tells : Type 0) (shape : Shape) (state : State) (pool_before pool_now : ℕ)
+-- How a statement over an open journal ended, by its status: what the sink took and its count, each before and after, the steps that
+-- were done, and the one that was under way.
+pub record EndsStatement (statement : Statement) (status : ℕ) (name : List ℕ) (tells : Type 0) (shape : Shape) (state : State)
     (before after : Option (List ℕ)) (sink_before sink_now : ℕ) (steps : List Step) (pending : Option Step) : Type 0 where
   pub known : (status ≡ 0) ⊎ (status ≡ 4) ⊎ (status ≡ 16) ⊎ (status ≡ 28) ⊎ (status ≡ 32) ⊎ (status ≡ 48)
   pub done : (status ≡ 0) ⊎ (status ≡ 4) → (text : List ℕ) × (tells → Means statement name shape state.contents status steps text) × Appends before after text
   pub cut : status ≡ 28 → (code : ℕ) × (text : List ℕ) × (tells → Means statement name shape state.contents code steps text) × AppendsSome before after text
-  pub pool : status ≡ 16 → Rose pool_before pool_now
   pub sink : status ≡ 28 → Rose sink_before sink_now
   pub outside : status ≡ 48 → tells → IsOtherUnit name statement shape state.contents
   pub undone : status ≢ 0 → status ≢ 28 → steps ≡ []
@@ -66,12 +65,11 @@ pub record EndsStatement (statement : Statement) (status : ℕ) (name : List ℕ
   pub told : status ≢ 0 → status ≢ 4 → status ≢ 28 → Tells before after sink_before sink_now (last_lines status pending)
 
 -- How a run of a text ended, by its status: besides, the source's count before and after.
-pub record EndsRun (status : ℕ) (words : List (List ℕ)) (sysin : Option (List ℕ)) (tells : Type 0) (shape : Shape) (state : State) (pool_before pool_now source_before source_now : ℕ)
+pub record EndsRun (status : ℕ) (words : List (List ℕ)) (sysin : Option (List ℕ)) (tells : Type 0) (shape : Shape) (state : State) (source_before source_now : ℕ)
     (before after : Option (List ℕ)) (sink_before sink_now : ℕ) (steps : List Step) (pending : Option Step) : Type 0 where
   pub known : (status ≡ 0) ⊎ (status ≡ 4) ⊎ (status ≡ 16) ⊎ (status ≡ 20) ⊎ (status ≡ 24) ⊎ (status ≡ 28) ⊎ (status ≡ 32) ⊎ (status ≡ 48)
   pub done : (status ≡ 0) ⊎ (status ≡ 4) → (text : List ℕ) × MeansText words sysin tells shape state.contents status steps text × Appends before after text
   pub cut : status ≡ 28 → (code : ℕ) × (text : List ℕ) × MeansText words sysin tells shape state.contents code steps text × AppendsSome before after text
-  pub pool : status ≡ 16 → Rose pool_before pool_now
   pub source : status ≡ 24 → Rose source_before source_now
   pub sink : status ≡ 28 → Rose sink_before sink_now
   pub asked : status ≡ 16 → AsksSome words sysin

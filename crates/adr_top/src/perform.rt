@@ -1,20 +1,18 @@
 //! Statements over an open journal.
 
-ghost use Rattle.std.specs.Prelude.{◌≡◌, ◌≢◌, ◌<◌, ◌≤◌, ℕ, List, [], None, false, IfOk, IfErr, string_bytes};
+ghost use Rattle.std.specs.Prelude.{◌≡◌, ◌≢◌, ◌<◌, ◌≤◌, ℕ, [], None, false, IfOk, IfErr, string_bytes};
 ghost use Rattle.dasd_pool.specs.Disk.{Runs, none};
 ghost use Rattle.dsn_filter.specs.Dsn.{IsDsn};
 ghost use Rattle.redo_core.specs.declared.control.Control.TheVariants.{Idle};
 ghost use Rattle.redo_core.specs.Phases.{IsAtRest};
 ghost use Rattle.redo_core.specs.Reading.{journal_of, fills_of};
-ghost use Rattle.vol_label.specs.declared.serial.Serial.{Serial};
 ghost use Rattle.vol_label.specs.Serial.{IsSerialName, Spells};
-ghost use Rattle.volume_model.specs.Unit.{UnitModel};
-ghost use Rattle.move_core.specs.Runs.{KeepsUnits};
-ghost use Rattle.move_core.specs.Stands.{IsSettled};
+ghost use Rattle.move_core.specs.Facts.{shown};
+ghost use Rattle.move_core.specs.Runs.{IsRun};
 ghost use Rattle.adr_top.specs.declared.statement.Statement.TheVariants as statements;
 ghost use Rattle.adr_top.specs.Form.{IsOtherUnit};
 ghost use Rattle.adr_top.specs.Listed.{ListsUnit};
-ghost use Rattle.adr_top.specs.Meaning.{ReadsAfter, IsSettledAfter};
+ghost use Rattle.adr_top.specs.Meaning.{ReadsAfter};
 ghost use Rattle.adr_top.specs.Parts.{EndsStatement};
 ghost use Rattle.adr_top.specs.Planned.{IsPlannedChange, IsReady};
 ghost use Rattle.adr_top.specs.Statement.{IsNamed};
@@ -69,16 +67,11 @@ fn list<O: Sink, P: Pool>(
     requires rest { P.tells → IsAtRest (P.shape journal.pool) (P.disk journal.pool).state journal.room journal.control journal.fills }
     requires room { 3 ≤ journal.room }
     requires idle { (journal.control ≡ Idle) × ((u : ℕ) → u < journal_of (P.shape journal.pool) → fills_of journal.fills u ≡ false) }
-    ensures ends { EndsStatement statements.Print result.status files.entry.name.now P.tells (P.shape journal.pool) (P.disk journal.pool).state (P.faults journal.pool) (P.faults result.pool)
+    ensures ends { EndsStatement statements.Print result.status files.entry.name.now P.tells (P.shape journal.pool) (P.disk journal.pool).state
         (O.taken out.old) (O.taken out.new) (O.faults out.old) (O.faults out.new) result.steps.items result.pending }
-    ensures later { P.faults journal.pool ≤ P.faults result.pool }
-    ensures shape { P.shape result.pool ≡ P.shape journal.pool }
     ensures reads { P.tells → result.status ≢ 16 → ReadsAfter files.entry.name.now result.steps.items (P.shape journal.pool) (P.disk journal.pool).state (P.disk result.pool).state }
-    ensures keeps { P.tells → (names : List Serial) (units : List UnitModel) → IsSettled (P.shape journal.pool) names (P.disk journal.pool).state units
-        → KeepsUnits (P.shape journal.pool) names (P.disk journal.pool) (P.disk result.pool) (P.faults journal.pool) (P.faults result.pool) units result.steps.items result.pending }
     ensures quiet { P.tells → result.steps.items ≡ [] → result.pending ≡ None → Runs none (P.disk journal.pool) (P.disk result.pool) }
-    ensures settled { P.tells → result.status ≢ 16 → (names : List Serial) (units : List UnitModel) → IsSettled (P.shape journal.pool) names (P.disk journal.pool).state units
-        → IsSettledAfter (P.shape journal.pool) names units result.steps.items (P.disk result.pool).state }
+    ensures run { IsRun P.tells (shown P.Pool journal.pool) (shown P.Pool result.pool) (result.status ≢ 16) result.steps.items result.pending }
 {
     match lines(alloc, files, &mut journal) {
         Ok(text) => {
@@ -109,16 +102,11 @@ fn put<O: Sink, P: Pool>(
     requires ready { IsReady ((P.shape journal.pool).blocks 0) ((P.shape journal.pool).block_size 0) change }
     requires planned { P.tells → IsPlannedChange files.name.now ((P.shape journal.pool).head 0) ((P.shape journal.pool).blocks 0)
         ((P.disk journal.pool).state.contents 0) name change }
-    ensures ends { EndsStatement (statements.Release name) result.status files.entry.name.now P.tells (P.shape journal.pool) (P.disk journal.pool).state (P.faults journal.pool) (P.faults result.pool)
+    ensures ends { EndsStatement (statements.Release name) result.status files.entry.name.now P.tells (P.shape journal.pool) (P.disk journal.pool).state
         (O.taken out.old) (O.taken out.new) (O.faults out.old) (O.faults out.new) result.steps.items result.pending }
-    ensures later { P.faults journal.pool ≤ P.faults result.pool }
-    ensures shape { P.shape result.pool ≡ P.shape journal.pool }
     ensures reads { P.tells → result.status ≢ 16 → ReadsAfter files.entry.name.now result.steps.items (P.shape journal.pool) (P.disk journal.pool).state (P.disk result.pool).state }
-    ensures keeps { P.tells → (names : List Serial) (units : List UnitModel) → IsSettled (P.shape journal.pool) names (P.disk journal.pool).state units
-        → KeepsUnits (P.shape journal.pool) names (P.disk journal.pool) (P.disk result.pool) (P.faults journal.pool) (P.faults result.pool) units result.steps.items result.pending }
     ensures quiet { P.tells → result.steps.items ≡ [] → result.pending ≡ None → Runs none (P.disk journal.pool) (P.disk result.pool) }
-    ensures settled { P.tells → result.status ≢ 16 → (names : List Serial) (units : List UnitModel) → IsSettled (P.shape journal.pool) names (P.disk journal.pool).state units
-        → IsSettledAfter (P.shape journal.pool) names units result.steps.items (P.disk result.pool).state }
+    ensures run { IsRun P.tells (shown P.Pool journal.pool) (shown P.Pool result.pool) (result.status ≢ 16) result.steps.items result.pending }
 {
     let Change {
         entries,
@@ -156,16 +144,11 @@ fn release<O: Sink, P: Pool>(
     requires room { 3 ≤ journal.room }
     requires idle { (journal.control ≡ Idle) × ((u : ℕ) → u < journal_of (P.shape journal.pool) → fills_of journal.fills u ≡ false) }
     requires name { IsDsn name }
-    ensures ends { EndsStatement (statements.Release name) result.status files.entry.name.now P.tells (P.shape journal.pool) (P.disk journal.pool).state (P.faults journal.pool) (P.faults result.pool)
+    ensures ends { EndsStatement (statements.Release name) result.status files.entry.name.now P.tells (P.shape journal.pool) (P.disk journal.pool).state
         (O.taken out.old) (O.taken out.new) (O.faults out.old) (O.faults out.new) result.steps.items result.pending }
-    ensures later { P.faults journal.pool ≤ P.faults result.pool }
-    ensures shape { P.shape result.pool ≡ P.shape journal.pool }
     ensures reads { P.tells → result.status ≢ 16 → ReadsAfter files.entry.name.now result.steps.items (P.shape journal.pool) (P.disk journal.pool).state (P.disk result.pool).state }
-    ensures keeps { P.tells → (names : List Serial) (units : List UnitModel) → IsSettled (P.shape journal.pool) names (P.disk journal.pool).state units
-        → KeepsUnits (P.shape journal.pool) names (P.disk journal.pool) (P.disk result.pool) (P.faults journal.pool) (P.faults result.pool) units result.steps.items result.pending }
     ensures quiet { P.tells → result.steps.items ≡ [] → result.pending ≡ None → Runs none (P.disk journal.pool) (P.disk result.pool) }
-    ensures settled { P.tells → result.status ≢ 16 → (names : List Serial) (units : List UnitModel) → IsSettled (P.shape journal.pool) names (P.disk journal.pool).state units
-        → IsSettledAfter (P.shape journal.pool) names units result.steps.items (P.disk result.pool).state }
+    ensures run { IsRun P.tells (shown P.Pool journal.pool) (shown P.Pool result.pool) (result.status ≢ 16) result.steps.items result.pending }
 {
     let status = match plan_release(alloc, files, name, &mut journal) {
         Ok(Plan::Cut(change)) => return put(alloc, files, name, change, out, journal),
@@ -190,16 +173,11 @@ pub(crate) fn perform<O: Sink, P: Pool>(
     requires room { 3 ≤ journal.room }
     requires idle { (journal.control ≡ Idle) × ((u : ℕ) → u < journal_of (P.shape journal.pool) → fills_of journal.fills u ≡ false) }
     requires name { IsNamed statement }
-    ensures ends { EndsStatement statement result.status files.entry.name.now P.tells (P.shape journal.pool) (P.disk journal.pool).state (P.faults journal.pool) (P.faults result.pool)
+    ensures ends { EndsStatement statement result.status files.entry.name.now P.tells (P.shape journal.pool) (P.disk journal.pool).state
         (O.taken out.old) (O.taken out.new) (O.faults out.old) (O.faults out.new) result.steps.items result.pending }
-    ensures later { P.faults journal.pool ≤ P.faults result.pool }
-    ensures shape { P.shape result.pool ≡ P.shape journal.pool }
     ensures reads { P.tells → result.status ≢ 16 → ReadsAfter files.entry.name.now result.steps.items (P.shape journal.pool) (P.disk journal.pool).state (P.disk result.pool).state }
-    ensures keeps { P.tells → (names : List Serial) (units : List UnitModel) → IsSettled (P.shape journal.pool) names (P.disk journal.pool).state units
-        → KeepsUnits (P.shape journal.pool) names (P.disk journal.pool) (P.disk result.pool) (P.faults journal.pool) (P.faults result.pool) units result.steps.items result.pending }
     ensures quiet { P.tells → result.steps.items ≡ [] → result.pending ≡ None → Runs none (P.disk journal.pool) (P.disk result.pool) }
-    ensures settled { P.tells → result.status ≢ 16 → (names : List Serial) (units : List UnitModel) → IsSettled (P.shape journal.pool) names (P.disk journal.pool).state units
-        → IsSettledAfter (P.shape journal.pool) names units result.steps.items (P.disk result.pool).state }
+    ensures run { IsRun P.tells (shown P.Pool journal.pool) (shown P.Pool result.pool) (result.status ≢ 16) result.steps.items result.pending }
 {
     match statement {
         Statement::Print => list(alloc, files, out, journal),

@@ -6,15 +6,15 @@ ghost use Rattle.dasd_pool.specs.Disk.{Image, LeavesOnly, Runs, none};
 ghost use Rattle.dasd_pool.specs.Stream.{Appends, AppendsSome};
 ghost use Rattle.redo_core.specs.Opening.{SparesVolumes, of_opening};
 ghost use Rattle.redo_core.specs.Reading.{journal_of};
-ghost use Rattle.vol_label.specs.declared.serial.Serial.{Serial};
 ghost use Rattle.vol_label.specs.Serial.{Spells};
 ghost use Rattle.volume_model.specs.Unit.{UnitModel};
+ghost use Rattle.move_core.specs.Facts.{Facts, shown};
 ghost use Rattle.move_core.specs.Stands.{IsSettled};
-ghost use Rattle.move_core.specs.Runs.{KeepsUnits, StandsAfterSome, moves_of};
+ghost use Rattle.move_core.specs.Runs.{IsRun, StandsAfterSome, moves_of};
 ghost use Rattle.adr_top.specs.Causes.{IsOutOfWords, HasStatusCause, SaysForm};
 ghost use Rattle.adr_top.specs.Form.{Asks, AsksSome, IsOutsideText};
 ghost use Rattle.adr_top.specs.Listed.{Tells, TakesFew};
-ghost use Rattle.adr_top.specs.Meaning.{Does, DoesSome, IsCutShort, IsSettledAfter, ReadsAfterText, last_lines};
+ghost use Rattle.adr_top.specs.Meaning.{Does, DoesSome, IsCutShort, ReadsAfterText, last_lines};
 ghost use Rattle.adr_top.specs.Statement.{IsNamed};
 ghost use Rattle.adr_top.specs.Stops.{IsTextStop};
 ghost use Rattle.adr_top.specs.Journals.{RefusesJournal, RefusesOpening};
@@ -104,19 +104,15 @@ fn run<S: Source, O: Sink, P: Pool>(
     pool: P,
 ) -> Moved<P>
     requires { (P.shape pool).units ≡ 2 }
-    ensures ran { EndsRun result.status words.now (S.left sysin.old) P.tells (P.shape pool) (P.disk pool).state (P.faults pool) (P.faults result.pool)
+    ensures ran { EndsRun result.status words.now (S.left sysin.old) P.tells (P.shape pool) (P.disk pool).state
         (S.faults sysin.old) (S.faults sysin.new) (O.taken out.old) (O.taken out.new) (O.faults out.old) (O.faults out.new) result.steps.items result.pending }
     ensures few { result.status ≢ 24 → TakesFew 129 (S.left sysin.old) (S.left sysin.new) }
-    ensures shape { P.shape result.pool ≡ P.shape pool }
     ensures reads { P.tells → result.status ≢ 16 → ReadsAfterText words.now result.steps.items (P.shape pool) (P.disk pool).state (P.disk result.pool).state }
     ensures unwritten { P.tells → (result.status ≡ 20) ⊎ (result.status ≡ 24) → Runs none (P.disk pool) (P.disk result.pool) }
     ensures quiet { P.tells → result.steps.items ≡ [] → result.pending ≡ None
         → Runs (of_opening (journal_of (P.shape pool)) (P.disk pool).state.contents) (P.disk pool) (P.disk result.pool) }
     ensures unasked { P.tells → ¬ AsksSome words.now (S.left sysin.old) → Runs none (P.disk pool) (P.disk result.pool) }
-    ensures keeps { P.tells → (names : List Serial) (units : List UnitModel) → IsSettled (P.shape pool) names (P.disk pool).state units
-        → KeepsUnits (P.shape pool) names (P.disk pool) (P.disk result.pool) (P.faults pool) (P.faults result.pool) units result.steps.items result.pending }
-    ensures settled { P.tells → result.status ≢ 16 → (names : List Serial) (units : List UnitModel) → IsSettled (P.shape pool) names (P.disk pool).state units
-        → IsSettledAfter (P.shape pool) names units result.steps.items (P.disk result.pool).state }
+    ensures run { IsRun P.tells (shown P.Pool pool) (shown P.Pool result.pool) (result.status ≢ 16) result.steps.items result.pending }
 {
     let request = match read_request(words, sysin) {
         Ok(request) => request,
@@ -223,18 +219,14 @@ pub fn batch<S: Source, H: Source, O: Sink, P: Pool>(
     ensures unread_held { (H.left _held.new ≡ H.left _held.old) × (H.faults _held.new ≡ H.faults _held.old) }
     ensures unread { (named : FormatNamed) → AreFormatWords words.now named → (S.left sysin.new ≡ S.left sysin.old) × (S.faults sysin.new ≡ S.faults sysin.old) }
 
-    // Over a settled pool: whatever moment a stop comes at, the units stand as they were, or as the steps leave them. Where the pool
-    // didn't fail they stand as all steps leave them, and the pool is settled. So each image that a stop may have left since the run began stands
-    // for the units after a prefix of its moves.
-    ensures headline { P.tells → ((named : FormatNamed) → ¬ AreFormatWords words.now named) → (names : List Serial) (units : List UnitModel)
-        → IsSettled (P.shape pool) names (P.disk pool).state units
-        → KeepsUnits (P.shape pool) names (P.disk pool) (P.disk result.pool) (P.faults pool) (P.faults result.pool) units result.steps.items result.pending }
-    ensures stops { P.tells → ((named : FormatNamed) → ¬ AreFormatWords words.now named) → (names : List Serial) (units : List UnitModel)
-        → IsSettled (P.shape pool) names (P.disk pool).state units → (image : Image) → (P.disk result.pool).left_since (P.disk pool).moment image
-        → StandsAfterSome (P.shape pool) names units (moves_of result.steps.items result.pending) image }
-    ensures settled { P.tells → ((named : FormatNamed) → ¬ AreFormatWords words.now named) → result.status ≢ 16 → (names : List Serial) (units : List UnitModel)
-        → IsSettled (P.shape pool) names (P.disk pool).state units
-        → IsSettledAfter (P.shape pool) names units result.steps.items (P.disk result.pool).state }
+    // Over a settled pool, for any names and room: whatever moment a stop comes at, the units stand as they were, or as the steps leave them.
+    // Where it doesn't end with 16 they stand as all steps leave them, none is under way, and the pool is settled. So each image that a stop may
+    // have left since the run began stands for the units after a prefix of its moves.
+    ensures headline { ((named : FormatNamed) → ¬ AreFormatWords words.now named)
+        → IsRun P.tells (shown P.Pool pool) (shown P.Pool result.pool) (result.status ≢ 16) result.steps.items result.pending }
+    ensures stops { P.tells → ((named : FormatNamed) → ¬ AreFormatWords words.now named) → (facts : Facts) → facts.shape ≡ P.shape pool → (units : List UnitModel)
+        → IsSettled facts (P.disk pool).state units → (image : Image) → (P.disk result.pool).left_since (P.disk pool).moment image
+        → StandsAfterSome facts units (moves_of result.steps.items result.pending) image }
 
     // A run that doesn't make a journal leaves what the pool's blocks read but for the VTOC that its step shrank, unless the pool
     // failed. A refusal writes nothing at any moment, and neither does a run whose words and text ask for nothing. One that did no step and has

@@ -1,238 +1,262 @@
--- What a run keeps of the units that a pool stood for: at rest, within an opening, and after each step that a commit makes.
-use Rattle.std.proofs.Common.{◌≡◌, ⊎_elim, inl, inr, ℕ, zero, suc, ◌≤◌, List, [], ◌∷◌, ◌++◌, length, take, Bool, false, Option, Some, None, refl, sym, subst, arith}
+-- What a run keeps of the units that a pool stood for, and how runs follow one another.
+use Rattle.std.proofs.Common.{◌≡◌, ◌⊎◌, ⊎_elim, inl, ℕ, ◌+◌, ◌≤◌, List, [], ◌∷◌, ◌++◌, length, take, Bool, false, Option, Some, None, refl, sym, subst, arith, append_assoc}
 use Rattle.std.proofs.lemmas.List.{length-append, take-append-le, take_all}
-use Rattle.dasd_pool.specs.Count.{Rose}
-use Rattle.dasd_pool.specs.Disk.{Image, Shape, State, Disk, LeavesOnly, Touches, Spares, Runs, none}
+use Rattle.std.proofs.Math.Seq.{take-append-add}
+use Rattle.dasd_pool.specs.Disk.{Image, Shape, Disk, MayLeave, LeavesOnly, Touches, Spares, Runs, none}
 use Rattle.dasd_pool.specs.Moments.{and_then, weaken, since_start, runs_start}
-use Rattle.vol_label.specs.declared.serial.Serial.{Serial}
-use Rattle.redo_core.specs.declared.control.Control.{Control}
 use Rattle.redo_core.specs.declared.entries.Entry.{Entry}
 use Rattle.redo_core.specs.Format.{is_open}
-use Rattle.redo_core.specs.Reading.{journal_of}
+use Rattle.redo_core.specs.Reading.{journal_of, Reading}
 use Rattle.redo_core.specs.Phases.{OldOrNew, IsCommitted}
+use Rattle.redo_core.specs.declared.control.Control.{Control}
 use Rattle.redo_core.specs.Opening.{ReadsSame, IsOpened}
+use Rattle.vol_label.specs.declared.serial.Serial.{Serial}
 use Rattle.volume_model.specs.Unit.{UnitModel}
 use Rattle.move_core.specs.declared.steps.Step.{Step}
-use Rattle.move_core.specs.Steps.{IsStep, Reaches}
-use Rattle.move_core.specs.Stands.{Stands, IsSettled}
+use Rattle.move_core.specs.Facts.{Facts}
+use Rattle.move_core.specs.Steps.{Reaches}
+use Rattle.move_core.specs.Stands.{Stands, AreUnused, IsSettled}
 use Rattle.move_core.specs.Laws.{WillStand}
-use Rattle.move_core.specs.Runs.{moves_of, StandsAfter, StandsAfterSome, StandsAfterMost, KeepsUnits}
-use Rattle.move_core.proofs.Standing.{opening_stands, image_stands, opened_settled, commit_stands, committed_settled}
+use Rattle.move_core.proofs.Standing.{opening_stands, opened_settled, image_stands, commit_stands, committed_settled}
+use Rattle.move_core.specs.Runs.{moves_of, StandsAfterSome, StandsAfterMost, EndsSettled, KeepsUnits, KeepsEach}
+use Rattle.move_core.proofs.Unused.{masked, masked_left, masked_settled, unused_settled}
 
--- a settled pool of which nothing is written stays settled
-pub settled_touches : (shape : Shape) (names : List Serial) (old new : State) (units : List UnitModel)
-    → IsSettled shape names old units → Touches none old new → IsSettled shape names new units
-settled_touches shape names old new units settled touches =
-    let same : old.contents ≡ new.contents = λ i u b. sym (touches.contents u b refl) i in
-    let P : Image → Type 0 = λ contents. IsSettled shape names (record { contents = contents; synced = new.synced }) units in
-    subst P same (record {
-      stands = settled.stands;
-      journal = λ b. touches.synced (journal_of shape) b refl (settled.journal b);
-      vital = λ u b less rests. ⊎_elim (λ synced. inl (touches.synced u b refl synced)) (λ replaced. inr replaced) (settled.vital u b less rests);
-    })
+-- ---- steps one after another
 
--- a count that rose since a later moment rose since an earlier one
-pub rose_since : (before middle after : ℕ) → before ≤ middle → Rose middle after → Rose before after
-rose_since before middle after later rose below = omega (arith, later, rose below)
+pub reaches_then : (facts : Facts) (first : List UnitModel) (steps : List Step) (between : List UnitModel) (more : List Step) (last : List UnitModel)
+    → Reaches facts first steps between → Reaches facts between more last → Reaches facts first (steps ++ more) last
+reaches_then facts first [] between more last reached next = subst (λ (from : List UnitModel). Reaches facts from more last) reached next
+reaches_then facts first (step ∷ steps) between more last reached next = (reached.0, reached.1, reaches_then facts reached.0 steps between more last reached.2 next)
 
--- ---- how far the moves have come
+module _ (facts : Facts) (first : List UnitModel) where
+  -- fewer moves at least
+  least_of : (moves : List Step) (least fewer : ℕ) → fewer ≤ least → (image : Image) → StandsAfterMost facts first moves least image → StandsAfterMost facts first moves fewer image
+  least_of moves least fewer le image most = (most.0, omega (arith, most.1, le), most.2)
 
--- after all of them
-ended : (shape : Shape) (names : List Serial) (first : List UnitModel) (moves : List Step) (units : List UnitModel)
-    → Reaches first moves units → (image : Image) → Stands shape names image units → StandsAfterMost shape names first moves (length moves) image
-ended shape names first moves units reached image stands = (
-  length moves,
-  omega arith,
-  record {
-    within = omega arith;
-    units = units;
-    reached = subst (λ (l : List Step). Reaches first l units) (sym (take_all (length moves) moves (omega arith))) reached;
-    stands = stands;
-  },
-)
-
-some_of_most : (shape : Shape) (names : List Serial) (first : List UnitModel) (moves : List Step) (least : ℕ) (image : Image)
-    → StandsAfterMost shape names first moves least image → StandsAfterSome shape names first moves image
-some_of_most shape names first moves least image most = (most.0, most.2)
-
--- what stands after so many of the steps does so where another one follows
-lengthened : (shape : Shape) (names : List Serial) (first : List UnitModel) (steps : List Step) (step : Step) (count : ℕ) (image : Image)
-    → StandsAfter shape names first steps count image → StandsAfter shape names first (steps ++ (step ∷ [])) count image
-lengthened shape names first steps step count image after = record {
-  within = omega (arith, after.within, length-append steps (step ∷ []));
-  units = after.units;
-  reached = subst (λ (l : List Step). Reaches first l after.units) (sym (take-append-le count steps (step ∷ []) after.within)) after.reached;
-  stands = after.stands;
-}
-
--- one step behind others
-reaches_then : (first : List UnitModel) (steps : List Step) (units : List UnitModel) (step : Step) (after : List UnitModel)
-    → Reaches first steps units → IsStep step units after → Reaches first (steps ++ (step ∷ [])) after
-reaches_then first [] units step after reached moves = (after, subst (λ (from : List UnitModel). IsStep step from after) reached moves, refl)
-reaches_then first (one ∷ steps) units step after reached moves = (reached.0, reached.1, reaches_then reached.0 steps units step after reached.2 moves)
-
--- where the pool is settled at the end, nothing is under way, whatever the pool's faults
-settled_keeps : (shape : Shape) (names : List Serial) (old new : Disk) (before after : ℕ) (first : List UnitModel) (steps : List Step) (units : List UnitModel)
-    → LeavesOnly old new (StandsAfterSome shape names first steps) → Reaches first steps units → IsSettled shape names new.state units
-    → KeepsUnits shape names old new before after first steps None
-settled_keeps shape names old new before after first steps units moments reached settled = record {
-  any_moment = moments;
-  returned = λ image left. ended shape names first steps units reached image (image_stands shape names new.state units image settled left);
-  nothing_pending = λ unfailed. refl;
-  whole = λ unfailed. (units, reached, settled);
-}
-
--- ---- calls that write nothing
-
--- their moments, on a pool that is settled after these moves
-quiet_moments : (shape : Shape) (names : List Serial) (old new : Disk) (first : List UnitModel) (moves : List Step) (units : List UnitModel)
-    → Reaches first moves units → IsSettled shape names old.state units → Runs none old new → LeavesOnly old new (StandsAfterSome shape names first moves)
-quiet_moments shape names old new first moves units reached settled run = weaken old new (Spares none old.state) (StandsAfterSome shape names first moves)
-    (λ image spares.
-    some_of_most shape names first moves (length moves) image
-    (ended shape names first moves units reached image (image_stands shape names old.state units image settled (λ u b was. spares u b refl was)))) run.leaves
-
-pub quiet_run : (shape : Shape) (names : List Serial) (old new : Disk) (before after : ℕ) (units : List UnitModel)
-    → IsSettled shape names old.state units → Runs none old new → KeepsUnits shape names old new before after units [] None
-quiet_run shape names old new before after units settled run =
-    settled_keeps shape names old new before after units [] units (quiet_moments shape names old new units [] units refl settled run) refl
-    (settled_touches shape names old.state new.state units settled run.touches)
-
--- no call at all
-pub idle_run : (shape : Shape) (names : List Serial) (disk : Disk) (before after : ℕ) (units : List UnitModel)
-    → IsSettled shape names disk.state units → KeepsUnits shape names disk disk before after units [] None
-idle_run shape names disk before after units settled = quiet_run shape names disk disk before after units settled (runs_start none disk)
-
--- behind a run that left the pool settled
-pub quiet_after : (shape : Shape) (names : List Serial) (old now new : Disk) (before between after : ℕ) (first : List UnitModel) (steps : List Step) (units : List UnitModel)
-    → KeepsUnits shape names old now before between first steps None → Reaches first steps units → IsSettled shape names now.state units → Runs none now new
-    → KeepsUnits shape names old new before after first steps None
-quiet_after shape names old now new before between after first steps units keeps reached settled run =
-    settled_keeps shape names old new before after first steps units
-    (and_then old now new (StandsAfterSome shape names first steps) keeps.any_moment (quiet_moments shape names now new first steps units reached settled run)) reached
-    (settled_touches shape names now.state new.state units settled run.touches)
-
--- ---- an opening
-
--- its moments, however it ends
-opening_moments : (shape : Shape) (names : List Serial) (old new : Disk) (units : List UnitModel)
-    → IsSettled shape names old.state units → LeavesOnly old new (ReadsSame shape old.state) → LeavesOnly old new (StandsAfterMost shape names units [] 0)
-opening_moments shape names old new units settled moments = weaken old new (ReadsSame shape old.state) (StandsAfterMost shape names units [] 0)
-    (λ image same. ended shape names units [] units refl image (opening_stands shape names old.state units image settled same)) moments
-
-opening_some : (shape : Shape) (names : List Serial) (old new : Disk) (units : List UnitModel)
-    → IsSettled shape names old.state units → LeavesOnly old new (ReadsSame shape old.state) → LeavesOnly old new (StandsAfterSome shape names units [])
-opening_some shape names old new units settled moments = weaken old new (StandsAfterMost shape names units [] 0) (StandsAfterSome shape names units [])
-    (some_of_most shape names units [] 0) (opening_moments shape names old new units settled moments)
-
--- It was refused. Where the pool failed, a stop may still leave what it left within the opening.
-pub refused_opening : (shape : Shape) (names : List Serial) (old new : Disk) (before after : ℕ) (units : List UnitModel)
-    → IsSettled shape names old.state units → LeavesOnly old new (ReadsSame shape old.state) → (¬ Rose before after → Touches none old.state new.state)
-    → KeepsUnits shape names old new before after units [] None
-refused_opening shape names old new before after units settled moments unwritten = record {
-  any_moment = opening_some shape names old new units settled moments;
-  returned = λ image left.
-      since_start old new (StandsAfterMost shape names units [] 0) (opening_moments shape names old new units settled moments)
-      (λ other was. ended shape names units [] units refl other (image_stands shape names old.state units other settled was))
-      image (new.counts_now old.moment image moments.later left);
-  nothing_pending = λ unfailed. refl;
-  whole = λ unfailed. (units, refl, settled_touches shape names old.state new.state units settled (unwritten unfailed));
-}
-
--- it ended well
-pub opened_is_settled : (shape : Shape) (names : List Serial) (old new : State) (units : List UnitModel) (room : ℕ) (control : Control) (fills : List Bool)
-    → IsSettled shape names old units → IsOpened shape old names room control fills new → IsSettled shape names new units
-opened_is_settled shape names old new units room control fills settled opened =
-    opened_settled shape names old new units room control fills settled.stands opened
-
--- and then came calls that write nothing
-pub opened_run : (shape : Shape) (names : List Serial) (old mid new : Disk) (before after : ℕ) (units : List UnitModel) (room : ℕ) (control : Control) (fills : List Bool)
-    → IsSettled shape names old.state units → LeavesOnly old mid (ReadsSame shape old.state) → IsOpened shape old.state names room control fills mid.state
-    → Runs none mid new → KeepsUnits shape names old new before after units [] None
-opened_run shape names old mid new before after units room control fills settled moments opened run =
-    let at_mid : IsSettled shape names mid.state units = opened_is_settled shape names old.state mid.state units room control fills settled opened in
-    quiet_after shape names old mid new before before after units [] units
-    (settled_keeps shape names old mid before before units [] units (opening_some shape names old mid units settled moments) refl at_mid) refl at_mid run
-
--- ---- a commit
-
--- A run that did some steps, and the commit that makes another. The commit's moments are those that it promises, however it ends.
-module _ (shape : Shape) (names : List Serial) (old now new : Disk) (before between after : ℕ) (first : List UnitModel) (steps : List Step) (units made : List UnitModel)
-    (keeps : KeepsUnits shape names old now before between first steps None) (reached : Reaches first steps units) (settled : IsSettled shape names now.state units)
-    (closed : is_open (now.state.contents (journal_of shape) 1) ≡ false) (entries : List Entry) (will : WillStand shape names settled.stands.reading entries made)
-    (step : Step) (is_step : IsStep step units made) (moments : LeavesOnly now new (OldOrNew shape now.state entries)) where
-  abbrev moves : List Step
-  moves = steps ++ (step ∷ [])
-
-  abbrev Most : Image → Type 0
-  Most = StandsAfterMost shape names first moves (length steps)
-
-  behind : Reaches first moves made
-  behind = reaches_then first steps units step made reached is_step
-
-  stands_before : (image : Image) → Stands shape names image units → Most image
-  stands_before image stands =
-      let all = ended shape names first steps units reached image stands in
-      (all.0, all.1, lengthened shape names first steps step all.0 image all.2)
-
-  stands_behind : (image : Image) → Stands shape names image made → Most image
-  stands_behind image stands =
-      let all = ended shape names first moves made behind image stands in
-      (all.0, omega (arith, all.1, length-append steps (step ∷ [])), all.2)
-
-  commit_moments : LeavesOnly now new Most
-  commit_moments = weaken now new (OldOrNew shape now.state entries) Most
-      (λ image either. ⊎_elim (stands_before image) (stands_behind image) (commit_stands shape names now.state units made entries image settled closed will either)) moments
-
-  step_moments : LeavesOnly old new (StandsAfterSome shape names first moves)
-  step_moments = and_then old now new (StandsAfterSome shape names first moves)
-      (weaken old now (StandsAfterSome shape names first steps) (StandsAfterSome shape names first moves)
-      (λ image some. (some.0, lengthened shape names first steps step some.0 image some.1)) keeps.any_moment)
-      (weaken now new Most (StandsAfterSome shape names first moves) (some_of_most shape names first moves (length steps)) commit_moments)
-
-  -- it failed
-  pub failed_step : Rose before after → KeepsUnits shape names old new before after first steps (Some step)
-  failed_step rose = record {
-    any_moment = step_moments;
-    returned = λ image left.
-        since_start now new Most commit_moments (λ other was. stands_before other (image_stands shape names now.state units other settled was))
-        image (new.counts_now now.moment image moments.later left);
-    nothing_pending = λ unfailed. absurd (unfailed rose);
-    whole = λ unfailed. absurd (unfailed rose);
-  }
-
-  -- it ended well
-  pub committed_step : IsCommitted shape now.state entries new.state → KeepsUnits shape names old new before after first (steps ++ (step ∷ [])) None
-  committed_step committed =
-      settled_keeps shape names old new before after first moves made step_moments behind
-      (committed_settled shape names now.state new.state units made entries settled will committed)
-
--- ---- a run behind a run that did no step
-
-module _ (shape : Shape) (names : List Serial) (old mid new : Disk) (before between after : ℕ) (units : List UnitModel) (steps : List Step) (pending : Option Step) where
-  none_yet : (count : ℕ) (now : List UnitModel) → Reaches units (take count []) now → now ≡ units
-  none_yet zero now reached = reached
-  none_yet (suc count) now reached = reached
-
-  no_fewer : (image : Image) → StandsAfterSome shape names units [] image → StandsAfterSome shape names units (moves_of steps pending) image
-  no_fewer image some = (
-    0,
+  -- what stands after all of them
+  all_of : (moves : List Step) (units : List UnitModel) → Reaches facts first moves units → (image : Image) → Stands facts image units
+      → StandsAfterMost facts first moves (length moves) image
+  all_of moves units reached image stands = (
+    length moves,
+    omega arith,
     record {
       within = omega arith;
-      units = some.1.units;
-      reached = none_yet some.0 some.1.units some.1.reached;
-      stands = some.1.stands;
+      units = units;
+      reached = subst (λ (l : List Step). Reaches facts first l units) (sym (take_all (length moves) moves (omega arith))) reached;
+      stands = stands;
     },
   )
 
-  pub keeps_then : KeepsUnits shape names old mid before between units [] None → KeepsUnits shape names mid new between after units steps pending → before ≤ between
-      → KeepsUnits shape names old new before after units steps pending
-  keeps_then first second later =
-      let calm : ¬ Rose before after → ¬ Rose between after = λ unfailed rose. unfailed (rose_since before between after later rose) in
+  -- with more moves behind
+  lengthened : (moves more : List Step) (least : ℕ) (image : Image) → StandsAfterMost facts first moves least image → StandsAfterMost facts first (moves ++ more) least image
+  lengthened moves more least image (count, le, after) = (
+    count,
+    le,
+    record {
+      within = omega (arith, after.within, length-append moves more);
+      units = after.units;
+      reached = subst (λ (l : List Step). Reaches facts first l after.units) (sym (take-append-le count moves more after.within)) after.reached;
+      stands = after.stands;
+    },
+  )
+
+  -- with steps before
+  behind : (steps : List Step) (between : List UnitModel) → Reaches facts first steps between → (moves : List Step) (least : ℕ) (image : Image)
+      → StandsAfterMost facts between moves least image → StandsAfterMost facts first (steps ++ moves) (length steps + least) image
+  behind steps between reached moves least image (count, le, after) = (
+    length steps + count,
+    omega (arith, le),
+    record {
+      within = omega (arith, after.within, length-append steps moves);
+      units = after.units;
+      reached = subst (λ (l : List Step). Reaches facts first l after.units) (sym (take-append-add steps moves count))
+          (reaches_then facts first steps between (take count moves) after.units reached after.reached);
+      stands = after.stands;
+    },
+  )
+
+moves_then : (steps more : List Step) (pending : Option Step) → steps ++ moves_of more pending ≡ moves_of (steps ++ more) pending
+moves_then steps more None = refl
+moves_then steps more (Some step) = sym (append_assoc steps more (step ∷ []))
+
+-- ---- a run whose moments and end are known
+
+pub settled_keeps : (facts : Facts) (old new : Disk) (ended : Type 0) (first : List UnitModel) (steps : List Step)
+    → LeavesOnly old new (StandsAfterSome facts first steps) → EndsSettled facts new first steps None → KeepsUnits facts old new ended first steps None
+settled_keeps facts old new ended first steps moments ends = record {
+  any_moment = moments;
+  returned = λ image left.
+      all_of facts first steps ends.units ends.reached image (image_stands facts new.state ends.units image ends.settled left);
+  settled = λ end. ends;
+}
+
+-- it ends less often than that
+pub ends_less : (facts : Facts) (old new : Disk) (ended less : Type 0) (first : List UnitModel) (steps : List Step) (pending : Option Step)
+    → (less → ended) → KeepsUnits facts old new ended first steps pending → KeepsUnits facts old new less first steps pending
+ends_less facts old new ended less first steps pending implies keeps = record {
+  any_moment = keeps.any_moment;
+  returned = keeps.returned;
+  settled = λ end. keeps.settled (implies end);
+}
+
+-- ---- a run that writes only blocks on which no meaning rests
+
+module _ (facts : Facts) (may : ℕ → ℕ → Bool) (old new : Disk) (units : List UnitModel) (settled : IsSettled facts old.state units)
+    (unused : AreUnused may facts.shape settled.stands.reading settled.stands.means.found) (run : Runs may old new) where
+  quiet_moments : LeavesOnly old new (StandsAfterSome facts units [])
+  quiet_moments = weaken old new (Spares may old.state) (StandsAfterSome facts units [])
+      (λ image spares.
+      all_of facts units [] units refl image (image_stands facts (masked may old.state) units image
+      (masked_settled may facts old.state units settled unused) (masked_left may old.state image spares))) run.leaves
+
+  pub quiet_settled : IsSettled facts new.state units
+  quiet_settled = unused_settled may facts old.state units settled unused new.state run.touches
+
+  pub quiet : (ended : Type 0) → KeepsUnits facts old new ended units [] None
+  quiet ended = settled_keeps facts old new ended units [] quiet_moments (record { none_pending = refl; units = units; reached = refl; settled = quiet_settled })
+
+none_unused : (shape : Shape) (reading : Reading) (found : List UnitModel) → AreUnused none shape reading found
+none_unused shape reading found = record { journal = λ b. refl; volumes = λ u b less rests. refl }
+
+-- it writes nothing
+pub still : (facts : Facts) (old new : Disk) (ended : Type 0) → Runs none old new → KeepsEach facts old new ended [] None
+still facts old new ended run units settled = quiet facts none old new units settled (none_unused facts.shape settled.stands.reading settled.stands.means.found) run ended
+
+-- no call at all
+pub idle : (facts : Facts) (disk : Disk) (ended : Type 0) → KeepsEach facts disk disk ended [] None
+idle facts disk ended = still facts disk disk ended (runs_start none disk)
+
+-- ---- one run, and then another
+
+module _ (facts : Facts) (old mid new : Disk) (ended later : Type 0) (first : List UnitModel) (steps more : List Step) (pending : Option Step)
+    (run : KeepsUnits facts old mid ended first steps None) (end : ended) (next : KeepsEach facts mid new later more pending) where
+  abbrev ends : EndsSettled facts mid first steps None
+  ends = run.settled end
+
+  abbrev second : KeepsUnits facts mid new later ends.units more pending
+  second = next ends.units ends.settled
+
+  abbrev all : List Step
+  all = steps ++ moves_of more pending
+
+  then_moments : LeavesOnly old new (StandsAfterSome facts first all)
+  then_moments = and_then old mid new (StandsAfterSome facts first all)
+      (weaken old mid (StandsAfterSome facts first steps) (StandsAfterSome facts first all) (λ image some. lengthened facts first steps (moves_of more pending) 0 image some) run.any_moment)
+      (weaken mid new (StandsAfterSome facts ends.units (moves_of more pending)) (StandsAfterSome facts first all)
+      (λ image some. least_of facts first all (length steps + 0) 0 (omega arith) image (behind facts first steps ends.units ends.reached (moves_of more pending) 0 image some)) second.any_moment)
+
+  then_returned : (image : Image) → MayLeave new.state image → StandsAfterMost facts first all (length (steps ++ more)) image
+  then_returned image left =
+      least_of facts first all (length steps + length more) (length (steps ++ more)) (omega (arith, length-append steps more)) image
+      (behind facts first steps ends.units ends.reached (moves_of more pending) (length more) image (second.returned image left))
+
+  pub keeps_then : KeepsUnits facts old new later first (steps ++ more) pending
+  keeps_then =
+      let same : all ≡ moves_of (steps ++ more) pending = moves_then steps more pending in
       record {
-        any_moment = and_then old mid new (StandsAfterSome shape names units (moves_of steps pending))
-            (weaken old mid (StandsAfterSome shape names units []) (StandsAfterSome shape names units (moves_of steps pending)) no_fewer first.any_moment) second.any_moment;
-        returned = second.returned;
-        nothing_pending = λ unfailed. second.nothing_pending (calm unfailed);
-        whole = λ unfailed. second.whole (calm unfailed);
+        any_moment = subst (λ (l : List Step). LeavesOnly old new (StandsAfterSome facts first l)) same then_moments;
+        returned = subst (λ (l : List Step). (image : Image) → MayLeave new.state image → StandsAfterMost facts first l (length (steps ++ more)) image) same then_returned;
+        settled = λ over.
+            let last = second.settled over in
+            record {
+              none_pending = last.none_pending;
+              units = last.units;
+              reached = reaches_then facts first steps ends.units more last.units ends.reached last.reached;
+              settled = last.settled;
+            };
       }
+
+-- ---- a commit that makes one step, or none
+
+module _ (facts : Facts) (old new : Disk) (move : Option Step) (units made : List UnitModel) (settled : IsSettled facts old.state units) (closed : is_open (old.state.contents (journal_of facts.shape) 1) ≡ false)
+    (entries : List Entry) (reached : Reaches facts units (moves_of [] move) made) (will : WillStand facts settled.stands.reading entries made)
+    (moments : LeavesOnly old new (OldOrNew facts.shape old.state entries)) where
+  abbrev moves : List Step
+  moves = moves_of [] move
+
+  stands_some : (image : Image) → Stands facts image units ⊎ Stands facts image made → StandsAfterSome facts units moves image
+  stands_some image = ⊎_elim
+      (λ before. lengthened facts units [] moves 0 image (all_of facts units [] units refl image before))
+      (λ behind. least_of facts units moves (length moves) 0 (omega arith) image (all_of facts units moves made reached image behind))
+
+  commit_moments : LeavesOnly old new (StandsAfterSome facts units moves)
+  commit_moments = weaken old new (OldOrNew facts.shape old.state entries) (StandsAfterSome facts units moves)
+      (λ image either. stands_some image (commit_stands facts old.state units made entries image settled closed will either)) moments
+
+  pub commit_failed : (ended : Type 0) → ¬ ended → KeepsUnits facts old new ended units [] move
+  commit_failed ended never = record {
+    any_moment = commit_moments;
+    returned = λ image left.
+        since_start old new (StandsAfterSome facts units moves) commit_moments
+        (λ other was. stands_some other (inl (image_stands facts old.state units other settled was)))
+        image (new.counts_now old.moment image moments.later left);
+    settled = λ end. absurd (never end);
+  }
+
+  pub commit_done : (ended : Type 0) → IsCommitted facts.shape old.state entries new.state → KeepsUnits facts old new ended units (moves_of [] move) None
+  commit_done ended committed =
+      settled_keeps facts old new ended units moves commit_moments (record {
+        none_pending = refl;
+        units = made;
+        reached = reached;
+        settled = committed_settled facts old.state new.state units made entries settled will committed;
+      })
+
+-- ---- the last step turns out to be under way
+
+pub demote : (facts : Facts) (old new : Disk) (ended later : Type 0) (first : List UnitModel) (steps : List Step) (step : Step)
+    → KeepsUnits facts old new ended first (steps ++ (step ∷ [])) None → ¬ later → KeepsUnits facts old new later first steps (Some step)
+demote facts old new ended later first steps step keeps never = record {
+  any_moment = keeps.any_moment;
+  returned = λ image left.
+      least_of facts first (steps ++ (step ∷ [])) (length (steps ++ (step ∷ []))) (length steps) (omega (arith, length-append steps (step ∷ []))) image (keeps.returned image left);
+  settled = λ end. absurd (never end);
+}
+
+-- ---- an opening
+
+opening_moments : (facts : Facts) (old new : Disk) (units : List UnitModel) → IsSettled facts old.state units
+    → LeavesOnly old new (ReadsSame facts.shape old.state) → LeavesOnly old new (StandsAfterSome facts units [])
+opening_moments facts old new units settled moments = weaken old new (ReadsSame facts.shape old.state) (StandsAfterSome facts units [])
+    (λ image same. all_of facts units [] units refl image (opening_stands facts old.state units image settled same)) moments
+
+-- it was refused, and wrote nothing where it ended
+pub refused : (facts : Facts) (old new : Disk) (ended : Type 0) (units : List UnitModel) → IsSettled facts old.state units
+    → LeavesOnly old new (ReadsSame facts.shape old.state) → (ended → Touches none old.state new.state) → KeepsUnits facts old new ended units [] None
+refused facts old new ended units settled moments unwritten =
+    let some = opening_moments facts old new units settled moments in
+    record {
+      any_moment = some;
+      returned = λ image left.
+          since_start old new (StandsAfterSome facts units []) some
+          (λ other was. all_of facts units [] units refl other (image_stands facts old.state units other settled was))
+          image (new.counts_now old.moment image moments.later left);
+      settled = λ end. record {
+        none_pending = refl;
+        units = units;
+        reached = refl;
+        settled = unused_settled none facts old.state units settled (none_unused facts.shape settled.stands.reading settled.stands.means.found) new.state (unwritten end);
+      };
+    }
+
+-- it ended well, whatever names were asked for
+pub opened : (facts : Facts) (asked : List Serial) (room : ℕ) (control : Control) (fills : List Bool) (old new : Disk) (ended : Type 0) (units : List UnitModel) → IsSettled facts old.state units
+    → LeavesOnly old new (ReadsSame facts.shape old.state) → IsOpened facts.shape old.state asked room control fills new.state → KeepsUnits facts old new ended units [] None
+opened facts asked room control fills old new ended units settled moments opens =
+    settled_keeps facts old new ended units [] (opening_moments facts old new units settled moments) (record {
+      none_pending = refl;
+      units = units;
+      reached = refl;
+      settled = opened_settled facts old.state new.state units asked room control fills settled.stands opens;
+    })
+
+-- ---- any moment of a run
+
+-- what a stop may have left since it began
+pub each_moment : (facts : Facts) (old new : Disk) (ended : Type 0) (units : List UnitModel) (steps : List Step) (pending : Option Step)
+    → IsSettled facts old.state units → KeepsUnits facts old new ended units steps pending
+    → (image : Image) → new.left_since old.moment image → StandsAfterSome facts units (moves_of steps pending) image
+each_moment facts old new ended units steps pending settled keeps =
+    since_start old new (StandsAfterSome facts units (moves_of steps pending)) keeps.any_moment
+    (λ image left.
+    lengthened facts units [] (moves_of steps pending) 0 image (all_of facts units [] units refl image (image_stands facts old.state units image settled left)))

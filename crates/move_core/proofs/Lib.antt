@@ -9,5 +9,7 @@ pub mod Shrinking
 pub mod Replacing
 pub mod Releasing
 pub mod Kept
+pub mod Unused
 pub mod Keeping
+pub mod Running
 pub mod Resuming

@@ -12,7 +12,6 @@ use Rattle.dsn_filter.specs.declared.dsn.Dsn.{Dsn}
 use Rattle.free_map.specs.declared.run.Run.{Run}
 use Rattle.free_map.specs.Runs.{Holds}
 use Rattle.vol_label.specs.declared.label.Label.{Label}
-use Rattle.vol_label.specs.declared.serial.Serial.{Serial}
 use Rattle.redo_core.specs.declared.control.Control.{Control}
 use Rattle.redo_core.specs.declared.control.Control.TheVariants.{Idle}
 use Rattle.redo_core.specs.Reading.{journal_of, set_block, fills_of, Reading}
@@ -29,6 +28,7 @@ use Rattle.volume_model.specs.Reads.{IsDataSet, AreDataSets, HasImage, HasLabelO
 use Rattle.vtoc_core.specs.Plain.{HasPlainVtoc}
 use Rattle.vtoc_core.specs.Shrink.{ShrinksVtoc}
 use Rattle.move_core.specs.declared.steps.Step.TheVariants.{Shrink}
+use Rattle.move_core.specs.Facts.{Facts}
 use Rattle.move_core.specs.Laws.{WillStand}
 use Rattle.move_core.specs.Releasing.{vtoc_track, ShrinksTrack}
 use Rattle.move_core.specs.Shrinking.{AreShort}
@@ -230,15 +230,18 @@ module _ (head : List ℕ) (blocks : ℕ) (slots : Slots) (found : Volume) (vtoc
 
 -- ---- the pool
 
-module _ (shape : Shape) (names : List Serial) (state : State) (units : List UnitModel) (room : ℕ) (control : Control) (fills : List Bool) (unit : ℕ)
+module _ (facts : Facts) (state : State) (units : List UnitModel) (room : ℕ) (control : Control) (fills : List Bool) (unit : ℕ)
     (found : Volume) (vtoc : Vtoc) (rows rows_front rows_back : List DirectoryRow) (row : DirectoryRow) (name : Dsn) (slot : List ℕ) (keep : ℕ)
-    (rest : IsAtRest shape state room control fills) (settled : IsSettled shape names state units)
-    (idle : control ≡ Idle) (quiet : fills_of fills unit ≡ false) (less : unit < journal_of shape)
-    (stands : IsVolume (shape.head unit) (shape.blocks unit) (state.contents unit) false found)
+    (rest : IsAtRest facts.shape state room control fills) (settled : IsSettled facts state units)
+    (idle : control ≡ Idle) (quiet : fills_of fills unit ≡ false) (less : unit < journal_of facts.shape)
+    (stands : IsVolume (facts.shape.head unit) (facts.shape.blocks unit) (state.contents unit) false found)
     (first_short : length (state.contents unit 0) ≤ 65536) (short : length (state.contents unit (vtoc_track stands.image found.label.vtoc)) ≤ 65536)
     (before : HasPlainVtoc stands.image (state.contents unit) found.label.vtoc vtoc)
     (order : AreInOrder (rows_of vtoc.heads (records_of vtoc)) rows) (rows_are : rows ≡ rows_front ++ (row ∷ rows_back))
     (named : IsNameOf name (take 44 row.format_1)) (shrinks : ShrinksTrack before slot row.format_1 keep) (some : 1 ≤ keep) where
+  abbrev shape : Shape
+  shape = facts.shape
+
   abbrev reading : Reading
   reading = settled.stands.reading
 
@@ -302,7 +305,7 @@ module _ (shape : Shape) (names : List Serial) (state : State) (units : List Uni
   abbrev later : List UnitModel
   later = after shape reading reading_idle units means unit reading_quiet block slot old release.new old_at
 
-  step : IsStep (Shrink unit name keep) units later
+  step : IsStep facts (Shrink unit name keep) units later
   step = record {
     old = old;
     new = release.new;
@@ -321,7 +324,7 @@ module _ (shape : Shape) (names : List Serial) (state : State) (units : List Uni
   first_same : (u : ℕ) → volumes u 0 ≡ reading.volumes u 0
   first_same u = ap (λ (here : Bool). if here then slot else reading.volumes u 0) (other_block unit block u 0 (λ same. omega (arith, some_block, same)))
 
-  will : WillStand shape names reading (record { unit = unit; block = block; slot = slot } ∷ []) later
+  will : WillStand facts reading (record { unit = unit; block = block; slot = slot } ∷ []) later
   will = record {
     labels = λ u serial within label. settled.stands.labels u serial within (record {
       device = label.device;
@@ -331,7 +334,7 @@ module _ (shape : Shape) (names : List Serial) (state : State) (units : List Uni
     means = new_means shape reading reading_idle units means unit reading_quiet block slot old release.new old_at release.stands;
   }
 
-  pub release_stands : (after : List UnitModel) × IsStep (Shrink unit name keep) units after
-      × WillStand shape names settled.stands.reading (record { unit = unit; block = vtoc_track stands.image found.label.vtoc; slot = slot } ∷ []) after
+  pub release_stands : (after : List UnitModel) × IsStep facts (Shrink unit name keep) units after
+      × WillStand facts settled.stands.reading (record { unit = unit; block = vtoc_track stands.image found.label.vtoc; slot = slot } ∷ []) after
       × (1 ≤ vtoc_track stands.image found.label.vtoc) × (vtoc_track stands.image found.label.vtoc < shape.blocks unit)
   release_stands = (later, step, will, some_block, inside (shape.head unit) (shape.blocks unit) (state.contents unit) found vtoc stands before)

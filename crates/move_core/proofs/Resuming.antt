@@ -1,54 +1,41 @@
 -- What leads into a run and out of it.
-use Rattle.std.proofs.Common.{◌≡◌, inl, inr, ℕ, ◌<◌, List, [], ◌∷◌, take, Option, refl, sym, subst, ap, ◌∙◌, arith}
+use Rattle.std.proofs.Common.{◌≡◌, inl, inr, ℕ, ◌<◌, List, [], refl, sym, subst, ap, ◌∙◌, arith}
 use Rattle.std.proofs.lemmas.Bool.{cases_Bool, both_ways}
-use Rattle.dasd_pool.specs.Disk.{Image, Shape, State, Disk, IsSynced}
-use Rattle.dasd_pool.specs.Moments.{since_start}
-use Rattle.vol_label.specs.declared.serial.Serial.{Serial}
+use Rattle.dasd_pool.specs.Disk.{Image, Shape, State, IsSynced}
 use Rattle.redo_core.specs.Format.{is_open, directory_in, control_in, is_filling}
 use Rattle.redo_core.specs.Reading.{journal_of, overlay, control_block, Reading, Obeys, IsRegistration, IsDirectory, IsControl}
 use Rattle.redo_core.specs.Opening.{IsFormatted}
 use Rattle.redo_core.specs.Faults.{zeroed, HasSerial, LabelsAre, IsBusy, MayFormat, MayOpen}
 use Rattle.redo_core.proofs.Openings.{zeroed_there, overlay_there}
 use Rattle.volume_model.specs.Unit.{UnitModel}
-use Rattle.move_core.specs.declared.steps.Step.{Step}
-use Rattle.move_core.specs.Steps.{Reaches}
+use Rattle.move_core.specs.Facts.{Facts}
 use Rattle.move_core.specs.Stands.{Means, Stands, IsSettled}
-use Rattle.move_core.specs.Runs.{moves_of, StandsAfterSome, KeepsUnits}
 use Rattle.move_core.specs.Resuming.{new_reading}
-use Rattle.move_core.proofs.Standing.{image_stands}
 
-pub formatted_settled : (shape : Shape) (names : List Serial) (old new : State) (room : ℕ) (units : List UnitModel)
-    → MayFormat shape old.contents names → IsFormatted shape old names room new → Means shape (new_reading old.contents names room) units → IsSettled shape names new units
-formatted_settled shape names old new room units allowed formatted means = record {
+pub formatted_settled : (facts : Facts) (old new : State) (units : List UnitModel) → MayFormat facts.shape old.contents facts.names → IsFormatted facts.shape old facts.names facts.room new
+    → Means facts.shape (new_reading old.contents facts.names facts.room) units → IsSettled facts new units
+formatted_settled facts old new units allowed formatted means = record {
   stands = record {
-    reading = new_reading old.contents names room;
+    reading = new_reading old.contents facts.names facts.room;
     reads = formatted.reads;
     names_are = refl;
+    room_is = refl;
     labels = allowed.labels;
     means = means;
   };
-  journal = λ b. formatted.all (journal_of shape) b;
+  journal = λ b. formatted.all (journal_of facts.shape) b;
   vital = λ u b less rests. inl (formatted.all u b);
 }
 
-pub synced_settled : (shape : Shape) (names : List Serial) (state : State) (units : List UnitModel)
-    → IsSynced state → Stands shape names state.contents units → IsSettled shape names state units
-synced_settled shape names state units all stands = record { stands = stands; journal = λ b. all (journal_of shape) b; vital = λ u b less rests. inl (all u b) }
-
-pub each_moment_stands : (shape : Shape) (names : List Serial) (old new : Disk) (before after : ℕ) (units : List UnitModel) (steps : List Step) (pending : Option Step)
-    → IsSettled shape names old.state units → KeepsUnits shape names old new before after units steps pending
-    → (image : Image) → new.left_since old.moment image → StandsAfterSome shape names units (moves_of steps pending) image
-each_moment_stands shape names old new before after units steps pending settled keeps =
-    since_start old new (StandsAfterSome shape names units (moves_of steps pending)) keeps.any_moment
-    (λ image left. (0, record { within = omega arith; units = units; reached = nowhere (moves_of steps pending); stands = image_stands shape names old.state units image settled left }))
-  where
-    nowhere : (moves : List Step) → Reaches units (take 0 moves) units
-    nowhere [] = refl
-    nowhere (step ∷ moves) = refl
+pub synced_settled : (facts : Facts) (state : State) (units : List UnitModel) → IsSynced state → Stands facts state.contents units → IsSettled facts state units
+synced_settled facts state units all stands = record { stands = stands; journal = λ b. all (journal_of facts.shape) b; vital = λ u b less rests. inl (all u b) }
 
 -- ---- no rule is broken
 
-module _ (shape : Shape) (names : List Serial) (image : Image) (units : List UnitModel) (stands : Stands shape names image units) where
+module _ (facts : Facts) (image : Image) (units : List UnitModel) (stands : Stands facts image units) where
+  abbrev shape : Shape
+  shape = facts.shape
+
   abbrev j : ℕ
   j = journal_of shape
 
@@ -88,7 +75,7 @@ module _ (shape : Shape) (names : List Serial) (image : Image) (units : List Uni
   }
 
   -- the labels are read where the volumes are
-  labels_stand : LabelsAre shape (overlay shape.block_size (journal_of shape) image) names (journal_of shape)
+  labels_stand : LabelsAre shape (overlay shape.block_size (journal_of shape) image) facts.names (journal_of shape)
   labels_stand unit serial less has =
       let same : r.volumes unit 0 ≡ overlay shape.block_size j image unit 0 = stands.reads.volumes_are unit 0 less in
       stands.labels unit serial less (record {
@@ -97,7 +84,7 @@ module _ (shape : Shape) (names : List Serial) (image : Image) (units : List Uni
         label = subst (λ (slot : List ℕ). HasSerial (record { device = has.device; tracks = shape.blocks unit }) slot serial) (sym same) has.label;
       })
 
-  pub standing_may_open : ¬ IsBusy shape stands.reading → MayOpen shape image names
+  pub standing_may_open : ¬ IsBusy shape stands.reading → MayOpen shape image facts.names
   standing_may_open idle = record {
     reading = stands.reading;
     idle = record { obeys = zeroed_obeys; idle = idle };

@@ -18,6 +18,7 @@ use Rattle.volume_model.specs.declared.why.Why.TheVariants as whys
 use Rattle.volume_model.specs.Unit.{UnitModel, online, offline}
 use Rattle.volume_model.specs.Reads.{IsVital}
 use Rattle.volume_model.specs.Sound.{Slots}
+use Rattle.move_core.specs.Facts.{Facts}
 use Rattle.move_core.specs.Stands.{is_sliding, place_in, IsAfterSlide, Means, RestsOn, Stands, IsSettled}
 use Rattle.move_core.specs.Laws.{WillStand}
 use Rattle.move_core.proofs.Frames.{unit_moves}
@@ -27,7 +28,7 @@ abbrev pub GoesDown : Control → Type 0
 GoesDown Idle = Unit {0}
 GoesDown (Slide unit from to len done) = to < from
 
-lawful_down : (shape : Shape) (control : Control) → IsLawful shape control → GoesDown control
+pub lawful_down : (shape : Shape) (control : Control) → IsLawful shape control → GoesDown control
 lawful_down shape Idle lawful = tt
 lawful_down shape (Slide unit from to len done) lawful = lawful.1
 
@@ -35,7 +36,7 @@ slides_down : (room : ℕ) (control : Control) (found units : List UnitModel) �
 slides_down room Idle found units after = tt
 slides_down room (Slide unit from to len done) found units after = after.3.down
 
-place_down : (control : Control) → GoesDown control → (u track : ℕ) → place_in control u track ≤ track
+pub place_down : (control : Control) → GoesDown control → (u track : ℕ) → place_in control u track ≤ track
 place_down Idle down u track = omega arith
 place_down (Slide unit from to len done) down u track =
     cond_both ((u == unit) && (nat_le from track && nat_lt track (from + done))) (to + (track - from)) track (λ place. place ≤ track)
@@ -47,7 +48,7 @@ place_down (Slide unit from to len done) down u track =
 -- where a slide goes down, blocks on which the meaning doesn't rest may be others
 module _ (shape : Shape) (reading : Reading) (down : GoesDown reading.control) (volumes : Image) (units : List UnitModel) (means : Means shape reading units)
     (same : (u b : ℕ) → u < journal_of shape → RestsOn shape reading means.found u b → volumes u b ≡ reading.volumes u b) where
-  pub meaning_kept : Means shape (record reading { volumes = volumes }) units
+  abbrev pub meaning_kept : Means shape (record reading { volumes = volumes }) units
   meaning_kept = record {
     found = means.found;
     found_are = record {
@@ -67,82 +68,88 @@ keeps_meaning shape reading volumes units means same =
     meaning_kept shape reading (slides_down reading.room reading.control means.found units means.after) volumes units means same
 
 -- track 0 is vital
-first_vital : (place : ℕ → ℕ) (head : List ℕ) (blocks : ℕ) (slots : Slots) (unit : UnitModel) → IsVital place head blocks slots unit 0
+pub first_vital : (place : ℕ → ℕ) (head : List ℕ) (blocks : ℕ) (slots : Slots) (unit : UnitModel) → IsVital place head blocks slots unit 0
 first_vital place head blocks slots (online volume) = inr (inl refl)
 first_vital place head blocks slots (offline (whys.Head why) kept) = tt
 first_vital place head blocks slots (offline whys.Filling kept) = inl refl
 first_vital place head blocks slots (offline (whys.Label why) kept) = tt
 first_vital place head blocks slots (offline (whys.Vtoc track number why) kept) = tt
 
-module _ (shape : Shape) (names : List Serial) (image : Image) (units : List UnitModel) (stands : Stands shape names image units) where
-  down : GoesDown stands.reading.control
-  down = lawful_down shape stands.reading.control (subst (IsLawful shape) (sym stands.reads.obeys.control_is) stands.reads.obeys.control.lawful)
+module _ (facts : Facts) (image : Image) (units : List UnitModel) (stands : Stands facts image units) where
+  pub stands_down : GoesDown stands.reading.control
+  stands_down = lawful_down facts.shape stands.reading.control (subst (IsLawful facts.shape) (sym stands.reads.obeys.control_is) stands.reads.obeys.control.lawful)
+
+  pub first_rests : (u : ℕ) → u < journal_of facts.shape → 0 < facts.shape.blocks u → RestsOn facts.shape stands.reading stands.means.found u 0
+  first_rests u less some = ⊎_elim
+      (λ here. (here.0, here.2, some, first_vital (place_in stands.reading.control u) (facts.shape.head u) (facts.shape.blocks u) (stands.reading.volumes u) here.0))
+      (λ past. absurd (omega (arith, less, past.0, stands.means.found_are.count)))
+      (slice_get_cases stands.means.found u).1
 
   -- another image that reads the same where the meaning rests
-  pub stands_kept : (other volumes : Image) → Reads shape other (record stands.reading { volumes = volumes })
-      → ((u b : ℕ) → u < journal_of shape → RestsOn shape stands.reading stands.means.found u b → volumes u b ≡ stands.reading.volumes u b) → Stands shape names other units
+  abbrev pub stands_kept : (other volumes : Image) → Reads facts.shape other (record stands.reading { volumes = volumes })
+      → ((u b : ℕ) → u < journal_of facts.shape → RestsOn facts.shape stands.reading stands.means.found u b → volumes u b ≡ stands.reading.volumes u b) → Stands facts other units
   stands_kept other volumes reads same = record {
     reading = record stands.reading { volumes = volumes };
     reads = reads;
     names_are = stands.names_are;
+    room_is = stands.room_is;
     labels = λ u serial less label. stands.labels u serial less (record {
       device = label.device;
       head = label.head;
-      label = subst (λ (slot : List ℕ). HasSerial (record { device = label.device; tracks = shape.blocks u }) slot serial)
+      label = subst (λ (slot : List ℕ). HasSerial (record { device = label.device; tracks = facts.shape.blocks u }) slot serial)
           (same u 0 less (first_rests u less (omega (arith, label.head.cylinders.0)))) label.label;
     });
-    means = meaning_kept shape stands.reading down volumes units stands.means same;
+    means = meaning_kept facts.shape stands.reading stands_down volumes units stands.means same;
   }
-    where
-      first_rests : (u : ℕ) → u < journal_of shape → 0 < shape.blocks u → RestsOn shape stands.reading stands.means.found u 0
-      first_rests u less some = ⊎_elim
-          (λ here. (here.0, here.2, some, first_vital (place_in stands.reading.control u) (shape.head u) (shape.blocks u) (stands.reading.volumes u) here.0))
-          (λ past. absurd (omega (arith, less, past.0, stands.means.found_are.count)))
-          (slice_get_cases stands.means.found u).1
 
 -- within an opening
-pub opening_stands : (shape : Shape) (names : List Serial) (state : State) (units : List UnitModel) (image : Image)
-    → IsSettled shape names state units → ReadsSame shape state image → Stands shape names image units
-opening_stands shape names state units image settled same =
+pub opening_stands : (facts : Facts) (state : State) (units : List UnitModel) (image : Image)
+    → IsSettled facts state units → ReadsSame facts.shape state image → Stands facts image units
+opening_stands facts state units image settled same =
     let told = same settled.stands.reading settled.stands.reads in
-    stands_kept shape names state.contents units settled.stands image told.0 told.1
+    stands_kept facts state.contents units settled.stands image told.0 told.1
     (λ u b less rests. told.2 u b less (settled.vital u b less rests))
 
 -- a stop now
-pub image_stands : (shape : Shape) (names : List Serial) (state : State) (units : List UnitModel) (image : Image)
-    → IsSettled shape names state units → MayLeave state image → Stands shape names image units
-image_stands shape names state units image settled left =
-    opening_stands shape names state units image settled (spared_reads shape state settled.journal image (λ u b unlisted was. left u b was))
+pub image_stands : (facts : Facts) (state : State) (units : List UnitModel) (image : Image)
+    → IsSettled facts state units → MayLeave state image → Stands facts image units
+image_stands facts state units image settled left =
+    opening_stands facts state units image settled (spared_reads facts.shape state settled.journal image (λ u b unlisted was. left u b was))
 
--- after an opening
-pub opened_settled : (shape : Shape) (names : List Serial) (old new : State) (units : List UnitModel) (room : ℕ) (control : Control) (fills : List Bool)
-    → Stands shape names old.contents units → IsOpened shape old names room control fills new → IsSettled shape names new units
-opened_settled shape names old new units room control fills stands opened = record {
+-- after an opening, whatever names were asked for
+pub opened_settled : (facts : Facts) (old new : State) (units : List UnitModel) (asked : List Serial) (room : ℕ) (control : Control) (fills : List Bool)
+    → Stands facts old.contents units → IsOpened facts.shape old asked room control fills new → IsSettled facts new units
+opened_settled facts old new units asked room control fills stands opened = record {
   stands = record {
     reading = stands.reading;
     reads = reads;
     names_are = stands.names_are;
+    room_is = stands.room_is;
     labels = stands.labels;
     means = stands.means;
   };
-  journal = λ b. opened.all (journal_of shape) b;
+  journal = λ b. opened.all (journal_of facts.shape) b;
   vital = λ u b less rests. inl (opened.all u b);
 }
   where
     rooms : room ≡ stands.reading.room
     rooms = sym opened.before.obeys.registration.room_is ∙ stands.reads.obeys.registration.room_is
 
-    reads : Reads shape new.contents stands.reading
+    same_names : asked ≡ stands.reading.names
+    same_names = opened.before.obeys.registration.names_are ∙ sym stands.reads.obeys.registration.names_are
+
+    reads : Reads facts.shape new.contents stands.reading
     reads =
         let was = opened.before in
         let is = opened.after in
+        let journal = journal_of facts.shape in
         record {
           obeys = record {
             head = is.obeys.head;
             registration =
-                subst (λ (n : List Serial). IsRegistration (journal_of shape) (new.contents (journal_of shape) 0) n stands.reading.room) (sym stands.names_are)
-                (subst (λ (r : ℕ). IsRegistration (journal_of shape) (new.contents (journal_of shape) 0) names r) rooms is.obeys.registration);
-            body = λ gate. subst (λ (r : ℕ). IsDirectory shape (journal_of shape) r (directory_in (new.contents (journal_of shape) 3))) rooms (is.obeys.body gate);
+                subst (λ (n : List Serial). IsRegistration journal (new.contents journal 0) n stands.reading.room) same_names
+                (subst (λ (r : ℕ). IsRegistration journal (new.contents journal 0) asked r) rooms is.obeys.registration);
+            body = λ gate. subst (λ (r : ℕ). IsDirectory facts.shape journal r (directory_in (new.contents journal 3))) rooms (is.obeys.body gate);
             control = is.obeys.control;
             control_is = stands.reads.obeys.control_is ∙ sym was.obeys.control_is ∙ is.obeys.control_is;
             fills_are = λ u less. stands.reads.obeys.fills_are u less ∙ sym (was.obeys.fills_are u less) ∙ is.obeys.fills_are u less;
@@ -152,35 +159,36 @@ opened_settled shape names old new units room control fills stands opened = reco
         }
 
 -- with all entries in place
-new_stands : (shape : Shape) (names : List Serial) (old : State) (before after : List UnitModel) (entries : List Entry) (image : Image)
-    → (settled : IsSettled shape names old before) → WillStand shape names settled.stands.reading entries after → ReadsNew shape old entries image → Stands shape names image after
-new_stands shape names old before after entries image settled will new = record {
+new_stands : (facts : Facts) (old : State) (before after : List UnitModel) (entries : List Entry) (image : Image)
+    → (settled : IsSettled facts old before) → WillStand facts settled.stands.reading entries after → ReadsNew facts.shape old entries image → Stands facts image after
+new_stands facts old before after entries image settled will new = record {
   reading = record settled.stands.reading { volumes = placed settled.stands.reading.volumes entries };
   reads = new settled.stands.reading settled.stands.reads;
   names_are = settled.stands.names_are;
+  room_is = settled.stands.room_is;
   labels = will.labels;
   means = will.means;
 }
 
 -- within a commit, whose gate is closed before
-pub commit_stands : (shape : Shape) (names : List Serial) (state : State) (before after : List UnitModel) (entries : List Entry) (image : Image)
-    → (settled : IsSettled shape names state before) → is_open (state.contents (journal_of shape) 1) ≡ false → WillStand shape names settled.stands.reading entries after
-    → OldOrNew shape state entries image → Stands shape names image before ⊎ Stands shape names image after
-commit_stands shape names state before after entries image settled closed will = ⊎_elim
+pub commit_stands : (facts : Facts) (state : State) (before after : List UnitModel) (entries : List Entry) (image : Image)
+    → (settled : IsSettled facts state before) → is_open (state.contents (journal_of facts.shape) 1) ≡ false → WillStand facts settled.stands.reading entries after
+    → OldOrNew facts.shape state entries image → Stands facts image before ⊎ Stands facts image after
+commit_stands facts state before after entries image settled closed will = ⊎_elim
     (λ old.
     let told = old settled.stands.reading settled.stands.reads in
-    inl (stands_kept shape names state.contents before settled.stands image told.0 told.1
+    inl (stands_kept facts state.contents before settled.stands image told.0 told.1
     (λ u b less rests. told.2 u b less (⊎_elim
     (λ synced. synced)
-    (λ target. absurd (both_ways (is_open (state.contents (journal_of shape) 1)) closed target.0))
+    (λ target. absurd (both_ways (is_open (state.contents (journal_of facts.shape) 1)) closed target.0))
     (settled.vital u b less rests)))))
-    (λ new. inr (new_stands shape names state before after entries image settled will new))
+    (λ new. inr (new_stands facts state before after entries image settled will new))
 
 -- after a commit
-pub committed_settled : (shape : Shape) (names : List Serial) (old new : State) (before after : List UnitModel) (entries : List Entry)
-    → (settled : IsSettled shape names old before) → WillStand shape names settled.stands.reading entries after → IsCommitted shape old entries new → IsSettled shape names new after
-committed_settled shape names old new before after entries settled will committed = record {
-  stands = new_stands shape names old before after entries new.contents settled will committed.reads;
-  journal = λ b. committed.all (journal_of shape) b;
+pub committed_settled : (facts : Facts) (old new : State) (before after : List UnitModel) (entries : List Entry)
+    → (settled : IsSettled facts old before) → WillStand facts settled.stands.reading entries after → IsCommitted facts.shape old entries new → IsSettled facts new after
+committed_settled facts old new before after entries settled will committed = record {
+  stands = new_stands facts old before after entries new.contents settled will committed.reads;
+  journal = λ b. committed.all (journal_of facts.shape) b;
   vital = λ u b less rests. inl (committed.all u b);
 }

@@ -10,6 +10,7 @@ use Rattle.redo_core.specs.Faults.{LabelsAre}
 use Rattle.redo_core.specs.Phases.{OldOrNew, IsCommitted}
 use Rattle.redo_core.specs.Opening.{ReadsSame, IsOpened}
 use Rattle.volume_model.specs.Unit.{UnitModel}
+use Rattle.move_core.specs.Facts.{Facts}
 use Rattle.move_core.specs.Stands.{Means, RestsOn, Stands, IsSettled}
 
 -- Blocks on which the meaning of a reading doesn't rest may be others.
@@ -22,36 +23,35 @@ KeepsMeaning =
 -- What a stop now leaves of a settled pool stands for the same units.
 abbrev pub EachImageStands : Type 0
 EachImageStands =
-    (shape : Shape) (names : List Serial) (state : State) (units : List UnitModel) (image : Image)
-    → IsSettled shape names state units → MayLeave state image → Stands shape names image units
+    (facts : Facts) (state : State) (units : List UnitModel) (image : Image) → IsSettled facts state units → MayLeave state image → Stands facts image units
 
 -- So does what a stop leaves within an opening.
 abbrev pub OpeningStands : Type 0
 OpeningStands =
-    (shape : Shape) (names : List Serial) (state : State) (units : List UnitModel) (image : Image)
-    → IsSettled shape names state units → ReadsSame shape state image → Stands shape names image units
+    (facts : Facts) (state : State) (units : List UnitModel) (image : Image)
+    → IsSettled facts state units → ReadsSame facts.shape state image → Stands facts image units
 
--- A pool that was opened stands for what it stood for, and is settled.
+-- A pool that was opened, whatever names were asked for, stands for what it stood for, and is settled.
 abbrev pub OpenedIsSettled : Type 0
 OpenedIsSettled =
-    (shape : Shape) (names : List Serial) (old new : State) (units : List UnitModel) (room : ℕ) (control : Control) (fills : List Bool)
-    → Stands shape names old.contents units → IsOpened shape old names room control fills new → IsSettled shape names new units
+    (facts : Facts) (old new : State) (units : List UnitModel) (asked : List Serial) (room : ℕ) (control : Control) (fills : List Bool)
+    → Stands facts old.contents units → IsOpened facts.shape old asked room control fills new → IsSettled facts new units
 
 -- with all entries in place a reading means these units, and each label that reads has its name
-pub record WillStand (shape : Shape) (names : List Serial) (reading : Reading) (entries : List Entry) (units : List UnitModel) : Type 0 where
-  pub labels : LabelsAre shape (placed reading.volumes entries) names (journal_of shape)
-  pub means : Means shape (record reading { volumes = placed reading.volumes entries }) units
+pub record WillStand (facts : Facts) (reading : Reading) (entries : List Entry) (units : List UnitModel) : Type 0 where
+  pub labels : LabelsAre facts.shape (placed reading.volumes entries) facts.names (journal_of facts.shape)
+  pub means : Means facts.shape (record reading { volumes = placed reading.volumes entries }) units
 
 -- What a stop leaves within a commit stands for the units before it, or for those that the commit makes. Its gate is closed before.
 abbrev pub CommitStands : Type 0
 CommitStands =
-    (shape : Shape) (names : List Serial) (state : State) (before after : List UnitModel) (entries : List Entry) (image : Image)
-    → (settled : IsSettled shape names state before) → is_open (state.contents (journal_of shape) 1) ≡ false
-    → WillStand shape names settled.stands.reading entries after → OldOrNew shape state entries image → Stands shape names image before ⊎ Stands shape names image after
+    (facts : Facts) (state : State) (before after : List UnitModel) (entries : List Entry) (image : Image)
+    → (settled : IsSettled facts state before) → is_open (state.contents (journal_of facts.shape) 1) ≡ false
+    → WillStand facts settled.stands.reading entries after → OldOrNew facts.shape state entries image → Stands facts image before ⊎ Stands facts image after
 
 -- After a commit a pool stands for those, and is settled.
 abbrev pub CommittedIsSettled : Type 0
 CommittedIsSettled =
-    (shape : Shape) (names : List Serial) (old new : State) (before after : List UnitModel) (entries : List Entry)
-    → (settled : IsSettled shape names old before) → WillStand shape names settled.stands.reading entries after
-    → IsCommitted shape old entries new → IsSettled shape names new after
+    (facts : Facts) (old new : State) (before after : List UnitModel) (entries : List Entry)
+    → (settled : IsSettled facts old before) → WillStand facts settled.stands.reading entries after
+    → IsCommitted facts.shape old entries new → IsSettled facts new after

@@ -3,9 +3,8 @@ use Rattle.std.specs.Prelude.{◌≡◌, ℕ, ◌<◌, ◌≤◌, min, Bool, fal
 use Rattle.ckd_image.specs.declared.head.Head.{Head}
 use Rattle.ckd_image.specs.declared.track.Cchhr.{Cchhr}
 use Rattle.ckd_image.specs.Device.{heads_of}
-use Rattle.dasd_pool.specs.Disk.{Shape, State}
+use Rattle.dasd_pool.specs.Disk.{State}
 use Rattle.dsn_filter.specs.declared.dsn.Dsn.{Dsn}
-use Rattle.vol_label.specs.declared.serial.Serial.{Serial}
 use Rattle.redo_core.specs.declared.control.Control.{Control}
 use Rattle.redo_core.specs.declared.control.Control.TheVariants.{Idle}
 use Rattle.redo_core.specs.Reading.{journal_of, fills_of}
@@ -20,6 +19,7 @@ use Rattle.volume_model.specs.Unit.{Extent, DataSet, UnitModel}
 use Rattle.vtoc_core.specs.Plain.{HasPlainVtoc}
 use Rattle.vtoc_core.specs.Shrink.{ShrinksVtoc}
 use Rattle.move_core.specs.declared.steps.Step.TheVariants.{Shrink}
+use Rattle.move_core.specs.Facts.{Facts}
 use Rattle.move_core.specs.Laws.{WillStand}
 use Rattle.move_core.specs.Stands.{IsSettled}
 use Rattle.move_core.specs.Steps.{IsStep}
@@ -37,18 +37,18 @@ ShrinksTrack {head} {slots} {pointer} before slot format_1 keep =
 -- of a track that shrinks the VTOC for a row's data set releases the tracks behind the first ones. The other units stay.
 abbrev pub ReleaseStands : Type 0
 ReleaseStands =
-    (shape : Shape) (names : List Serial) (state : State) (units : List UnitModel) (room : ℕ) (control : Control) (fills : List Bool) (unit : ℕ)
+    (facts : Facts) (state : State) (units : List UnitModel) (room : ℕ) (control : Control) (fills : List Bool) (unit : ℕ)
     (found : Volume) (vtoc : Vtoc) (rows rows_front rows_back : List DirectoryRow) (row : DirectoryRow) (name : Dsn) (slot : List ℕ) (keep : ℕ)
-    → IsAtRest shape state room control fills → (settled : IsSettled shape names state units)
-    → control ≡ Idle → fills_of fills unit ≡ false → unit < journal_of shape
-    → (stands : IsVolume (shape.head unit) (shape.blocks unit) (state.contents unit) false found)
+    → IsAtRest facts.shape state room control fills → (settled : IsSettled facts state units)
+    → control ≡ Idle → fills_of fills unit ≡ false → unit < journal_of facts.shape
+    → (stands : IsVolume (facts.shape.head unit) (facts.shape.blocks unit) (state.contents unit) false found)
     → length (state.contents unit 0) ≤ 65536 → length (state.contents unit (vtoc_track stands.image found.label.vtoc)) ≤ 65536
     → (before : HasPlainVtoc stands.image (state.contents unit) found.label.vtoc vtoc)
     → AreInOrder (rows_of vtoc.heads (records_of vtoc)) rows → rows ≡ rows_front ++ (row ∷ rows_back)
     → IsNameOf name (take 44 row.format_1) → ShrinksTrack before slot row.format_1 keep → 1 ≤ keep
-    → (after : List UnitModel) × IsStep (Shrink unit name keep) units after
-    × WillStand shape names settled.stands.reading (record { unit = unit; block = vtoc_track stands.image found.label.vtoc; slot = slot } ∷ []) after
-    × (1 ≤ vtoc_track stands.image found.label.vtoc) × (vtoc_track stands.image found.label.vtoc < shape.blocks unit)
+    → (after : List UnitModel) × IsStep facts (Shrink unit name keep) units after
+    × WillStand facts settled.stands.reading (record { unit = unit; block = vtoc_track stands.image found.label.vtoc; slot = slot } ∷ []) after
+    × (1 ≤ vtoc_track stands.image found.label.vtoc) × (vtoc_track stands.image found.label.vtoc < facts.shape.blocks unit)
 
 -- A release of a data set of one extent of tracks keeps the used ones, and no more than there are.
 abbrev pub KeptOfTracks : Type 0

@@ -1,15 +1,14 @@
 -- What leads into a run and out of it: a journal that was made, a stop, and the next opening.
-use Rattle.std.specs.Prelude.{ℕ, List, false, Option}
-use Rattle.dasd_pool.specs.Disk.{Image, Shape, State, Disk, IsSynced}
+use Rattle.std.specs.Prelude.{ℕ, List, false}
+use Rattle.dasd_pool.specs.Disk.{Image, State, IsSynced}
 use Rattle.vol_label.specs.declared.serial.Serial.{Serial}
 use Rattle.redo_core.specs.declared.control.Control.TheVariants.{Idle}
 use Rattle.redo_core.specs.Reading.{Reading}
 use Rattle.redo_core.specs.Faults.{IsBusy, MayFormat, MayOpen}
 use Rattle.redo_core.specs.Opening.{IsFormatted}
 use Rattle.volume_model.specs.Unit.{UnitModel}
-use Rattle.move_core.specs.declared.steps.Step.{Step}
+use Rattle.move_core.specs.Facts.{Facts}
 use Rattle.move_core.specs.Stands.{Means, Stands, IsSettled}
-use Rattle.move_core.specs.Runs.{moves_of, StandsAfterSome, KeepsUnits}
 
 -- what volumes say behind a new journal: nothing is under way
 abbrev pub new_reading : Image → List Serial → ℕ → Reading
@@ -18,16 +17,16 @@ new_reading volumes names room = record { volumes = volumes; names = names; room
 -- A pool whose journal was made stands for what its volumes mean, and is settled.
 abbrev pub FormattedIsSettled : Type 0
 FormattedIsSettled =
-    (shape : Shape) (names : List Serial) (old new : State) (room : ℕ) (units : List UnitModel)
-    → MayFormat shape old.contents names → IsFormatted shape old names room new → Means shape (new_reading old.contents names room) units → IsSettled shape names new units
+    (facts : Facts) (old new : State) (units : List UnitModel) → MayFormat facts.shape old.contents facts.names → IsFormatted facts.shape old facts.names facts.room new
+    → Means facts.shape (new_reading old.contents facts.names facts.room) units → IsSettled facts new units
 
 -- What a stop left is settled when it is handed in again: all of it is synced then.
 abbrev pub SyncedIsSettled : Type 0
 SyncedIsSettled =
-    (shape : Shape) (names : List Serial) (state : State) (units : List UnitModel) → IsSynced state → Stands shape names state.contents units → IsSettled shape names state units
+    (facts : Facts) (state : State) (units : List UnitModel) → IsSynced state → Stands facts state.contents units → IsSettled facts state units
 
 -- Where an image stands for units and nothing is under way, nothing stands against its opening under these names.
 abbrev pub StandingMayOpen : Type 0
 StandingMayOpen =
-    (shape : Shape) (names : List Serial) (image : Image) (units : List UnitModel) → (stands : Stands shape names image units) → ¬ IsBusy shape stands.reading
-    → MayOpen shape image names
+    (facts : Facts) (image : Image) (units : List UnitModel) → (stands : Stands facts image units) → ¬ IsBusy facts.shape stands.reading
+    → MayOpen facts.shape image facts.names

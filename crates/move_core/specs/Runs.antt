@@ -1,10 +1,10 @@
 -- What a run leaves of the units that a pool stood for.
-use Rattle.std.specs.Prelude.{◌≡◌, ℕ, ◌≤◌, List, [], ◌∷◌, ◌++◌, length, take, Option, Some, None}
+use Rattle.std.specs.Prelude.{◌≡◌, ℕ, ◌≤◌, List, [], ◌∷◌, ◌++◌, length, take, Option, Some, None, Result, Ok, Err}
 use Rattle.dasd_pool.specs.Count.{Rose}
-use Rattle.dasd_pool.specs.Disk.{Image, Shape, Disk, MayLeave, LeavesOnly}
-use Rattle.vol_label.specs.declared.serial.Serial.{Serial}
+use Rattle.dasd_pool.specs.Disk.{Image, Disk, MayLeave, LeavesOnly}
 use Rattle.volume_model.specs.Unit.{UnitModel}
 use Rattle.move_core.specs.declared.steps.Step.{Step}
+use Rattle.move_core.specs.Facts.{Facts, Shown}
 use Rattle.move_core.specs.Steps.{Reaches}
 use Rattle.move_core.specs.Stands.{Stands, IsSettled}
 
@@ -14,25 +14,48 @@ moves_of steps None = steps
 moves_of steps (Some step) = steps ++ (step ∷ [])
 
 -- an image stands for the first units after so many of the moves
-pub record StandsAfter (shape : Shape) (names : List Serial) (first : List UnitModel) (moves : List Step) (count : ℕ) (image : Image) : Type 0 where
+pub record StandsAfter (facts : Facts) (first : List UnitModel) (moves : List Step) (count : ℕ) (image : Image) : Type 0 where
   pub within : count ≤ length moves
   pub units : List UnitModel
-  pub reached : Reaches first (take count moves) units
-  pub stands : Stands shape names image units
+  pub reached : Reaches facts first (take count moves) units
+  pub stands : Stands facts image units
+
+-- after at least so many of them
+abbrev pub StandsAfterMost : Facts → List UnitModel → List Step → ℕ → Image → Type 0
+StandsAfterMost facts first moves least image = (count : ℕ) × (least ≤ count) × StandsAfter facts first moves count image
 
 -- after a prefix of them
-abbrev pub StandsAfterSome : Shape → List Serial → List UnitModel → List Step → Image → Type 0
-StandsAfterSome shape names first moves image = (count : ℕ) × StandsAfter shape names first moves count image
+abbrev pub StandsAfterSome : Facts → List UnitModel → List Step → Image → Type 0
+StandsAfterSome facts first moves image = StandsAfterMost facts first moves 0 image
 
--- after at least so many
-abbrev pub StandsAfterMost : Shape → List Serial → List UnitModel → List Step → ℕ → Image → Type 0
-StandsAfterMost shape names first moves least image = (count : ℕ) × (least ≤ count) × StandsAfter shape names first moves count image
+-- the pool is settled for the first units after all steps, and no step is under way
+pub record EndsSettled (facts : Facts) (new : Disk) (first : List UnitModel) (steps : List Step) (pending : Option Step) : Type 0 where
+  pub none_pending : pending ≡ None
+  pub units : List UnitModel
+  pub reached : Reaches facts first steps units
+  pub settled : IsSettled facts new.state units
 
 -- A run that began on a settled pool. Whatever moment it is stopped at, what is left stands for the first units after a prefix of its
--- moves; once it has ended, after all the steps that it returned. Where the pool didn't fail, nothing was under way, and the pool is
--- settled and stands for the first units after all steps.
-pub record KeepsUnits (shape : Shape) (names : List Serial) (old new : Disk) (faults_before faults_after : ℕ) (first : List UnitModel) (steps : List Step) (pending : Option Step) : Type 0 where
-  pub any_moment : LeavesOnly old new (StandsAfterSome shape names first (moves_of steps pending))
-  pub returned : (image : Image) → MayLeave new.state image → StandsAfterMost shape names first (moves_of steps pending) (length steps) image
-  pub nothing_pending : ¬ Rose faults_before faults_after → pending ≡ None
-  pub whole : ¬ Rose faults_before faults_after → (units : List UnitModel) × Reaches first steps units × IsSettled shape names new.state units
+-- moves; once it has returned, after all the steps that it did. Where it ended, nothing is under way, and the pool is settled.
+pub record KeepsUnits (facts : Facts) (old new : Disk) (ended : Type 0) (first : List UnitModel) (steps : List Step) (pending : Option Step) : Type 0 where
+  pub any_moment : LeavesOnly old new (StandsAfterSome facts first (moves_of steps pending))
+  pub returned : (image : Image) → MayLeave new.state image → StandsAfterMost facts first (moves_of steps pending) (length steps) image
+  pub settled : ended → EndsSettled facts new first steps pending
+
+-- so for each units that the pool may have stood for
+abbrev pub KeepsEach : Facts → Disk → Disk → Type 0 → List Step → Option Step → Type 0
+KeepsEach facts old new ended steps pending =
+    (units : List UnitModel) → IsSettled facts old.state units → KeepsUnits facts old new ended units steps pending
+
+-- What a function of a run does to a pool that it was given: the shape stays, the count of faults doesn't fall and rises where the
+-- function doesn't end, and, where the pool tells, it keeps the units that the pool stood for, but for the steps that it did.
+pub record IsRun (tells : Type 0) (old new : Shown) (ended : Type 0) (steps : List Step) (pending : Option Step) : Type 0 where
+  pub shape : new.shape ≡ old.shape
+  pub later : old.faults ≤ new.faults
+  pub cause : ¬ ended → Rose old.faults new.faults
+  pub keeps : tells → (facts : Facts) → facts.shape ≡ old.shape → KeepsEach facts old.disk new.disk ended steps pending
+
+-- a call has ended where it answered Ok
+abbrev pub Ended : {T E : Type 0} → Result T E → Type 0
+Ended (Ok value) = Unit {0}
+Ended (Err fault) = ⊥

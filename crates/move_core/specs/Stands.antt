@@ -2,7 +2,6 @@
 use Rattle.std.specs.Prelude.{◌≡◌, ℕ, ◌+◌, ◌-◌, ◌/◌, ◌<◌, ◌≤◌, Bool, false, ◌&&◌, ◌==◌, nat_le, nat_lt, if◌then◌else◌, List, ◌∷◌, ◌++◌, length, take, drop, All, Some, slice_get}
 use Rattle.ckd_image.specs.Device.{heads_of}
 use Rattle.dasd_pool.specs.Disk.{Image, Shape, State}
-use Rattle.vol_label.specs.declared.serial.Serial.{Serial}
 use Rattle.redo_core.specs.declared.control.Control.{Control}
 use Rattle.redo_core.specs.declared.control.Control.TheVariants.{Idle, Slide}
 use Rattle.redo_core.specs.Reading.{journal_of, Reading, Reads}
@@ -12,6 +11,7 @@ use Rattle.volume_model.specs.Unit.{Text, good, Extent, DataSet, OnlineVolume, U
 use Rattle.volume_model.specs.Reads.{IsUnit, IsVital}
 use Rattle.volume_model.specs.Pinned.{IsPinned}
 use Rattle.volume_model.specs.Changed.{threes_for, Changes, used_records}
+use Rattle.move_core.specs.Facts.{Facts}
 use Rattle.move_core.specs.Steps.{Replaces}
 
 -- ---- an open slide
@@ -86,18 +86,25 @@ RestsOn shape reading found u b =
     (unit : UnitModel) × (slice_get found u ≡ Some unit) × (b < shape.blocks u)
     × IsVital (place_in reading.control u) (shape.head u) (shape.blocks u) (reading.volumes u) unit b
 
+-- none of these blocks is the journal's, and no meaning rests on one
+pub record AreUnused (may : ℕ → ℕ → Bool) (shape : Shape) (reading : Reading) (found : List UnitModel) : Type 0 where
+  pub journal : (b : ℕ) → may (journal_of shape) b ≡ false
+  pub volumes : (u b : ℕ) → u < journal_of shape → RestsOn shape reading found u b → may u b ≡ false
+
 -- ---- what a pool stands for
 
--- An image stands for units under these names: it reads so, each label that reads has its name, and that is what it means.
-pub record Stands (shape : Shape) (names : List Serial) (image : Image) (units : List UnitModel) : Type 0 where
+-- An image of a pool with these facts stands for units: it reads so, under these names and with this room, each label that reads has its
+-- name, and that is what it means.
+pub record Stands (facts : Facts) (image : Image) (units : List UnitModel) : Type 0 where
   pub reading : Reading
-  pub reads : Reads shape image reading
-  pub names_are : reading.names ≡ names
-  pub labels : LabelsAre shape reading.volumes names (journal_of shape)
-  pub means : Means shape reading units
+  pub reads : Reads facts.shape image reading
+  pub names_are : reading.names ≡ facts.names
+  pub room_is : reading.room ≡ facts.room
+  pub labels : LabelsAre facts.shape reading.volumes facts.names (journal_of facts.shape)
+  pub means : Means facts.shape reading units
 
 -- A pool stands for units, and is settled: a stop now leaves each block as it is on which their meaning rests.
-pub record IsSettled (shape : Shape) (names : List Serial) (state : State) (units : List UnitModel) : Type 0 where
-  pub stands : Stands shape names state.contents units
-  pub journal : IsJournalSynced shape state
-  pub vital : (u b : ℕ) → u < journal_of shape → RestsOn shape stands.reading stands.means.found u b → IsSure shape state u b
+pub record IsSettled (facts : Facts) (state : State) (units : List UnitModel) : Type 0 where
+  pub stands : Stands facts state.contents units
+  pub journal : IsJournalSynced facts.shape state
+  pub vital : (u b : ℕ) → u < journal_of facts.shape → RestsOn facts.shape stands.reading stands.means.found u b → IsSure facts.shape state u b

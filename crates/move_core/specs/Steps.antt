@@ -6,6 +6,7 @@ use Rattle.volume_model.specs.Changed.{threes_for, Changes}
 use Rattle.volume_model.specs.Pinned.{IsNameOf}
 use Rattle.move_core.specs.declared.steps.Step.{Step}
 use Rattle.move_core.specs.declared.steps.Step.TheVariants.{Shrink}
+use Rattle.move_core.specs.Facts.{Facts}
 
 -- so many tracks from the front of extents
 abbrev pub cut : ℕ → List Extent → List Extent
@@ -43,12 +44,12 @@ pub record Shrinks (unit : ℕ) (name : Dsn) (keep : ℕ) (before after : List U
   pub fewer : keep < length (tracks_of set.extents)
   pub changes : Changes old new set (shrunk keep set)
 
--- What a step changes. Of the steps, the shrinking of a data set is built.
-abbrev pub IsStep : Step → List UnitModel → List UnitModel → Type 0
-IsStep (Shrink unit name keep) before after = Shrinks unit name keep before after
-IsStep step before after = ⊥
+-- What a step changes on a pool with these facts. Of the steps, the shrinking of a data set is built.
+abbrev pub IsStep : Facts → Step → List UnitModel → List UnitModel → Type 0
+IsStep facts (Shrink unit name keep) before after = Shrinks unit name keep before after
+IsStep facts step before after = ⊥
 
 -- steps one after another
-abbrev pub Reaches : List UnitModel → List Step → List UnitModel → Type 0
-Reaches before [] after = after ≡ before
-Reaches before (step ∷ steps) after = (between : List UnitModel) × IsStep step before between × Reaches between steps after
+abbrev pub Reaches : Facts → List UnitModel → List Step → List UnitModel → Type 0
+Reaches facts before [] after = after ≡ before
+Reaches facts before (step ∷ steps) after = (between : List UnitModel) × IsStep facts step before between × Reaches facts between steps after

@@ -1,9 +1,14 @@
 //! What holds of the units that a pool stands for, whatever reads or changes them.
 
+ghost use Rattle.move_core.specs.Facts.{shown};
 ghost use Rattle.move_core.specs.Laws.{KeepsMeaning, EachImageStands, OpeningStands, OpenedIsSettled, CommitStands, CommittedIsSettled};
 ghost use Rattle.move_core.specs.Shrinking.{OneVtoc, LoadedIsOnline, ShrinkStands};
 ghost use Rattle.move_core.specs.Resuming.{FormattedIsSettled, SyncedIsSettled, StandingMayOpen};
 ghost use Rattle.move_core.specs.Releasing.{KeptOfTracks, ReleaseStands};
+ghost use Rattle.move_core.specs.Runs.{Ended};
+ghost use Rattle.move_core.specs.RunLaws.{RunThen, RunQuiet, RunDemoted, RunSwitched};
+
+use dasd_pool::{Pool, PoolFault};
 
 /// A stop, an opening and a commit leave what a pool stands for, or what the commit makes of it.
 pub fn standing_laws()
@@ -37,4 +42,18 @@ pub fn shrinking_laws()
 pub fn releasing_laws()
     ensures release { ReleaseStands }
     ensures kept { KeptOfTracks }
+{}
+
+/// Calls on a pool chain: what they do to the units that it stood for follows from what each does.
+pub fn running_laws<P: Pool>(
+    old: &P,
+    mid: &P,
+    new: &P,
+    first: &Result<(), PoolFault>,
+    second: &Result<(), PoolFault>,
+)
+    ensures then { RunThen P.tells (shown P.Pool old.now) (shown P.Pool mid.now) (shown P.Pool new.now) (Ended first.now) (Ended second.now) }
+    ensures quiet { RunQuiet P.tells (shown P.Pool old.now) (shown P.Pool mid.now) (Ended first.now) }
+    ensures demoted { RunDemoted P.tells (shown P.Pool old.now) (shown P.Pool mid.now) (Ended first.now) (Ended second.now) }
+    ensures switched { RunSwitched P.tells (shown P.Pool old.now) (shown P.Pool mid.now) (Ended first.now) }
 {}

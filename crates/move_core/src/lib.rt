@@ -5,5 +5,7 @@ mod laws;
 mod steps;
 
 pub use dump_fmt::DdName;
-pub use laws::{online_laws, releasing_laws, resuming_laws, shrinking_laws, standing_laws};
+pub use laws::{
+    online_laws, releasing_laws, resuming_laws, running_laws, shrinking_laws, standing_laws,
+};
 pub use steps::{Dsn, Origin, Runs, Step};

@@ -1,18 +1,16 @@
-use Rattle.std.proofs.Common.{ℕ, List, [], refl, sym, subst, ◌∙◌, inl, inr}
+use Rattle.std.proofs.Common.{ℕ, List, [], refl, subst, ◌∙◌, inl, inr}
 use Rattle.std.specs.Prelude.{string_bytes}
 use Rattle.dasd_pool.specs.Disk.{Shape, State, none}
 use Rattle.dasd_pool.specs.Moments.{runs_then}
 use Rattle.dasd_pool.specs.Stream.{Appends, AppendsSome}
-use Rattle.move_core.specs.Runs.{KeepsUnits}
-use Rattle.move_core.specs.Stands.{IsSettled}
-use Rattle.move_core.proofs.Keeping.{quiet_run, keeps_then}
+use Rattle.move_core.proofs.Running.{run_still, run_then}
 use Rattle.adr_top.specs.declared.statement.Statement.TheVariants.{Release}
 use Rattle.adr_top.specs.Causes.{last_line}
 use Rattle.adr_top.specs.Listed.{Tells}
-use Rattle.adr_top.specs.Meaning.{ReadsAfter, IsSettledAfter}
+use Rattle.adr_top.specs.Meaning.{ReadsAfter}
 use Rattle.adr_top.specs.Print.{nothing_run}
 use Rattle.adr_top.proofs.Puts.{whole_means, nothing_means}
-use Rattle.adr_top.proofs.Ran.{statement_written, statement_stopped, statement_since}
+use Rattle.adr_top.proofs.Ran.{written_not_16, unit_cause, statement_written, statement_stopped, statement_since}
 use Rattle.adr_top.proofs.perform.release.Goals as goal
 use Rattle.adr_top.proofs.perform.release.Goals.{in-Ok-Whole, in-Ok-Nothing, in-Err}
 
@@ -22,9 +20,9 @@ pub returns-in-Ok-Cut-clause-ends : goal.returns-in-Ok-Cut-clause-ends
 returns-in-Ok-Cut-clause-ends g c =
     let mid = c.plan_release.new.journal in
     statement_since (Release c.args.name) c.args.files.name.now g.P.Pool.tells (g.P.Pool.shape c.args.journal.pool) (g.P.Pool.shape mid.pool)
-    (g.P.Pool.disk c.args.journal.pool).state (g.P.Pool.disk mid.pool).state (g.P.Pool.faults c.args.journal.pool) (g.P.Pool.faults mid.pool) (g.P.Pool.faults c.put.result.pool)
+    (g.P.Pool.disk c.args.journal.pool).state (g.P.Pool.disk mid.pool).state
     (g.O.Sink.taken c.args.out.now) (g.O.Sink.taken c.put.new.out) (g.O.Sink.faults c.args.out.now) (g.O.Sink.faults c.put.new.out)
-    c.plan_release.ensures.shape c.plan_release.ensures.same c.plan_release.ensures.later c.put.result.status c.put.result.steps.items c.put.result.pending c.put.ensures.ends
+    c.plan_release.ensures.shape c.plan_release.ensures.same c.put.result.status c.put.result.steps.items c.put.result.pending c.put.ensures.ends
 
 pub returns-in-Ok-Cut-clause-reads : goal.returns-in-Ok-Cut-clause-reads
 returns-in-Ok-Cut-clause-reads g c = λ told not_16.
@@ -34,30 +32,10 @@ returns-in-Ok-Cut-clause-reads g c = λ told not_16.
     let T : State → Type 0 = λ state. ReadsAfter c.args.files.name.now c.put.result.steps.items (g.P.Pool.shape mid.pool) state last in
     subst S c.plan_release.ensures.shape (subst T (c.plan_release.ensures.same told) (c.put.ensures.reads told not_16))
 
-pub returns-in-Ok-Cut-clause-keeps : goal.returns-in-Ok-Cut-clause-keeps
-returns-in-Ok-Cut-clause-keeps g c = λ told names units settled.
-    let shape = g.P.Pool.shape c.args.journal.pool in
-    let old = g.P.Pool.disk c.args.journal.pool in
-    let mid = g.P.Pool.disk c.plan_release.new.journal.pool in
-    let new = g.P.Pool.disk c.put.result.pool in
-    let before = g.P.Pool.faults c.args.journal.pool in
-    let between = g.P.Pool.faults c.plan_release.new.journal.pool in
-    let after = g.P.Pool.faults c.put.result.pool in
-    let K : Shape → Type 0 = λ s. IsSettled s names mid.state units → KeepsUnits s names mid new between after units c.put.result.steps.items c.put.result.pending in
-    keeps_then shape names old mid new before between after units c.put.result.steps.items c.put.result.pending
-    (quiet_run shape names old mid before between units settled (c.plan_release.ensures.runs told))
-    (subst K c.plan_release.ensures.shape (c.put.ensures.keeps told names units)
-    (subst (λ (state : State). IsSettled shape names state units) (sym (c.plan_release.ensures.same told)) settled))
-    c.plan_release.ensures.later
-
-pub returns-in-Ok-Cut-clause-settled : goal.returns-in-Ok-Cut-clause-settled
-returns-in-Ok-Cut-clause-settled g c = λ told not_16 names units settled.
-    let shape = g.P.Pool.shape c.args.journal.pool in
-    let mid = (g.P.Pool.disk c.plan_release.new.journal.pool).state in
-    let last = (g.P.Pool.disk c.put.result.pool).state in
-    let K : Shape → Type 0 = λ s. IsSettled s names mid units → IsSettledAfter s names units c.put.result.steps.items last in
-    subst K c.plan_release.ensures.shape (c.put.ensures.settled told not_16 names units)
-    (subst (λ (state : State). IsSettled shape names state units) (sym (c.plan_release.ensures.same told)) settled)
+pub returns-in-Ok-Cut-clause-run : goal.returns-in-Ok-Cut-clause-run
+returns-in-Ok-Cut-clause-run g c =
+    let planned = c.plan_release.ensures in
+    run_then (run_still planned.shape planned.later (λ not. absurd (not (tt {0}))) planned.runs) (tt {0}) c.put.ensures.run
 
 pub returns-in-Ok-Cut-clause-quiet : goal.returns-in-Ok-Cut-clause-quiet
 returns-in-Ok-Cut-clause-quiet g c = λ told no_step none_pending.
@@ -71,18 +49,16 @@ returns-clause-ends g c =
     let name = c.args.files.name.now in
     let shape = g.P.Pool.shape c.args.journal.pool in
     let state = (g.P.Pool.disk c.args.journal.pool).state in
-    let before = g.P.Pool.faults c.args.journal.pool in
-    let now = g.P.Pool.faults c.plan_release.new.journal.pool in
     let taken = g.O.Sink.taken c.args.out.now in
     let sink = g.O.Sink.faults c.args.out.now in
-    rw (c.unmoved.ensures.status, c.unmoved.ensures.steps, c.unmoved.ensures.pending, c.unmoved.ensures.pool, c.into_pool.ensures)
+    rw (c.unmoved.ensures.status, c.unmoved.ensures.steps, c.unmoved.ensures.pending)
     (elim c.match-plan_release.branch [
       | in-Ok-Whole w ↦
           let A : List ℕ → Type 0 = λ t. Appends taken (g.O.Sink.taken w.tell_lines-status.new.out) t in
           let F : List ℕ → Type 0 = λ t. AppendsSome taken (g.O.Sink.taken w.tell_lines-status.new.out) t in
           let bytes = w.as_bytes.ensures.value ∙ w.as_str.ensures.value in
           rw (w.status-is, w.out-is)
-          (statement_written (Release c.args.name) name g.P.Pool.tells shape state before now taken (g.O.Sink.taken w.tell_lines-status.new.out) sink
+          (statement_written (Release c.args.name) name g.P.Pool.tells shape state taken (g.O.Sink.taken w.tell_lines-status.new.out) sink
           (g.O.Sink.faults w.tell_lines-status.new.out) w.tell_lines-status.result 0 [] (string_bytes w.in-Ok-Whole.text)
           (λ told. whole_means shape name c.args.name state c.args.journal.room c.args.journal.control c.args.journal.fills (c.requires.rest told)
           (string_bytes w.in-Ok-Whole.text) (rw w.in-Ok-Whole.field-0-is at (w.in-Ok-Whole.ensures.planned told)))
@@ -92,7 +68,7 @@ returns-clause-ends g c =
           let A : List ℕ → Type 0 = λ t. Appends taken (g.O.Sink.taken w.tell_lines-status-in-Ok-Nothing.new.out) t in
           let F : List ℕ → Type 0 = λ t. AppendsSome taken (g.O.Sink.taken w.tell_lines-status-in-Ok-Nothing.new.out) t in
           rw (w.status-is, w.out-is)
-          (statement_written (Release c.args.name) name g.P.Pool.tells shape state before now taken (g.O.Sink.taken w.tell_lines-status-in-Ok-Nothing.new.out) sink
+          (statement_written (Release c.args.name) name g.P.Pool.tells shape state taken (g.O.Sink.taken w.tell_lines-status-in-Ok-Nothing.new.out) sink
           (g.O.Sink.faults w.tell_lines-status-in-Ok-Nothing.new.out) w.tell_lines-status-in-Ok-Nothing.result 4 [] nothing_run
           (λ told. nothing_means shape name c.args.name state c.args.journal.room c.args.journal.control c.args.journal.fills (c.requires.rest told)
           (rw w.in-Ok-Nothing.field-0-is at (w.in-Ok-Nothing.ensures.planned told)))
@@ -102,12 +78,19 @@ returns-clause-ends g c =
       | in-Err w ↦
           let T : ℕ → Type 0 = λ n. Tells taken (g.O.Sink.taken w.tell-status.new.out) sink (g.O.Sink.faults w.tell-status.new.out) (last_line n) in
           rw (w.status-is, w.out-is, w.tell-status.ensures.status)
-          (statement_stopped (Release c.args.name) name g.P.Pool.tells shape state before now taken (g.O.Sink.taken w.tell-status.new.out) sink
-          (g.O.Sink.faults w.tell-status.new.out) w.in-Err.stop w.in-Err.ensures.fault (subst T w.tell-status.ensures.status w.tell-status.ensures.told))
+          (statement_stopped (Release c.args.name) name g.P.Pool.tells shape state taken (g.O.Sink.taken w.tell-status.new.out) sink
+          (g.O.Sink.faults w.tell-status.new.out) w.in-Err.stop _ _ w.in-Err.ensures.fault (subst T w.tell-status.ensures.status w.tell-status.ensures.told))
     ])
 
-pub returns-clause-keeps : goal.returns-clause-keeps
-returns-clause-keeps g c = λ told names units settled.
-    rw (c.unmoved.ensures.steps, c.unmoved.ensures.pending, c.unmoved.ensures.pool, c.into_pool.ensures)
-    (quiet_run (g.P.Pool.shape c.args.journal.pool) names (g.P.Pool.disk c.args.journal.pool) (g.P.Pool.disk c.plan_release.new.journal.pool)
-    (g.P.Pool.faults c.args.journal.pool) (g.P.Pool.faults c.plan_release.new.journal.pool) units settled (c.plan_release.ensures.runs told))
+pub returns-clause-run : goal.returns-clause-run
+returns-clause-run g c =
+    let planned = c.plan_release.ensures in
+    rw (c.unmoved.ensures.status, c.unmoved.ensures.steps, c.unmoved.ensures.pending, c.unmoved.ensures.pool, c.into_pool.ensures)
+    (run_still planned.shape planned.later
+    (elim c.match-plan_release.branch [
+      | in-Ok-Whole w ↦
+          rw (w.status-is) (λ not. absurd (not (written_not_16 w.tell_lines-status.result 0 (inl refl) w.tell_lines-status.ensures.status)))
+      | in-Ok-Nothing w ↦
+          rw (w.status-is) (λ not. absurd (not (written_not_16 w.tell_lines-status-in-Ok-Nothing.result 4 (inr refl) w.tell_lines-status-in-Ok-Nothing.ensures.status)))
+      | in-Err w ↦ rw (w.status-is, w.tell-status.ensures.status) (unit_cause w.in-Err.stop _ _ _ w.in-Err.ensures.fault)
+    ]) planned.runs)

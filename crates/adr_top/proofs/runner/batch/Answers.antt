@@ -1,10 +1,9 @@
-use Rattle.std.proofs.Common.{◌≡◌, ◌⊎◌, ℕ, false, true, refl, inl, inr, sym, subst, ◌∙◌}
-use Rattle.move_core.proofs.Keeping.{idle_run}
-use Rattle.move_core.proofs.Resuming.{each_moment_stands}
+use Rattle.std.proofs.Common.{◌≡◌, ◌⊎◌, ℕ, false, true, refl, inl, inr, sym, subst, ◌∙◌, arith}
+use Rattle.move_core.proofs.Running.{run_idle, run_stops}
 use Rattle.adr_top.specs.Causes.{last_line}
 use Rattle.adr_top.specs.Listed.{Tells}
 use Rattle.adr_top.specs.Parts.{format_named_by}
-use Rattle.adr_top.proofs.Ran.{not_36, not_48, only_made}
+use Rattle.adr_top.proofs.Ran.{some_status, not_36, not_48, only_made}
 use Rattle.adr_top.proofs.runner.batch.Goals as goal
 
 -- ---- the run is refused
@@ -22,9 +21,19 @@ returns-then-not-is_ready-clause-told g c = λ zero four twenty out.
     (subst P (sym (c.end.ensures.status ∙ c.unmoved.ensures.status)) c.tell-status.ensures.told)
 
 pub returns-then-not-is_ready-clause-headline : goal.returns-then-not-is_ready-clause-headline
-returns-then-not-is_ready-clause-headline g c = λ told none names units settled.
-    rw (c.end.ensures.pool, c.end.ensures.steps, c.end.ensures.pending, c.unmoved.ensures.pool, c.unmoved.ensures.steps, c.unmoved.ensures.pending)
-    (idle_run (g.P.Pool.shape c.args.pool) names (g.P.Pool.disk c.args.pool) (g.P.Pool.faults c.args.pool) (g.P.Pool.faults c.args.pool) units settled)
+returns-then-not-is_ready-clause-headline g c = λ none.
+    rw (
+      c.end.ensures.pool,
+      c.end.ensures.steps,
+      c.end.ensures.pending,
+      c.end.ensures.status,
+      c.unmoved.ensures.pool,
+      c.unmoved.ensures.steps,
+      c.unmoved.ensures.pending,
+      c.unmoved.ensures.status,
+      c.tell-status.ensures.status,
+    )
+    (run_idle (λ is. omega (arith, is)))
 
 -- ---- a journal is made
 
@@ -77,12 +86,18 @@ pub returns-clause-unread : goal.returns-clause-unread
 returns-clause-unread g c = λ named stands. absurd (c.in_default.ensures.none named stands)
 
 pub returns-clause-headline : goal.returns-clause-headline
-returns-clause-headline g c = λ told none names units settled.
-    rw (c.end-2.ensures.pool, c.end-2.ensures.steps, c.end-2.ensures.pending) (c.run.ensures.keeps told names units settled)
+returns-clause-headline g c = λ none. rw (c.end-2.ensures.pool, c.end-2.ensures.steps, c.end-2.ensures.pending, c.end-2.ensures.status) (c.run.ensures.run)
 
-pub returns-clause-settled : goal.returns-clause-settled
-returns-clause-settled g c = λ told none not_16 names units settled.
-    rw (c.end-2.ensures.pool, c.end-2.ensures.steps) (c.run.ensures.settled told (λ e. not_16 (c.end-2.ensures.status ∙ e)) names units settled)
+pub returns-clause-shape : goal.returns-clause-shape
+returns-clause-shape g c = rw (c.end-2.ensures.pool) (c.run.ensures.run.shape)
+
+pub returns-clause-cause : goal.returns-clause-cause
+returns-clause-cause g c = rw (c.end-2.ensures.status, c.end-2.ensures.pool) (record {
+  known = some_status c.run.result.status c.run.ensures.ran.known;
+  pool = λ is. c.run.ensures.run.cause (λ not. not is);
+  source = c.run.ensures.ran.source;
+  sink = c.run.ensures.ran.sink;
+})
 
 pub returns-clause-reads : goal.returns-clause-reads
 returns-clause-reads g c = λ told none not_16.
@@ -111,10 +126,10 @@ returns-clause-unread_words g c = λ is. absurd (not_36 c.run.result.status c.ru
 pub returns-clause-unasked : goal.returns-clause-unasked
 returns-clause-unasked g c = λ told none nothing. rw (c.end-2.ensures.pool) (c.run.ensures.unasked told nothing)
 
+-- ---- any moment
+
 pub returns-then-not-is_ready-clause-stops : goal.returns-then-not-is_ready-clause-stops
-returns-then-not-is_ready-clause-stops g c = λ told none names units settled.
-    each_moment_stands (g.P.Pool.shape c.args.pool) names (g.P.Pool.disk c.args.pool) _ (g.P.Pool.faults c.args.pool) _ units _ _ settled (returns-then-not-is_ready-clause-headline g c told none names units settled)
+returns-then-not-is_ready-clause-stops g c = λ told none. run_stops (returns-then-not-is_ready-clause-headline g c none) told
 
 pub returns-clause-stops : goal.returns-clause-stops
-returns-clause-stops g c = λ told none names units settled.
-    each_moment_stands (g.P.Pool.shape c.args.pool) names (g.P.Pool.disk c.args.pool) _ (g.P.Pool.faults c.args.pool) _ units _ _ settled (returns-clause-headline g c told none names units settled)
+returns-clause-stops g c = λ told none. run_stops (returns-clause-headline g c none) told

@@ -1,0 +1,17 @@
+use Rattle.move_core.proofs.Running.{run_then, run_quiet, run_demoted, switch_done, switch_failed}
+use Rattle.move_core.proofs.laws.running_laws.Goals as goal
+
+pub returns-clause-then : goal.returns-clause-then
+returns-clause-then g c = λ steps more pending. run_then
+
+pub returns-clause-quiet : goal.returns-clause-quiet
+returns-clause-quiet g c = λ may. run_quiet
+
+pub returns-clause-demoted : goal.returns-clause-demoted
+returns-clause-demoted g c = λ steps step. run_demoted
+
+pub returns-clause-switched : goal.returns-clause-switched
+returns-clause-switched g c = λ step room entries shape later idle takes moments. (
+  λ end committed. switch_done shape later idle takes moments end committed,
+  λ never rose. switch_failed shape later idle takes moments never rose,
+)

@@ -1,0 +1,41 @@
+-- How runs follow one another.
+use Rattle.std.specs.Prelude.{◌≡◌, ℕ, ◌≤◌, List, [], ◌∷◌, ◌++◌, Bool, Option, Some, None}
+use Rattle.dasd_pool.specs.Count.{Rose}
+use Rattle.dasd_pool.specs.Disk.{LeavesOnly, Runs}
+use Rattle.redo_core.specs.declared.entries.Entry.{Entry}
+use Rattle.redo_core.specs.Phases.{OldOrNew, IsCommitted}
+use Rattle.volume_model.specs.Unit.{UnitModel}
+use Rattle.move_core.specs.declared.steps.Step.{Step}
+use Rattle.move_core.specs.Facts.{Facts, Shown}
+use Rattle.move_core.specs.Stands.{AreUnused, IsSettled}
+use Rattle.move_core.specs.Runs.{IsRun}
+use Rattle.move_core.specs.Taking.{IsIdle, TakeUnits}
+
+-- One run that ended, and then another, are a run of the steps of both. What was under way in the second is under way.
+abbrev pub RunThen : Type 0 → Shown → Shown → Shown → Type 0 → Type 0 → Type 0
+RunThen tells old mid new ended later =
+    (steps more : List Step) (pending : Option Step) → IsRun tells old mid ended steps None → ended → IsRun tells mid new later more pending
+    → IsRun tells old new later (steps ++ more) pending
+
+-- Calls that write only blocks on which no meaning rests are a run of no step.
+abbrev pub RunQuiet : Type 0 → Shown → Shown → Type 0 → Type 0
+RunQuiet tells old new ended =
+    (may : ℕ → ℕ → Bool) → new.shape ≡ old.shape → old.faults ≤ new.faults → (¬ ended → Rose old.faults new.faults)
+    → (tells → (facts : Facts) (units : List UnitModel) → facts.shape ≡ old.shape → (settled : IsSettled facts old.disk.state units)
+    → AreUnused may facts.shape settled.stands.reading settled.stands.means.found)
+    → (tells → Runs may old.disk new.disk) → IsRun tells old new ended [] None
+
+-- The last step of a run that ended turns out to be under way: the pool failed behind it.
+abbrev pub RunDemoted : Type 0 → Shown → Shown → Type 0 → Type 0 → Type 0
+RunDemoted tells old new ended later =
+    (steps : List Step) (step : Step) → ¬ later → Rose old.faults new.faults → IsRun tells old new ended (steps ++ (step ∷ [])) None
+    → IsRun tells old new later steps (Some step)
+
+-- A commit whose entries take the units by a step is a run of that step; where it failed, the step is under way.
+abbrev pub RunSwitched : Type 0 → Shown → Shown → Type 0 → Type 0
+RunSwitched tells old new ended =
+    (step : Step) (room : ℕ) (entries : List Entry) → new.shape ≡ old.shape → old.faults ≤ new.faults
+    → (tells → IsIdle old.shape old.disk.state room) → (tells → TakeUnits old.shape room old.disk.state.contents step entries)
+    → (tells → LeavesOnly old.disk new.disk (OldOrNew old.shape old.disk.state entries))
+    → (ended → (tells → IsCommitted old.shape old.disk.state entries new.disk.state) → IsRun tells old new ended (step ∷ []) None)
+    × (¬ ended → Rose old.faults new.faults → IsRun tells old new ended [] (Some step))
