@@ -27,12 +27,20 @@ pub(crate) fn printed_byte(byte: u8) -> u8
     to_ascii(byte).unwrap_or(b'?')
 }
 
+/// The same as a character.
+fn printed_character(byte: u8) -> char
+    ensures value { result ≡ unwrap_or (ascii_of byte) 63 }
+    ensures ascii { result < 128 }
+{
+    char::from(printed_byte(byte))
+}
+
 /// Adds bytes as they are printed.
 pub(crate) fn push_printed(text: &mut String, bytes: &[u8]) -> Result<(), AllocError>
     ensures { OnOk result (string_bytes text.new ≡ string_bytes text.old ++ printed bytes.now) }
 {
     for byte in trimmed(bytes) {
-        text.push(char::from(printed_byte(*byte)))?;
+        text.push(printed_character(*byte))?;
     }
     Ok(())
 }

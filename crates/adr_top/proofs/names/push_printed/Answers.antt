@@ -17,8 +17,8 @@ loop-byte-preserved c =
     let bytes = c.trimmed-byte-items.result.now in
     let i = c.loop-byte.byte-index in
     c.in_ok-push.ensures.bytes
-    ∙ (λ k. c.loop-byte.invariant k ++ c.in_ok-push.ensures.ascii c.printed_byte.ensures.ascii k)
-    ∙ (λ k. (old ++ map printed_byte (take i bytes)) ++ (c.printed_byte.ensures.value k ∷ []))
+    ∙ (λ k. c.loop-byte.invariant k ++ c.in_ok-push.ensures.ascii c.printed_character.ensures.ascii k)
+    ∙ (λ k. (old ++ map printed_byte (take i bytes)) ++ (c.printed_character.ensures.value k ∷ []))
     ∙ append_assoc old (map printed_byte (take i bytes)) (_ ∷ [])
     ∙ ap (λ (t : List ℕ). old ++ t) (sym (map_more printed_byte bytes i 0 c.loop-byte-test.true))
 
