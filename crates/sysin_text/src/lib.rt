@@ -1,0 +1,12 @@
+//! The lines of a SYSIN text and their tokens.
+#![tactic(auto)]
+
+mod line;
+mod token;
+mod tokens;
+
+pub use token::{Letters, Placed, Token};
+pub use tokens::Tokens;
+
+#[cfg(test)]
+mod tests;
