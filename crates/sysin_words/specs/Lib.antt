@@ -1,0 +1,4 @@
+pub mod Lead
+pub mod Keyword
+pub mod Code
+pub mod Number
