@@ -1,5 +1,5 @@
 -- The text of a track of which some records get other bytes.
-use Rattle.std.proofs.Common.{◌≡◌, ◌≢◌, ◌⊎◌, inl, inr, ℕ, zero, suc, ◌+◌, ◌-◌, ◌*◌, ◌<◌, ◌≤◌, ◌/◌, ◌%◌, List, [], ◌∷◌, ◌++◌, length, map, find, replicate, All, Any, Bool, true, false, Option, Some, None, refl, sym, ap, subst, ◌∙◌, arith, length-append, get_or}
+use Rattle.std.proofs.Common.{◌≡◌, ◌≢◌, inl, inr, ℕ, suc, ◌-◌, ◌*◌, ◌≤◌, List, [], ◌∷◌, ◌++◌, length, map, replicate, All, Any, Bool, Option, Some, None, refl, sym, ap, subst, ◌∙◌, arith, length-append}
 use Rattle.std.specs.Prelude.{◌==◌, ◌&&◌, cond}
 use Rattle.std.specs.List.{AllByRecursion}
 use Rattle.std.proofs.lemmas.Bool.{cases_Bool, eqb-true}
@@ -15,7 +15,6 @@ use Rattle.ckd_image.specs.Bytes.{Begins}
 use Rattle.ckd_image.specs.Device.{heads_of, slot_of}
 use Rattle.ckd_image.specs.Track.{IsRecord, IsTrack, IsTrackText, records_text, home_text, zero_text, end_mark, track_text}
 use Rattle.volume_model.specs.declared.place.Placed.{Placed}
-use Rattle.volume_model.specs.Directory.{same_place}
 use Rattle.volume_model.specs.Sound.{IsDscbRecord}
 use Rattle.volume_model.proofs.DscbRecords.{long_records}
 use Rattle.ckd_image.proofs.OneText.{one_text}

@@ -1,4 +1,4 @@
-use Rattle.std.proofs.Common.{◌≡◌, ◌+◌, ◌∙◌, ℕ, List, ap, subst}
+use Rattle.std.proofs.Common.{◌+◌, ◌∙◌, ℕ, List, ap, subst}
 use Rattle.ckd_image.specs.Device.{heads_of, slot_of}
 use Rattle.vtoc_write.specs.Written.{slot_at, AddsBlock}
 use Rattle.vtoc_write.proofs.Ascending.{upto_next, ascending_next}

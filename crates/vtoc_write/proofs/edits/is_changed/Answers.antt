@@ -1,6 +1,5 @@
-use Rattle.std.proofs.Common.{rules, ◌≡◌, ◌⊎◌, inl, inr, ◌∙◌, sym, ap, refl, true, false, Bool, not, take, drop, IsTrue, Some}
+use Rattle.std.proofs.Common.{◌≡◌, inl, inr, ◌∙◌, sym, ap, not, Some}
 use Rattle.std.proofs.lemmas.Bool.{cases_Bool, false≢true}
-use Rattle.volume_model.specs.declared.place.Placed.{Placed}
 use Rattle.vtoc_write.specs.Edited.{rec_with, rec_after}
 use Rattle.vtoc_write.proofs.Recs.{same_body, same_rec}
 use Rattle.vtoc_write.proofs.edits.is_changed.Goals as goal

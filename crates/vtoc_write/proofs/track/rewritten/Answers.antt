@@ -1,4 +1,4 @@
-use Rattle.std.proofs.Common.{◌≡◌, ◌≢◌, ◌∙◌, List, Any, IsTrue, sym, subst}
+use Rattle.std.proofs.Common.{◌≢◌, ◌∙◌, List, Any, IsTrue, sym, subst}
 use Rattle.std.proofs.lemmas.Bool.{false≢true}
 use Rattle.ckd_image.specs.declared.track.Rec.{Rec}
 use Rattle.vtoc_write.specs.Edited.{rec_after}
