@@ -19,6 +19,7 @@ mod pointers;
 mod reach;
 mod read;
 mod reading;
+mod rows;
 mod space;
 mod tracks;
 
@@ -27,4 +28,8 @@ pub use check::{check_vtoc, lowest_breach};
 pub use directory::Directory;
 pub use fault::VtocFault;
 pub use front::vtoc_run;
+pub use rows::{SetExtents, data_sets, extents_of_set};
 pub use space::{all_entries, all_extents, usable_tracks};
+
+#[cfg(test)]
+mod tests;
