@@ -30,6 +30,3 @@ pub use fault::VtocFault;
 pub use front::vtoc_run;
 pub use rows::{SetExtents, data_sets, extents_of_set};
 pub use space::{all_entries, all_extents, usable_tracks};
-
-#[cfg(test)]
-mod tests;

@@ -1,12 +1,9 @@
 //! Small VTOCs, byte by byte: a volume of one cylinder, whose VTOC is on tracks 1 and 2, with its format 4 in record 1 of track 1.
 
-ghost use Rattle.std.specs.Prelude.{◌≡◌, ◌≤◌, length};
-
-use crate::read::slot_at;
-use crate::{VtocFault, check_vtoc, vtoc_run};
 use ckd_image::{Cchhr, Device, Head, TrackAt};
 use std::test::*;
 use vol_label::{Label, Serial};
+use vtoc_check::{VtocFault, check_vtoc, vtoc_run};
 
 /// The bytes of a slot of a 3390.
 const SLOT: usize = 56_832;
@@ -158,8 +155,7 @@ fn told(rt: &HostRuntime, slots: &[u8], sliding: bool) -> Result<Option<VtocFaul
     if slots.len() < SLOT {
         return Err(Fail::new("too few slots"));
     }
-    let slot = slot_at(slots, 0, SLOT);
-    let run = match vtoc_run(rt.alloc(), HEAD, &LABEL, slot) {
+    let run = match vtoc_run(rt.alloc(), HEAD, &LABEL, &slots[..SLOT]) {
         Ok(run) => run,
         Err(fault) => return Ok(Some(fault)),
     };
