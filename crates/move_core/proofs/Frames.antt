@@ -156,7 +156,7 @@ numbers_all : (P : ℕ → Type 0) (n : ℕ) → ((k : ℕ) → k < n → P k) �
 numbers_all P zero each = All-nil P
 numbers_all P (suc n) each = All-append P (numbers_below n) (n ∷ []) (numbers_all P n (λ k less. each k (omega (arith, less)))) (All-cons P n [] (each n (omega arith)) (All-nil P))
 
-tracks_all : (P : ℕ → Type 0) (extents : List Extent) → ((track : ℕ) → InRuns (map run_in extents) track → P track) → All P (tracks_of extents)
+pub tracks_all : (P : ℕ → Type 0) (extents : List Extent) → ((track : ℕ) → InRuns (map run_in extents) track → P track) → All P (tracks_of extents)
 tracks_all P [] each = All-nil P
 tracks_all P (extent ∷ extents) each =
     let first = extent.run.first in
@@ -228,7 +228,7 @@ module _ (sliding : Bool) (place : ℕ → ℕ) (head : List ℕ) (blocks : ℕ)
         rows_are = s.rows_are;
       }
 
-  set_track_below : (track : ℕ) → InRuns (runs_of_sets volume.sets) track → track < blocks
+  pub set_track_below : (track : ℕ) → InRuns (runs_of_sets volume.sets) track → track < blocks
   set_track_below track holds =
       let s = is.stands in
       let heads : s.vtoc.heads ≡ heads_of is.found.device = s.vtoc_stands.heads_are ∙ ap heads_of (sym s.device_is) in

@@ -1,8 +1,12 @@
 pub mod Below
 pub mod Frames
 pub mod Standing
+pub mod OneMeaning
 pub mod OneVtoc
 pub mod Online
+pub mod OneOrder
+pub mod OneFault
+pub mod OneUnit
 pub mod Reached
 pub mod Used
 pub mod Shrinking

@@ -1,5 +1,5 @@
 -- A unit on which a loader finds a volume is online.
-use Rattle.std.proofs.Common.{◌≡◌, ◌⊎◌, inl, inr, ℕ, ◌≤◌, List, [], length, false, refl, sym, ap, subst, ◌∙◌, arith}
+use Rattle.std.proofs.Common.{◌≡◌, ◌⊎◌, inl, inr, ℕ, ◌≤◌, List, [], length, Bool, false, refl, sym, ap, subst, ◌∙◌, arith}
 use Rattle.std.specs.Prelude.{Contains}
 use Rattle.std.proofs.lemmas.Bool.{false≢true}
 use Rattle.ckd_image.specs.declared.head.Head.{Head}
@@ -26,7 +26,7 @@ use Rattle.move_core.specs.Shrinking.{AreShort}
 use Rattle.move_core.proofs.Frames.{pointer_held}
 use Rattle.move_core.proofs.OneVtoc.{address_fits, one_format4, one_vtoc}
 
-module _ (head : List ℕ) (blocks : ℕ) (slots : Slots) (found : Volume) (is : IsVolume head blocks slots false found) (first_short : length (slots 0) ≤ 65536)
+module _ (sliding : Bool) (head : List ℕ) (blocks : ℕ) (slots : Slots) (found : Volume) (is : IsVolume head blocks slots sliding found) (first_short : length (slots 0) ≤ 65536)
     (short : AreShort slots is.vtoc.run) where
   -- ---- the head and the label
 
@@ -36,11 +36,11 @@ module _ (head : List ℕ) (blocks : ℕ) (slots : Slots) (found : Volume) (is :
       let tracks : image.tracks ≡ is.image.tracks = has.tracks_are ∙ sym is.tracks_are in
       (λ i. record { device = device i; tracks = tracks i })
 
-  first_text : (text : Track) → IsFirstText is.image slots text → text ≡ is.track_0
+  pub first_text : (text : Track) → IsFirstText is.image slots text → text ≡ is.track_0
   first_text text stands =
       one_text (address_of (heads_of is.image.device) 0) (slots 0) text is.track_0 (address_fits is.image.device 0 (omega arith)) first_short stands is.track_0_stands
 
-  no_bad_label : (why : ℕ) → ¬ HasBadLabel head blocks slots why
+  pub no_bad_label : (why : ℕ) → ¬ HasBadLabel head blocks slots why
   no_bad_label why bad =
       let P : Head → Type 0 = λ image.
       (((text : Track) → ¬ IsFirstText image slots text) × (why ≡ 1)) ⊎ ((text : Track) × IsFirstText image slots text × IsLabelFault image text.recs (BadLabel why)) in
@@ -60,7 +60,7 @@ module _ (head : List ℕ) (blocks : ℕ) (slots : Slots) (found : Volume) (is :
   same_four : (bytes : List ℕ) → IsFormat4 (heads_of is.image.device) slots found.label.vtoc bytes → bytes ≡ is.vtoc_stands.bytes
   same_four bytes stands =
       one_format4 (heads_of is.image.device) slots found.label.vtoc bytes is.vtoc_stands.bytes is.label_stands.text.numbers.0
-      (short (track_at (heads_of is.image.device) found.label.vtoc.at) (pointer_held is.image found.label.vtoc slots false is.vtoc is.vtoc_stands))
+      (short (track_at (heads_of is.image.device) found.label.vtoc.at) (pointer_held is.image found.label.vtoc slots sliding is.vtoc is.vtoc_stands))
       stands is.vtoc_stands.format_4
 
   no_rule : (rule : VtocRule) → ¬ IsFirstRuleBroken is.image slots found.label.vtoc rule
@@ -78,32 +78,32 @@ module _ (head : List ℕ) (blocks : ℕ) (slots : Slots) (found : Volume) (is :
   pub few_tracks : is.image.tracks ≤ 65535
   few_tracks = omega (arith, is.tracks_are, is.head_stands.cylinders.1)
 
-  no_fault : (told : Breach) → ¬ IsCheckFault is.image slots found.label.vtoc false told
+  no_fault : (told : Breach) → ¬ IsCheckFault is.image slots found.label.vtoc sliding told
   no_fault told (inl first) = no_rule told.rule first.0
   no_fault told (inr other) =
       let same : is.vtoc ≡ other.0 =
-      (one_vtoc is.image slots found.label.vtoc false is.vtoc other.0 short few_tracks is.label_stands.text.numbers is.vtoc_stands other.1).0 in
+      (one_vtoc is.image slots found.label.vtoc sliding is.vtoc other.0 short few_tracks is.label_stands.text.numbers is.vtoc_stands other.1).0 in
       let none : Contains [] told = subst (λ (all : List Breach). Contains all told) (ap breaches_of (sym same) ∙ is.sound) other.2.is_there in
       absurd (omega (arith, none.1))
 
-  no_bad_vtoc : (track number why : ℕ) → ¬ HasBadVtoc false head blocks slots track number why
+  pub no_bad_vtoc : (track number why : ℕ) → ¬ HasBadVtoc sliding head blocks slots track number why
   no_bad_vtoc track number why bad =
       let image : bad.image ≡ is.image = one_image bad.image bad.labelled.head_stands in
       let label : bad.label ≡ found.label = same_label bad.label (subst (λ (i : Head). HasLabelOf head blocks slots i bad.label) image bad.labelled) in
-      let fault = subst (λ (i : Head). IsCheckFault i slots bad.label.vtoc false bad.told) image bad.fault in
-      no_fault bad.told (subst (λ (l : Label). IsCheckFault is.image slots l.vtoc false bad.told) label fault)
+      let fault = subst (λ (i : Head). IsCheckFault i slots bad.label.vtoc sliding bad.told) image bad.fault in
+      no_fault bad.told (subst (λ (l : Label). IsCheckFault is.image slots l.vtoc sliding bad.told) label fault)
 
   -- ---- the unit
 
-  pub is_online : (unit : UnitModel) → IsUnit false false (λ track. track) head blocks slots unit
-      → (volume : OnlineVolume) × (unit ≡ online volume) × IsOnline false (λ track. track) head blocks slots volume
-  is_online (online volume) stands = (volume, refl, stands.1)
-  is_online (offline (whys.Head why) kept) stands = absurd (no_head head blocks (BadHead why) stands.0 is.image.device is.head_stands)
-  is_online (offline whys.Filling kept) stands = absurd (false≢true stands.0)
-  is_online (offline (whys.Label why) kept) stands = absurd (no_bad_label why stands.1)
-  is_online (offline (whys.Vtoc track number why) kept) stands = absurd (no_bad_vtoc track number why stands.1)
+  pub is_online : (place : ℕ → ℕ) (unit : UnitModel) → IsUnit false sliding place head blocks slots unit
+      → (volume : OnlineVolume) × (unit ≡ online volume) × IsOnline sliding place head blocks slots volume
+  is_online place (online volume) stands = (volume, refl, stands.1)
+  is_online place (offline (whys.Head why) kept) stands = absurd (no_head head blocks (BadHead why) stands.0 is.image.device is.head_stands)
+  is_online place (offline whys.Filling kept) stands = absurd (false≢true stands.0)
+  is_online place (offline (whys.Label why) kept) stands = absurd (no_bad_label why stands.1)
+  is_online place (offline (whys.Vtoc track number why) kept) stands = absurd (no_bad_vtoc track number why stands.1)
 
 pub loaded_is_online : (head : List ℕ) (blocks : ℕ) (slots : Slots) (unit : UnitModel) (found : Volume) → (stands : IsVolume head blocks slots false found)
     → length (slots 0) ≤ 65536 → AreShort slots stands.vtoc.run → IsUnit false false (λ track. track) head blocks slots unit
     → (volume : OnlineVolume) × (unit ≡ online volume) × IsOnline false (λ track. track) head blocks slots volume
-loaded_is_online head blocks slots unit found stands first short is = is_online head blocks slots found stands first short unit is
+loaded_is_online head blocks slots unit found stands first short is = is_online false head blocks slots found stands first short (λ track. track) unit is

@@ -116,7 +116,7 @@ module _ (head : List ℕ) (blocks : ℕ) (slots : Slots) (found : Volume) (vtoc
 
     pub alone_online : (model : UnitModel) → IsUnit false false (λ track. track) head blocks slots model
         → (volume : OnlineVolume) × (model ≡ online volume) × IsOnline false (λ track. track) head blocks slots volume
-    alone_online = is_online head blocks slots found stands first_short found_short
+    alone_online = is_online false head blocks slots found stands first_short found_short (λ track. track)
 
     -- ---- what the unit's volume becomes
 
@@ -128,11 +128,11 @@ module _ (head : List ℕ) (blocks : ℕ) (slots : Slots) (found : Volume) (vtoc
       has_label = record { head_stands = has_image; text = h.stands.track_0; text_stands = h.stands.track_0_stands; stands = h.stands.label_stands }
 
       image_is : h.stands.image ≡ stands.image
-      image_is = one_image head blocks slots found stands first_short found_short h.stands.image has_image
+      image_is = one_image false head blocks slots found stands first_short found_short h.stands.image has_image
 
       label_is : h.found.label ≡ found.label
       label_is =
-          same_label head blocks slots found stands first_short found_short h.found.label
+          same_label false head blocks slots found stands first_short found_short h.found.label
           (subst (λ (image : Head). HasLabelOf head blocks slots image h.found.label) image_is has_label)
 
       vtoc_is : vtoc ≡ h.stands.vtoc

@@ -1,8 +1,9 @@
 -- What a stop, an opening and a commit leave of the units that a pool stands for.
-use Rattle.std.specs.Prelude.{◌≡◌, ◌⊎◌, ℕ, ◌<◌, List, Bool, false}
+use Rattle.std.specs.Prelude.{◌≡◌, ◌⊎◌, ℕ, ◌<◌, ◌≤◌, List, length, Bool, false}
 use Rattle.dasd_pool.specs.Disk.{Image, Shape, State, MayLeave}
 use Rattle.vol_label.specs.declared.serial.Serial.{Serial}
 use Rattle.redo_core.specs.declared.control.Control.{Control}
+use Rattle.redo_core.specs.declared.control.Control.TheVariants.{Idle}
 use Rattle.redo_core.specs.declared.entries.Entry.{Entry}
 use Rattle.redo_core.specs.Format.{is_open}
 use Rattle.redo_core.specs.Reading.{journal_of, placed, Reading}
@@ -55,3 +56,11 @@ CommittedIsSettled =
     (facts : Facts) (old new : State) (before after : List UnitModel) (entries : List Entry)
     → (settled : IsSettled facts old before) → WillStand facts settled.stands.reading entries after
     → IsCommitted facts.shape old entries new → IsSettled facts new after
+
+-- Where its slots are no longer than a block can be, an image says at most one list of units, with the texts of an open slide at their places.
+-- So it stands for at most one where no slide is open.
+abbrev pub OneMeaning : Type 0
+OneMeaning =
+    (facts : Facts) (image : Image) (a b : List UnitModel) → (one : Stands facts image a) → (other : Stands facts image b)
+    → ((u track : ℕ) → u < journal_of facts.shape → track < facts.shape.blocks u → length (one.reading.volumes u track) ≤ 65536)
+    → (one.means.found ≡ other.means.found) × (one.reading.control ≡ Idle → a ≡ b)

@@ -1,7 +1,7 @@
 //! What holds of the units that a pool stands for, whatever reads or changes them.
 
 ghost use Rattle.move_core.specs.Facts.{shown};
-ghost use Rattle.move_core.specs.Laws.{KeepsMeaning, EachImageStands, OpeningStands, OpenedIsSettled, CommitStands, CommittedIsSettled};
+ghost use Rattle.move_core.specs.Laws.{KeepsMeaning, EachImageStands, OpeningStands, OpenedIsSettled, CommitStands, CommittedIsSettled, OneMeaning};
 ghost use Rattle.move_core.specs.Shrinking.{OneVtoc, LoadedIsOnline, ShrinkStands};
 ghost use Rattle.move_core.specs.Resuming.{FormattedIsSettled, SyncedIsSettled, StandingMayOpen};
 ghost use Rattle.move_core.specs.Releasing.{KeptOfTracks, ReleaseStands};
@@ -10,7 +10,7 @@ ghost use Rattle.move_core.specs.RunLaws.{RunThen, RunQuiet, RunDemoted, RunSwit
 
 use dasd_pool::{Pool, PoolFault};
 
-/// A stop, an opening and a commit leave what a pool stands for, or what the commit makes of it.
+/// A stop, an opening and a commit leave what a pool stands for, or what the commit makes of it. An image stands for at most one list of units.
 pub fn standing_laws()
     ensures meaning { KeepsMeaning }
     ensures image { EachImageStands }
@@ -18,6 +18,7 @@ pub fn standing_laws()
     ensures opened { OpenedIsSettled }
     ensures commit { CommitStands }
     ensures committed { CommittedIsSettled }
+    ensures one { OneMeaning }
 {}
 
 /// A journal that was made leads into a run, and what a stop left into the next opening and the next run.

@@ -1,5 +1,7 @@
 //! Small VTOCs, byte by byte: a volume of one cylinder, whose VTOC is on tracks 1 and 2, with its format 4 in record 1 of track 1.
 
+ghost use Rattle.std.specs.Prelude.{◌≡◌, ◌≤◌, length, take};
+
 use ckd_image::{Cchhr, Device, Head, TrackAt};
 use std::test::*;
 use vol_label::{Label, Serial};
@@ -150,12 +152,22 @@ fn slots_of(
     Ok(slots)
 }
 
+/// The slot of the first track.
+fn first_slot(slots: &[u8]) -> &[u8]
+    requires { 56832 ≤ length slots.now }
+    ensures slot { result.now ≡ take 56832 slots.now }
+    ensures long { length result.now ≡ 56832 }
+{
+    &slots[..SLOT]
+}
+
 /// What the check says of a VTOC from its slots.
 fn told(rt: &HostRuntime, slots: &[u8], sliding: bool) -> Result<Option<VtocFault>, Fail> {
     if slots.len() < SLOT {
         return Err(Fail::new("too few slots"));
     }
-    let run = match vtoc_run(rt.alloc(), HEAD, &LABEL, &slots[..SLOT]) {
+    let slot = first_slot(slots);
+    let run = match vtoc_run(rt.alloc(), HEAD, &LABEL, slot) {
         Ok(run) => run,
         Err(fault) => return Ok(Some(fault)),
     };

@@ -1,4 +1,5 @@
 use Rattle.move_core.proofs.Standing.{keeps_meaning, image_stands, opening_stands, opened_settled, commit_stands, committed_settled}
+use Rattle.move_core.proofs.OneMeaning.{found_is, one_meaning}
 use Rattle.move_core.proofs.laws.standing_laws.Goals as goal
 
 pub returns-clause-meaning : goal.returns-clause-meaning
@@ -18,3 +19,6 @@ returns-clause-commit c = commit_stands
 
 pub returns-clause-committed : goal.returns-clause-committed
 returns-clause-committed c = committed_settled
+
+pub returns-clause-one : goal.returns-clause-one
+returns-clause-one c = λ facts image a b one other short. (found_is facts image a b one other short, one_meaning facts image a b one other short)

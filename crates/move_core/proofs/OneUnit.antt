@@ -1,0 +1,349 @@
+-- The blocks of a unit say one unit.
+use Rattle.std.proofs.Common.{◌≡◌, ◌⊎◌, inl, inr, ℕ, ◌-◌, ◌≤◌, List, [], ◌∷◌, length, map, not, Bool, true, false, refl, sym, ap, subst, ◌∙◌, arith}
+use Rattle.std.specs.Prelude.{Contains}
+use Rattle.std.specs.List.{AllByRecursion}
+use Rattle.std.proofs.lemmas.Bool.{false≢true}
+use Rattle.std.proofs.lemmas.List.Elements.{recursion_from_All}
+use Rattle.ckd_image.specs.declared.device.Device.{Device}
+use Rattle.ckd_image.specs.declared.fault.CkdFault.TheVariants.{BadHead}
+use Rattle.ckd_image.specs.declared.head.Head.{Head}
+use Rattle.ckd_image.specs.declared.track.Cchhr.{Cchhr}
+use Rattle.ckd_image.specs.declared.track.Track.{Track}
+use Rattle.ckd_image.specs.Address.{address_of, IsCchhr}
+use Rattle.ckd_image.specs.Device.{heads_of}
+use Rattle.ckd_image.specs.Head.{IsHeadFault}
+use Rattle.ckd_image.proofs.OneText.{one_text}
+use Rattle.vol_label.specs.declared.fault.LabelFault.TheVariants.{BadLabel}
+use Rattle.vol_label.specs.declared.label.Label.{Label}
+use Rattle.vol_label.specs.Label.{IsLabel, IsLabelFault}
+use Rattle.vol_label.proofs.OneLabel.{one_label, no_label}
+use Rattle.free_map.specs.Runs.{InRuns}
+use Rattle.free_map.proofs.Gaps.{append_left, append_right}
+use Rattle.redo_core.proofs.Heads.{one_device, no_head}
+use Rattle.volume_model.specs.declared.why.Why.TheVariants as whys
+use Rattle.volume_model.specs.declared.rule.VtocRule.{VtocRule}
+use Rattle.volume_model.specs.declared.rule.VtocRule.TheVariants as rules
+use Rattle.volume_model.specs.Rules.{number_of}
+use Rattle.volume_model.specs.declared.place.Vtoc.{Vtoc}
+use Rattle.volume_model.specs.declared.place.Breach.{Breach}
+use Rattle.volume_model.specs.Check.{records_of, fives_of, usable_in, breaches_of, IsNotAfter, IsLowestBreach}
+use Rattle.volume_model.specs.Space.{track_at}
+use Rattle.volume_model.specs.declared.place.Place.{Place}
+use Rattle.volume_model.specs.Directory.{DirectoryRow, AreInOrder, rows_of}
+use Rattle.volume_model.specs.Sound.{Slots, IsFormat4, IsFirstRuleBroken, IsVtoc, IsCheckFault, HasGeometry, HasVtocExtent}
+use Rattle.volume_model.specs.Unit.{Text, good, bad, Extent, DataSet, OnlineVolume, UnitModel, online, offline, run_in, runs_of_sets, tracks_of}
+use Rattle.volume_model.specs.Reads.{IsTextAt, AreTexts, IsDataSet, AreDataSets, IsOnline, HasImage, IsFirstText, HasBadLabel, HasLabelOf, HasBadVtoc, IsUnit, fields_of_4, has_index, blocks_from}
+use Rattle.move_core.proofs.Frames.{tracks_all, set_track_below}
+use Rattle.move_core.proofs.OneVtoc.{address_fits, one_format4, one_vtoc}
+use Rattle.move_core.proofs.OneOrder.{one_order}
+use Rattle.move_core.proofs.OneFault.{one_head_fault, one_label_fault}
+use Rattle.move_core.proofs.Online.{one_image, first_text, same_label, few_tracks, no_bad_label, no_bad_vtoc}
+
+module _ (sliding : Bool) (place : ℕ → ℕ) (head : List ℕ) (blocks : ℕ) (slots : Slots) (short : (track : ℕ) → length (slots track) ≤ 65536) (down : (track : ℕ) → place track ≤ track) where
+  -- ---- texts
+
+  one_at : (device : Device) (track : ℕ) → track ≤ 65535 → (a b : Text) → IsTextAt (heads_of device) (place track) (slots (place track)) a
+      → IsTextAt (heads_of device) (place track) (slots (place track)) b → a ≡ b
+  one_at device track below (good a) (good b) one other =
+      ap good (one_text (address_of (heads_of device) (place track)) (slots (place track)) a b (address_fits device (place track) (omega (arith, down track, below))) (short (place track)) one other)
+  one_at device track below (good a) (bad b) one other = absurd (other.1 a one)
+  one_at device track below (bad a) (good b) one other = absurd (one.1 b other)
+  one_at device track below (bad a) (bad b) one other = ap bad (one.0 ∙ sym other.0)
+
+  one_texts : (device : Device) (tracks : List ℕ) (a b : List Text) → AllByRecursion (λ track. track ≤ 65535) tracks → AreTexts (heads_of device) place slots tracks a
+      → AreTexts (heads_of device) place slots tracks b → a ≡ b
+  one_texts device [] [] [] below one other = refl
+  one_texts device [] [] (y ∷ b) below one other = absurd other
+  one_texts device [] (x ∷ a) b below one other = absurd one
+  one_texts device (track ∷ tracks) [] b below one other = absurd one
+  one_texts device (track ∷ tracks) (x ∷ a) [] below one other = absurd other
+  one_texts device (track ∷ tracks) (x ∷ a) (y ∷ b) below one other =
+      let first : x ≡ y = one_at device track below.0 x y one.0 other.0 in
+      let rest : a ≡ b = one_texts device tracks a b below.1 one.1 other.1 in
+      (λ i. first i ∷ rest i)
+
+  -- ---- data sets
+
+  one_set : (device : Device) (row : DirectoryRow) (a b : DataSet) → AllByRecursion (λ track. track ≤ 65535) (tracks_of a.extents)
+      → IsDataSet (heads_of device) place slots row a → IsDataSet (heads_of device) place slots row b → a ≡ b
+  one_set device row a b below one other =
+      let name : a.name ≡ b.name = one.name_is ∙ sym other.name_is in
+      let fields : a.fields ≡ b.fields = one.fields_are ∙ sym other.fields_are in
+      let extents : a.extents ≡ b.extents = one.extents_are ∙ sym other.extents_are in
+      let A : List Extent → Type 0 = λ l. AreTexts (heads_of device) place slots (tracks_of l) b.texts in
+      let texts : a.texts ≡ b.texts = one_texts device (tracks_of a.extents) a.texts b.texts below one.texts_are (subst A (sym extents) other.texts_are) in
+      let threes : a.threes ≡ b.threes = one.threes_are ∙ sym other.threes_are in
+      (λ i. record { name = name i; fields = fields i; extents = extents i; texts = texts i; threes = threes i })
+
+  one_sets : (device : Device) (rows : List DirectoryRow) (a b : List DataSet) → ((track : ℕ) → InRuns (runs_of_sets a) track → track ≤ 65535)
+      → AreDataSets (heads_of device) place slots rows a → AreDataSets (heads_of device) place slots rows b → a ≡ b
+  one_sets device [] [] [] below one other = refl
+  one_sets device [] [] (y ∷ b) below one other = absurd other
+  one_sets device [] (x ∷ a) b below one other = absurd one
+  one_sets device (row ∷ rows) [] b below one other = absurd one
+  one_sets device (row ∷ rows) (x ∷ a) [] below one other = absurd other
+  one_sets device (row ∷ rows) (x ∷ a) (y ∷ b) below one other =
+      let P : ℕ → Type 0 = λ track. track ≤ 65535 in
+      let own = tracks_all P x.extents (λ track here. below track (append_left (map run_in x.extents) (runs_of_sets a) track here)) in
+      let first : x ≡ y = one_set device row x y (recursion_from_All P (tracks_of x.extents) own) one.0 other.0 in
+      let rest : a ≡ b = one_sets device rows a b (λ track there. below track (append_right (map run_in x.extents) (runs_of_sets a) track there)) one.1 other.1 in
+      (λ i. first i ∷ rest i)
+
+  -- ---- an online volume
+
+  module _ (a b : OnlineVolume) (one : IsOnline sliding place head blocks slots a) (other : IsOnline sliding place head blocks slots b) where
+    image_is : other.stands.image ≡ one.stands.image
+    image_is =
+        one_image sliding head blocks slots one.found one.stands (short 0) (λ track holds. short track) other.stands.image
+        (record { stands = other.stands.head_stands; tracks_are = other.stands.tracks_are })
+
+    labelled : HasLabelOf head blocks slots one.stands.image other.found.label
+    labelled = record {
+      head_stands = record { stands = one.stands.head_stands; tracks_are = one.stands.tracks_are };
+      text = other.stands.track_0;
+      text_stands = subst (λ (i : Head). IsFirstText i slots other.stands.track_0) image_is other.stands.track_0_stands;
+      stands = subst (λ (i : Head). IsLabel i other.stands.track_0.recs other.found.label) image_is other.stands.label_stands;
+    }
+
+    label_is : other.found.label ≡ one.found.label
+    label_is = same_label sliding head blocks slots one.found one.stands (short 0) (λ track holds. short track) other.found.label labelled
+
+    first_is : other.stands.track_0 ≡ one.stands.track_0
+    first_is =
+        first_text sliding head blocks slots one.found one.stands (short 0) (λ track holds. short track) other.stands.track_0
+        (subst (λ (i : Head). IsFirstText i slots other.stands.track_0) image_is other.stands.track_0_stands)
+
+    vtoc_is : (one.stands.vtoc ≡ other.stands.vtoc) × (one.stands.vtoc_stands.bytes ≡ other.stands.vtoc_stands.bytes)
+    vtoc_is =
+        let s = one.stands in
+        let P : Head → Type 0 = λ image.
+        (v : IsVtoc image slots other.found.label.vtoc sliding other.stands.vtoc) → (s.vtoc ≡ other.stands.vtoc) × (s.vtoc_stands.bytes ≡ v.bytes) in
+        let Q : Cchhr → Type 0 = λ pointer.
+        (v : IsVtoc s.image slots pointer sliding other.stands.vtoc) → (s.vtoc ≡ other.stands.vtoc) × (s.vtoc_stands.bytes ≡ v.bytes) in
+        let own : Q one.found.label.vtoc = λ v.
+        one_vtoc s.image slots one.found.label.vtoc sliding s.vtoc other.stands.vtoc (λ track holds. short track)
+        (few_tracks sliding head blocks slots one.found s (short 0) (λ track holds. short track)) s.label_stands.text.numbers s.vtoc_stands v in
+        subst P (sym image_is) (subst Q (sym (ap (λ (l : Label). l.vtoc) label_is)) own) other.stands.vtoc_stands
+
+    device_is : one.found.device ≡ other.found.device
+    device_is = one.stands.device_is ∙ sym (ap (λ (i : Head). i.device) image_is) ∙ sym other.stands.device_is
+
+    rows_are : one.found.rows ≡ other.found.rows
+    rows_are =
+        one_order one.stands.vtoc one.stands.sound one.found.rows other.found.rows one.stands.rows_are
+        (subst (λ (v : Vtoc). AreInOrder (rows_of v.heads (records_of v)) other.found.rows) (sym vtoc_is.0) other.stands.rows_are)
+
+    sets_are : a.sets ≡ b.sets
+    sets_are =
+        one_sets one.found.device one.found.rows a.sets b.sets
+        (λ track there. omega (arith, set_track_below sliding place head blocks slots slots a one down (λ block less vital. refl) track there, one.stands.head_stands.cylinders.1)) one.sets_are
+        (subst (λ (d : Device). AreDataSets (heads_of d) place slots one.found.rows b.sets) (sym device_is)
+        (subst (λ (rows : List DirectoryRow). AreDataSets (heads_of other.found.device) place slots rows b.sets) (sym rows_are) other.sets_are))
+
+    pub one_online : a ≡ b
+    one_online =
+        let bytes = vtoc_is.1 in
+        let serial : a.serial ≡ b.serial = one.serial_is ∙ sym (ap (λ (l : Label). l.serial) label_is) ∙ sym other.serial_is in
+        let device : a.device ≡ b.device = one.device_is ∙ device_is ∙ sym other.device_is in
+        let usable : a.usable ≡ b.usable =
+        one.usable_is ∙ one.stands.usable_is ∙ ap usable_in vtoc_is.0 ∙ sym other.stands.usable_is ∙ sym other.usable_is in
+        let vtoc : a.vtoc ≡ b.vtoc = one.vtoc_is ∙ ap (λ (v : Vtoc). v.run) vtoc_is.0 ∙ sym other.vtoc_is in
+        let first : a.first ≡ b.first = one.first_is ∙ sym first_is ∙ sym other.first_is in
+        let four : a.four ≡ b.four = one.four_is ∙ ap fields_of_4 bytes ∙ sym other.four_is in
+        let repair : a.repair ≡ b.repair = one.repair_is ∙ ap (λ (v : Vtoc). not v.valid) vtoc_is.0 ∙ sym other.repair_is in
+        let indexed : a.indexed ≡ b.indexed = one.indexed_is ∙ ap has_index bytes ∙ sym other.indexed_is in
+        let dscbs : a.dscbs ≡ b.dscbs = one.dscbs_are ∙ ap (λ (v : Vtoc). length (records_of v)) vtoc_is.0 ∙ sym other.dscbs_are in
+        let fives : a.fives ≡ b.fives = one.fives_are ∙ ap (λ (v : Vtoc). length (fives_of v)) vtoc_is.0 ∙ sym other.fives_are in
+        let tail : a.tail ≡ b.tail = one.tail_is ∙ ap (λ (n : ℕ). blocks_from slots n (blocks - n)) usable ∙ sym other.tail_is in
+        (λ i. record {
+          serial = serial i;
+          device = device i;
+          usable = usable i;
+          vtoc = vtoc i;
+          first = first i;
+          four = four i;
+          sets = sets_are i;
+          repair = repair i;
+          indexed = indexed i;
+          dscbs = dscbs i;
+          fives = fives i;
+          tail = tail i;
+        })
+
+  -- ---- an offline unit
+
+  heads_same : (a b : Head) → HasImage head blocks a → HasImage head blocks b → a ≡ b
+  heads_same a b one other =
+      let device : a.device ≡ b.device = one_device head a.device b.device one.stands.named other.stands.named in
+      let tracks : a.tracks ≡ b.tracks = one.tracks_are ∙ sym other.tracks_are in
+      (λ i. record { device = device i; tracks = tracks i })
+
+  first_same : (image : Head) (a b : Track) → IsFirstText image slots a → IsFirstText image slots b → a ≡ b
+  first_same image a b one other = one_text (address_of (heads_of image.device) 0) (slots 0) a b (address_fits image.device 0 (omega arith)) (short 0) one other
+
+  -- what fails of a label
+  abbrev LabelFails : ℕ → Head → Type 0
+  LabelFails why image =
+      (((text : Track) → ¬ IsFirstText image slots text) × (why ≡ 1)) ⊎ ((text : Track) × IsFirstText image slots text × IsLabelFault image text.recs (BadLabel why))
+
+  bad_or_labelled : (why : ℕ) (image : Head) (label : Label) → HasBadLabel head blocks slots why → HasLabelOf head blocks slots image label → ⊥
+  bad_or_labelled why image label broken stands =
+      elim (subst (LabelFails why) (heads_same broken.image image broken.head_stands stands.head_stands) broken.fault) [
+        | inl none ↦ none.0 stands.text stands.text_stands
+        | inr rule ↦
+            no_label image stands.text.recs (BadLabel why)
+            (subst (λ (t : Track). IsLabelFault image t.recs (BadLabel why)) (first_same image rule.0 stands.text rule.1 stands.text_stands) rule.2) label stands.stands
+      ]
+
+  one_bad_label : (a b : ℕ) → HasBadLabel head blocks slots a → HasBadLabel head blocks slots b → a ≡ b
+  one_bad_label a b one other = by one.fault (subst (LabelFails b) (heads_same other.image one.image other.head_stands one.head_stands) other.fault)
+    where
+      by : LabelFails a one.image → LabelFails b one.image → a ≡ b
+      by (inl none) (inl neither) = none.1 ∙ sym neither.1
+      by (inl none) (inr broken) = absurd (none.0 broken.0 broken.1)
+      by (inr broken) (inl none) = absurd (none.0 broken.0 broken.1)
+      by (inr p) (inr q) =
+          one_label_fault one.image p.0.recs a b p.2 (subst (λ (t : Track). IsLabelFault one.image t.recs (BadLabel b)) (first_same one.image q.0 p.0 q.1 p.1) q.2)
+
+  -- ---- the check of a VTOC
+
+  module _ (image : Head) (pointer : Cchhr) (few : image.tracks ≤ 65535) (fits : IsCchhr pointer) where
+    four_same : (a b : List ℕ) → IsFormat4 (heads_of image.device) slots pointer a → IsFormat4 (heads_of image.device) slots pointer b → a ≡ b
+    four_same a b one other = one_format4 (heads_of image.device) slots pointer a b fits.0 (short (track_at (heads_of image.device) pointer.at)) one other
+
+    -- where the rules of all stand, none of the first three fails
+    none_first : (rule : VtocRule) (vtoc : Vtoc) → IsVtoc image slots pointer sliding vtoc → ¬ IsFirstRuleBroken image slots pointer rule
+    none_first rules.NoFormat4 vtoc is broken = broken is.bytes is.format_4
+    none_first rules.Geometry vtoc is broken = broken.2 (subst (HasGeometry (heads_of image.device)) (four_same is.bytes broken.0 is.format_4 broken.1) is.geometry)
+    none_first rules.VtocExtent vtoc is broken = broken.3 (subst (HasVtocExtent image pointer) (four_same is.bytes broken.0 is.format_4 broken.1) is.extent)
+    none_first rules.Track vtoc is broken = broken
+    none_first rules.Dscb vtoc is broken = broken
+    none_first rules.Name vtoc is broken = broken
+    none_first rules.Pointer vtoc is broken = broken
+    none_first rules.Range vtoc is broken = broken
+    none_first rules.Overlap vtoc is broken = broken
+    none_first rules.Free vtoc is broken = broken
+
+    -- which of the three fails
+    abbrev FailsBy : ℕ → Type 0
+    FailsBy number =
+        ((number ≡ 1) × ((bytes : List ℕ) → ¬ IsFormat4 (heads_of image.device) slots pointer bytes))
+        ⊎ ((number ≡ 2) × ((bytes : List ℕ) × IsFormat4 (heads_of image.device) slots pointer bytes × ¬ HasGeometry (heads_of image.device) bytes))
+        ⊎ ((number ≡ 3) × ((bytes : List ℕ) × IsFormat4 (heads_of image.device) slots pointer bytes × HasGeometry (heads_of image.device) bytes × ¬ HasVtocExtent image pointer bytes))
+
+    fails_by : (rule : VtocRule) → IsFirstRuleBroken image slots pointer rule → FailsBy (number_of rule)
+    fails_by rules.NoFormat4 broken = inl (refl, broken)
+    fails_by rules.Geometry broken = inr (inl (refl, broken))
+    fails_by rules.VtocExtent broken = inr (inr (refl, broken))
+    fails_by rules.Track broken = absurd broken
+    fails_by rules.Dscb broken = absurd broken
+    fails_by rules.Name broken = absurd broken
+    fails_by rules.Pointer broken = absurd broken
+    fails_by rules.Range broken = absurd broken
+    fails_by rules.Overlap broken = absurd broken
+    fails_by rules.Free broken = absurd broken
+
+    one_failing : (a b : ℕ) → FailsBy a → FailsBy b → a ≡ b
+    one_failing a b (inl p) (inl q) = p.0 ∙ sym q.0
+    one_failing a b (inl p) (inr (inl q)) = absurd (p.1 q.1.0 q.1.1)
+    one_failing a b (inl p) (inr (inr q)) = absurd (p.1 q.1.0 q.1.1)
+    one_failing a b (inr (inl p)) (inl q) = absurd (q.1 p.1.0 p.1.1)
+    one_failing a b (inr (inl p)) (inr (inl q)) = p.0 ∙ sym q.0
+    one_failing a b (inr (inl p)) (inr (inr q)) = absurd (p.1.2 (subst (HasGeometry (heads_of image.device)) (four_same q.1.0 p.1.0 q.1.1 p.1.1) q.1.2))
+    one_failing a b (inr (inr p)) (inl q) = absurd (q.1 p.1.0 p.1.1)
+    one_failing a b (inr (inr p)) (inr (inl q)) = absurd (q.1.2 (subst (HasGeometry (heads_of image.device)) (four_same p.1.0 q.1.0 p.1.1 q.1.1) p.1.2))
+    one_failing a b (inr (inr p)) (inr (inr q)) = p.0 ∙ sym q.0
+
+    -- the same place, and the same rule by its number
+    abbrev AreAlike : Breach → Breach → Type 0
+    AreAlike a b = (a.place.track ≡ b.place.track) × (a.place.record_number ≡ b.place.record_number) × (number_of a.rule ≡ number_of b.rule)
+
+    lowest_alike : (a b : Breach) → IsNotAfter a b → IsNotAfter b a → AreAlike a b
+    lowest_alike a b (inl p) (inl q) = absurd (omega (arith, p, q))
+    lowest_alike a b (inl p) (inr (inl q)) = absurd (omega (arith, p, q.0))
+    lowest_alike a b (inl p) (inr (inr q)) = absurd (omega (arith, p, q.0))
+    lowest_alike a b (inr (inl p)) (inl q) = absurd (omega (arith, p.0, q))
+    lowest_alike a b (inr (inl p)) (inr (inl q)) = absurd (omega (arith, p.1, q.1))
+    lowest_alike a b (inr (inl p)) (inr (inr q)) = absurd (omega (arith, p.1, q.1))
+    lowest_alike a b (inr (inr p)) (inl q) = absurd (omega (arith, p.0, q))
+    lowest_alike a b (inr (inr p)) (inr (inl q)) = absurd (omega (arith, p.1, q.1))
+    lowest_alike a b (inr (inr p)) (inr (inr q)) = (p.0, p.1, omega (arith, p.2, q.2))
+
+    lowest_of : (vtoc : Vtoc) (a b : Breach) → IsLowestBreach vtoc a → Contains (breaches_of vtoc) b → IsNotAfter a b
+    lowest_of vtoc a b lowest there = subst (IsNotAfter a) there.2 (lowest.lowest there.0 b there.1)
+
+    one_check : (a b : Breach) → IsCheckFault image slots pointer sliding a → IsCheckFault image slots pointer sliding b → AreAlike a b
+    one_check a b (inl p) (inl q) =
+        let place = p.1 ∙ sym q.1 in
+        (ap (λ (at : Place). at.track) place, ap (λ (at : Place). at.record_number) place, one_failing (number_of a.rule) (number_of b.rule) (fails_by a.rule p.0) (fails_by b.rule q.0))
+    one_check a b (inl p) (inr q) = absurd (none_first a.rule q.0 q.1 p.0)
+    one_check a b (inr p) (inl q) = absurd (none_first b.rule p.0 p.1 q.0)
+    one_check a b (inr p) (inr q) =
+        let same : p.0 ≡ q.0 = (one_vtoc image slots pointer sliding p.0 q.0 (λ track holds. short track) few fits p.1 q.1).0 in
+        let other : IsLowestBreach p.0 b = subst (λ (v : Vtoc). IsLowestBreach v b) (sym same) q.2 in
+        lowest_alike a b (lowest_of p.0 a b p.2 other.is_there) (lowest_of p.0 b a other p.2.is_there)
+
+  one_bad_vtoc : (t n w u m v : ℕ) → HasBadVtoc sliding head blocks slots t n w → HasBadVtoc sliding head blocks slots u m v → (t ≡ u) × (n ≡ m) × (w ≡ v)
+  one_bad_vtoc t n w u m v one other =
+      let image : other.image ≡ one.image = heads_same other.image one.image other.labelled.head_stands one.labelled.head_stands in
+      let moved : HasLabelOf head blocks slots one.image other.label = subst (λ (i : Head). HasLabelOf head blocks slots i other.label) image other.labelled in
+      let text : moved.text ≡ one.labelled.text = first_same one.image moved.text one.labelled.text moved.text_stands one.labelled.text_stands in
+      let label : other.label ≡ one.label =
+      one_label one.image one.labelled.text.recs other.label one.label (subst (λ (x : Track). IsLabel one.image x.recs other.label) text moved.stands) one.labelled.stands in
+      let at_image = subst (λ (i : Head). IsCheckFault i slots other.label.vtoc sliding other.told) image other.fault in
+      let fault = subst (λ (l : Label). IsCheckFault one.image slots l.vtoc sliding other.told) label at_image in
+      let few : one.image.tracks ≤ 65535 = omega (arith, one.labelled.head_stands.tracks_are, one.labelled.head_stands.stands.cylinders.1) in
+      let alike = one_check one.image one.label.vtoc few one.labelled.stands.text.numbers one.told other.told one.fault fault in
+      (one.track_is ∙ alike.0 ∙ sym other.track_is, one.number_is ∙ alike.1 ∙ sym other.number_is, one.why_is ∙ alike.2 ∙ sym other.why_is)
+
+  -- ---- a unit
+
+  -- what an online volume, a bad label and a bad VTOC have of a head
+  no_bad_head : (why : ℕ) (image : Head) → IsHeadFault head blocks (BadHead why) → HasImage head blocks image → ⊥
+  no_bad_head why image fault has = no_head head blocks (BadHead why) fault image.device has.stands
+
+  not_filling : (filling : Bool) → filling ≡ true → filling ≡ false → ⊥
+  not_filling filling is not = false≢true (sym not ∙ is)
+
+  image_of : (volume : OnlineVolume) → IsOnline sliding place head blocks slots volume → (image : Head) × HasImage head blocks image
+  image_of volume is = (is.stands.image, record { stands = is.stands.head_stands; tracks_are = is.stands.tracks_are })
+
+  pub one_unit : (filling : Bool) (a b : UnitModel) → IsUnit filling sliding place head blocks slots a → IsUnit filling sliding place head blocks slots b → a ≡ b
+  one_unit filling (online a) (online b) p q = ap online (one_online a b p.1 q.1)
+  one_unit filling (online a) (offline (whys.Head why) kept) p q = absurd (no_bad_head why (image_of a p.1).0 q.0 (image_of a p.1).1)
+  one_unit filling (online a) (offline whys.Filling kept) p q = absurd (not_filling filling q.0 p.0)
+  one_unit filling (online a) (offline (whys.Label why) kept) p q =
+      absurd (no_bad_label sliding head blocks slots p.1.found p.1.stands (short 0) (λ track holds. short track) why q.1)
+  one_unit filling (online a) (offline (whys.Vtoc track number why) kept) p q =
+      absurd (no_bad_vtoc sliding head blocks slots p.1.found p.1.stands (short 0) (λ t holds. short t) track number why q.1)
+  one_unit filling (offline (whys.Head why) kept) (online b) p q = absurd (no_bad_head why (image_of b q.1).0 p.0 (image_of b q.1).1)
+  one_unit filling (offline (whys.Head why) kept) (offline (whys.Head other) left) p q =
+      let same : why ≡ other = one_head_fault head blocks why other p.0 q.0 in
+      let bytes : kept ≡ left = p.1 ∙ sym q.1 in
+      (λ i. offline (whys.Head (same i)) (bytes i))
+  one_unit filling (offline (whys.Head why) kept) (offline whys.Filling left) p q = absurd (no_bad_head why q.1.0 p.0 q.1.1)
+  one_unit filling (offline (whys.Head why) kept) (offline (whys.Label other) left) p q = absurd (no_bad_head why q.1.image p.0 q.1.head_stands)
+  one_unit filling (offline (whys.Head why) kept) (offline (whys.Vtoc track number other) left) p q = absurd (no_bad_head why q.1.image p.0 q.1.labelled.head_stands)
+  one_unit filling (offline whys.Filling kept) (online b) p q = absurd (not_filling filling p.0 q.0)
+  one_unit filling (offline whys.Filling kept) (offline (whys.Head other) left) p q = absurd (no_bad_head other p.1.0 q.0 p.1.1)
+  one_unit filling (offline whys.Filling kept) (offline whys.Filling left) p q = ap (offline whys.Filling) (p.2 ∙ sym q.2)
+  one_unit filling (offline whys.Filling kept) (offline (whys.Label other) left) p q = absurd (not_filling filling p.0 q.0)
+  one_unit filling (offline whys.Filling kept) (offline (whys.Vtoc track number other) left) p q = absurd (not_filling filling p.0 q.0)
+  one_unit filling (offline (whys.Label why) kept) (online b) p q =
+      absurd (no_bad_label sliding head blocks slots q.1.found q.1.stands (short 0) (λ track holds. short track) why p.1)
+  one_unit filling (offline (whys.Label why) kept) (offline (whys.Head other) left) p q = absurd (no_bad_head other p.1.image q.0 p.1.head_stands)
+  one_unit filling (offline (whys.Label why) kept) (offline whys.Filling left) p q = absurd (not_filling filling q.0 p.0)
+  one_unit filling (offline (whys.Label why) kept) (offline (whys.Label other) left) p q =
+      let same : why ≡ other = one_bad_label why other p.1 q.1 in
+      let bytes : kept ≡ left = p.2 ∙ sym q.2 in
+      (λ i. offline (whys.Label (same i)) (bytes i))
+  one_unit filling (offline (whys.Label why) kept) (offline (whys.Vtoc track number other) left) p q = absurd (bad_or_labelled why q.1.image q.1.label p.1 q.1.labelled)
+  one_unit filling (offline (whys.Vtoc track number why) kept) (online b) p q =
+      absurd (no_bad_vtoc sliding head blocks slots q.1.found q.1.stands (short 0) (λ t holds. short t) track number why p.1)
+  one_unit filling (offline (whys.Vtoc track number why) kept) (offline (whys.Head other) left) p q = absurd (no_bad_head other p.1.image q.0 p.1.labelled.head_stands)
+  one_unit filling (offline (whys.Vtoc track number why) kept) (offline whys.Filling left) p q = absurd (not_filling filling q.0 p.0)
+  one_unit filling (offline (whys.Vtoc track number why) kept) (offline (whys.Label other) left) p q = absurd (bad_or_labelled other p.1.image p.1.label q.1 p.1.labelled)
+  one_unit filling (offline (whys.Vtoc t n w) kept) (offline (whys.Vtoc u m v) left) p q =
+      let same = one_bad_vtoc t n w u m v p.1 q.1 in
+      let bytes : kept ≡ left = p.2 ∙ sym q.2 in
+      (λ i. offline (whys.Vtoc (same.0 i) (same.1 i) (same.2 i)) (bytes i))
