@@ -17,6 +17,7 @@ use Rattle.volume_model.specs.Check.{IsLowestBreach}
 use Rattle.volume_model.specs.Space.{end_of, has_track, track_at, run_of}
 use Rattle.volume_model.specs.Sound.{Slots, IsTrackReading, IsReading, IsVtoc, IsCheckFault, limit_of}
 use Rattle.vtoc_check.specs.Front.{IsFront, IsFrontBreach, IsVtocRun}
+use Rattle.vtoc_check.specs.Sized.{IsVtocWith}
 use Rattle.vtoc_check.specs.Slots.{slot_in, AreSlotsOf}
 use Rattle.vtoc_check.specs.Tracks.{HasTracks}
 use Rattle.vtoc_check.proofs.FrontRules.{one_format_4, same_format_4, same_breach}
@@ -76,14 +77,14 @@ at_track run size bytes unit track h holds =
     let P : ℕ → Type 0 = λ n. slot_in run size bytes n ≡ unit n in
     subst P there (sym (h (track - run.first) (omega (arith, low, high))))
 
-same_reading : (heads : ℕ) (run : Run) (size : ℕ) (bytes : List ℕ) (unit : Slots) (tracks : List (Option (List (List ℕ)))) → AreSlotsOf run size bytes unit
+pub same_reading : (heads : ℕ) (run : Run) (size : ℕ) (bytes : List ℕ) (unit : Slots) (tracks : List (Option (List (List ℕ)))) → AreSlotsOf run size bytes unit
     → IsReading heads (slot_in run size bytes) run tracks → IsReading heads unit run tracks
 same_reading heads run size bytes unit tracks h r = record {
   whole = r.whole;
   each = λ k lt. let P : List ℕ → Type 0 = λ slot. IsTrackReading heads (run.first + k) slot (slice_index_or tracks k None) in subst P (sym (h k lt)) (r.each k lt);
 }
 
-pub same_vtoc : (head : Head) (run : Run) (size : ℕ) (bytes : List ℕ) (unit : Slots) (pointer : Cchhr) (sliding : Bool) (vtoc : Vtoc) → AreSlotsOf run size bytes unit
+abbrev pub same_vtoc : (head : Head) (run : Run) (size : ℕ) (bytes : List ℕ) (unit : Slots) (pointer : Cchhr) (sliding : Bool) (vtoc : Vtoc) → AreSlotsOf run size bytes unit
     → has_track (track_at (heads_of head.device) pointer.at) run ≡ true → vtoc.run ≡ run → IsVtoc head (slot_in run size bytes) pointer sliding vtoc → IsVtoc head unit pointer sliding vtoc
 same_vtoc head run size bytes unit pointer sliding vtoc h holds same v =
     let P : Run → Type 0 = λ r. IsReading (heads_of head.device) (slot_in run size bytes) r vtoc.tracks in
@@ -101,6 +102,12 @@ same_vtoc head run size bytes unit pointer sliding vtoc h holds same v =
       run_is = v.run_is;
       reading = subst Q (sym same) (same_reading (heads_of head.device) run size bytes unit vtoc.tracks h (subst P same v.reading));
     }
+
+pub same_with : (head : Head) (run : Run) (size : ℕ) (bytes : List ℕ) (unit : Slots) (pointer : Cchhr) (sliding : Bool) (vtoc : Vtoc) (four : List ℕ) → AreSlotsOf run size bytes unit
+    → has_track (track_at (heads_of head.device) pointer.at) run ≡ true → vtoc.run ≡ run → IsVtocWith head (slot_in run size bytes) pointer sliding vtoc four
+    → IsVtocWith head unit pointer sliding vtoc four
+same_with head run size bytes unit pointer sliding vtoc four h holds same v =
+    record { stands = same_vtoc head run size bytes unit pointer sliding vtoc h holds same v.stands; four_is = v.four_is }
 
 pub front_fault : (head : Head) (run : Run) (size : ℕ) (bytes : List ℕ) (unit : Slots) (pointer : Cchhr) (sliding : Bool) (told : Breach) → AreSlotsOf run size bytes unit
     → has_track (track_at (heads_of head.device) pointer.at) run ≡ true → IsFrontBreach head (slot_in run size bytes) pointer told → IsCheckFault head unit pointer sliding told

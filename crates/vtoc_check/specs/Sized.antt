@@ -1,7 +1,10 @@
--- The sizes of a VTOC that was read.
-use Rattle.std.specs.Prelude.{◌≡◌, ◌≤◌, length}
+-- What is read of a VTOC: its sizes, and its format 4.
+use Rattle.std.specs.Prelude.{◌≡◌, ℕ, ◌≤◌, Bool, List, length}
+use Rattle.ckd_image.specs.declared.head.Head.{Head}
+use Rattle.ckd_image.specs.declared.track.Cchhr.{Cchhr}
 use Rattle.volume_model.specs.declared.place.Vtoc.{Vtoc}
 use Rattle.volume_model.specs.Space.{end_of}
+use Rattle.volume_model.specs.Sound.{Slots, IsVtoc}
 use Rattle.vtoc_check.specs.Places.{AreShort}
 use Rattle.vtoc_check.specs.Tracks.{HasTracks}
 
@@ -16,3 +19,8 @@ pub record IsSized (vtoc : Vtoc) : Type 0 where
   pub run_has : HasTracks vtoc.run
   pub whole : length vtoc.tracks ≡ vtoc.run.len
   pub short : AreShort vtoc.tracks
+
+-- a VTOC stands there, and its format 4 has these bytes
+pub record IsVtocWith (head : Head) (slots : Slots) (pointer : Cchhr) (sliding : Bool) (vtoc : Vtoc) (four : List ℕ) : Type 0 where
+  pub stands : IsVtoc head slots pointer sliding vtoc
+  pub four_is : four ≡ stands.bytes

@@ -3,11 +3,11 @@
 ghost use Rattle.std.specs.Prelude.{◌≡◌, ◌≤◌, ◌<◌, ◌+◌, ◌++◌, ◌*◌, ◌^◌, [], length, IfOk, IfErr};
 ghost use Rattle.volume_model.specs.Check.{records_of, bad_tracks, bad_dscbs, bad_names, bad_pointers, bad_fives, bad_ranges, bad_overlaps, bad_free, breaches_of, IsLowestOf};
 ghost use Rattle.ckd_image.specs.Device.{slot_of};
-ghost use Rattle.volume_model.specs.Sound.{Slots, IsVtoc, IsCheckFault};
+ghost use Rattle.volume_model.specs.Sound.{Slots, IsCheckFault};
 ghost use Rattle.vtoc_check.specs.Faults.{IsToldFault};
 ghost use Rattle.vtoc_check.specs.Front.{IsVtocRun};
 ghost use Rattle.vtoc_check.specs.Places.{AreInOrder};
-ghost use Rattle.vtoc_check.specs.Sized.{IsSized};
+ghost use Rattle.vtoc_check.specs.Sized.{IsSized, IsVtocWith};
 ghost use Rattle.vtoc_check.specs.Slots.{slot_in, AreSlotsOf};
 
 use crate::by_record::{broken_dscb, broken_range, broken_track};
@@ -19,7 +19,7 @@ use crate::lowest::lower;
 use crate::names::broken_name;
 use crate::overlaps::broken_overlaps;
 use crate::pointer_rule::broken_pointers;
-use crate::reading::read_vtoc;
+use crate::reading::{Found, read_vtoc};
 use ckd_image::{Head, NoMemory};
 use free_map::Run;
 use std::alloc::Global;
@@ -71,7 +71,7 @@ pub fn lowest_breach(alloc: Global, vtoc: &Vtoc) -> Result<Option<Breach>, NoMem
     Ok(lower(lower(track, record), space))
 }
 
-/// Checks a VTOC from the slots of its tracks: what the rules look at, or the place that is refused.
+/// Checks a VTOC from the slots of its tracks: what the rules look at with the format 4, or the place that is refused.
 ///
 /// With `sliding` a slide is open on the volume, and the indicator of an interrupted change counts as off.
 pub fn check_vtoc(
@@ -81,18 +81,18 @@ pub fn check_vtoc(
     run: Run,
     slots: &[u8],
     sliding: bool,
-) -> Result<Vtoc, VtocFault>
+) -> Result<Found, VtocFault>
     requires tracks { head.tracks ≤ 65535 }
     requires whole { length slots.now ≡ run.len * slot_of head.device }
     requires run { IsVtocRun head (slot_in run (slot_of head.device) slots.now) label.now.vtoc run }
-    ensures sound { IfOk result (λ vtoc. (unit : Slots) → AreSlotsOf run (slot_of head.device) slots.now unit
-        → IsVtoc head unit label.now.vtoc sliding vtoc × (breaches_of vtoc ≡ []) × IsSized vtoc) }
+    ensures sound { IfOk result (λ found. (unit : Slots) → AreSlotsOf run (slot_of head.device) slots.now unit
+        → IsVtocWith head unit label.now.vtoc sliding found.vtoc found.four × (breaches_of found.vtoc ≡ []) × IsSized found.vtoc) }
     ensures fault { IfErr result (λ fault. (unit : Slots) → AreSlotsOf run (slot_of head.device) slots.now unit
         → IsToldFault (IsCheckFault head unit label.now.vtoc sliding) fault) }
 {
-    let vtoc = read_vtoc(alloc, head, label.vtoc, run, slots, sliding)?;
-    match lowest_breach(alloc, &vtoc)? {
-        None => Ok(vtoc),
+    let found = read_vtoc(alloc, head, label.vtoc, run, slots, sliding)?;
+    match lowest_breach(alloc, &found.vtoc)? {
+        None => Ok(found),
         Some(told) => Err(told_as(told)),
     }
 }

@@ -122,6 +122,13 @@ impl Directory {
         })
     }
 
+    /// The records in the order of their places.
+    pub fn records(&self) -> &[Placed]
+        ensures { result.now ≡ self.now.records.items }
+    {
+        &self.records
+    }
+
     /// Which record the pointer of a DSCB names.
     pub fn target(&self, bytes: &[u8; 140]) -> Option<usize>
         ensures found { IfSome result (λ k. (k < length self.now.records.items)

@@ -96,7 +96,8 @@ fn first_index(directory: &Directory, records: &[Placed], marks: &[bool]) -> Opt
     }
 }
 
-fn count_fives(records: &[Placed]) -> usize
+/// How many of the records are format 5s.
+pub fn count_fives(records: &[Placed]) -> usize
     ensures value { result ≡ length (filter is_five records.now) }
     ensures most { result ≤ length records.now }
 {

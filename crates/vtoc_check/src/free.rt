@@ -72,7 +72,7 @@ pub fn states_free(marks: &mut [bool], entries: &[Run], limit: u32, usable: u32)
 }
 
 /// Track 0, the run of the VTOC, and those of the extents.
-fn used_runs(alloc: Global, vtoc: Run, extents: &[Run]) -> Result<Vec<Run>, NoMemory>
+pub fn used_runs(alloc: Global, vtoc: Run, extents: &[Run]) -> Result<Vec<Run>, NoMemory>
     ensures { IfOk result (λ runs. runs.items ≡ track_0 ∷ vtoc ∷ extents.now) }
 {
     let mut runs = Vec::new(alloc);

@@ -3,10 +3,10 @@
 ghost use Rattle.std.specs.Prelude.{◌≡◌, ◌≤◌, ◌<◌, ◌+◌, ◌*◌, ◌-◌, length, IfOk, IfErr, true};
 ghost use Rattle.ckd_image.specs.Device.{heads_of, slot_of};
 ghost use Rattle.volume_model.specs.Space.{track_at, has_track};
-ghost use Rattle.volume_model.specs.Sound.{IsVtoc, is_valid as is_valid_in};
+ghost use Rattle.volume_model.specs.Sound.{is_valid as is_valid_in};
 ghost use Rattle.vtoc_check.specs.Faults.{IsToldFault};
 ghost use Rattle.vtoc_check.specs.Front.{IsFront, IsFrontBreach, IsVtocRun};
-ghost use Rattle.vtoc_check.specs.Sized.{IsSized};
+ghost use Rattle.vtoc_check.specs.Sized.{IsSized, IsVtocWith};
 ghost use Rattle.vtoc_check.specs.Slots.{slot_in};
 
 use crate::directory::place_at;
@@ -18,6 +18,13 @@ use ckd_image::{Cchhr, Head};
 use free_map::Run;
 use std::alloc::Global;
 use volume_model::Vtoc;
+
+/// A VTOC that was found: what the rules from the fourth on look at, and the bytes of its format 4.
+#[derive(Debug, Drop)]
+pub struct Found {
+    pub vtoc: Vtoc,
+    pub four: [u8; 140],
+}
 
 /// Whether format 5 is valid: neither its indicator nor, unless a slide is open, that of an interrupted change is on.
 fn is_valid(bytes: &[u8; 140], sliding: bool) -> bool
@@ -63,17 +70,17 @@ pub(crate) fn read_vtoc(
     run: Run,
     slots: &[u8],
     sliding: bool,
-) -> Result<Vtoc, VtocFault>
+) -> Result<Found, VtocFault>
     requires tracks { head.tracks ≤ 65535 }
     requires whole { length slots.now ≡ run.len * slot_of head.device }
     requires run { IsVtocRun head (slot_in run (slot_of head.device) slots.now) pointer run }
-    ensures vtoc { IfOk result (λ vtoc. IsVtoc head (slot_in run (slot_of head.device) slots.now) pointer sliding vtoc × (vtoc.run ≡ run) × IsSized vtoc) }
+    ensures vtoc { IfOk result (λ found. IsVtocWith head (slot_in run (slot_of head.device) slots.now) pointer sliding found.vtoc found.four × (found.vtoc.run ≡ run) × IsSized found.vtoc) }
     ensures fault { IfErr result (IsToldFault (IsFrontBreach head (slot_in run (slot_of head.device) slots.now) pointer)) }
 {
     let bytes = front_in(alloc, head, pointer, run, slots)?;
     let tracks = read_tracks(alloc, head.device, run, slots)?;
     let heads = head.device.heads();
-    Ok(Vtoc {
+    let vtoc = Vtoc {
         heads,
         limit: limit(&bytes, head),
         format_4: place_at(heads, pointer),
@@ -81,5 +88,6 @@ pub(crate) fn read_vtoc(
         alternates: u32::from(number_at(&bytes, 56)),
         run,
         tracks,
-    })
+    };
+    Ok(Found { vtoc, four: bytes })
 }

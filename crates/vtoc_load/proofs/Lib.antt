@@ -1,0 +1,3 @@
+pub mod Usable
+pub mod SortedRows
+pub mod Sizes
