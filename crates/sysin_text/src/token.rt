@@ -75,7 +75,8 @@ pub struct Placed {
 impl Token {
     /// How many bytes the token has.
     pub fn width(&self) -> usize
-        ensures { result ≡ signs.width_of self.now }
+        ensures width { result ≡ signs.width_of self.now }
+        ensures short { result ≤ 72 }
     {
         match self {
             Token::Word(word) => word.as_slice().len(),
