@@ -1,3 +1,6 @@
 pub mod Usable
 pub mod SortedRows
 pub mod Sizes
+pub mod Distinct
+pub mod Chains
+pub mod Counting

@@ -1,1 +1,3 @@
 pub mod LoadedVtoc
+pub mod Chained
+pub mod Counted
