@@ -21,6 +21,3 @@ pub use reading::Reading;
 pub use row::{AllocKind, RowFacts};
 pub use token::Token;
 pub use words::number_of;
-
-#[cfg(test)]
-mod tests;

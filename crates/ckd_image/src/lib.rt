@@ -25,6 +25,3 @@ pub use print::print_track;
 pub use readdressing::readdress;
 pub use track::{Cchhr, Count, Rec, Recs, Track, TrackAt, TrackField};
 pub use word::Word;
-
-#[cfg(test)]
-mod tests;

@@ -24,6 +24,3 @@ pub use outside::{Medium, MediumFault, ReadFault, Reel, ReelFault, Sink, Source,
 pub use pool::{Pool, PoolFault};
 pub use stream::{FileSink, FileSource, MemorySink, MemorySource};
 pub use units::UnitText;
-
-#[cfg(test)]
-mod tests;

@@ -8,6 +8,3 @@ pub use dscb::{Dscb, DscbFault, DscbRule, read_dscb, write_dscb};
 pub use field::{
     Entry5, Extent, entry_of, entry_offset, extent_of, pointer_of, put_entry, put_extent,
 };
-
-#[cfg(test)]
-mod tests;

@@ -16,6 +16,3 @@ pub use laws::name_laws;
 pub use pattern::Pattern;
 pub use qualifier::Qualifier;
 pub use rename::{Pairs, Rename};
-
-#[cfg(test)]
-mod tests;

@@ -4,6 +4,3 @@
 mod dd;
 
 pub use dd::DdName;
-
-#[cfg(test)]
-mod tests;

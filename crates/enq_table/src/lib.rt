@@ -15,6 +15,3 @@ pub use hold::{Hold, Mode};
 pub use holder::Holder;
 pub use laws::held_laws;
 pub use reading::read_held;
-
-#[cfg(test)]
-mod tests;

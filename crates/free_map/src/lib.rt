@@ -15,6 +15,3 @@ pub use fault::FreeFault;
 pub use laws::{choice_laws, run_laws};
 pub use map::FreeMap;
 pub use run::{Run, Runs};
-
-#[cfg(test)]
-mod tests;

@@ -12,6 +12,3 @@ mod sequential;
 pub use fault::{RelocFault, Why};
 pub use refit::Refit;
 pub use sequential::refit_ps;
-
-#[cfg(test)]
-mod tests;

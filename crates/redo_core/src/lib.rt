@@ -22,7 +22,6 @@ pub use fault::{JournalFault, JournalRule};
 pub use head::journal_head;
 pub use journal::{Journal, JournalStop};
 pub use laws::opening_laws;
+pub use opening::is_same;
+pub use survey::{are_apart, are_serials};
 pub use target::Target;
-
-#[cfg(test)]
-mod tests;

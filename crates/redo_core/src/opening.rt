@@ -228,7 +228,7 @@ fn is_busy(volumes: u32, control: Control, fills: &[bool; 64]) -> bool
 }
 
 /// Whether two serials are the same.
-pub(crate) fn is_same(left: Serial, right: Serial) -> bool
+pub fn is_same(left: Serial, right: Serial) -> bool
     ensures { IsTrue result ↔ (left ≡ right) }
 {
     same(&left.text, &right.text)

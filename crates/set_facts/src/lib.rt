@@ -6,6 +6,3 @@ mod selection;
 
 pub use facts::{is_by_cylinders, is_unexpired, row_facts};
 pub use selection::is_selected;
-
-#[cfg(test)]
-mod tests;

@@ -7,6 +7,3 @@ mod tokens;
 
 pub use token::{Letters, Placed, Token};
 pub use tokens::Tokens;
-
-#[cfg(test)]
-mod tests;

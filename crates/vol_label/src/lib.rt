@@ -10,6 +10,3 @@ pub use code_page::{BLANK, to_ascii, to_ebcdic};
 pub use fault::{LabelFault, LabelRule};
 pub use label::{Label, put_serial, with_vtoc};
 pub use serial::{Serial, is_serial};
-
-#[cfg(test)]
-mod tests;

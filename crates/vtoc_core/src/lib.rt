@@ -25,6 +25,3 @@ pub use release::{has_one_extent, shrink};
 pub use slot::put_dscb;
 pub use track::track_number;
 pub use volume::{Extents, Row, Rows, Volume};
-
-#[cfg(test)]
-mod tests;

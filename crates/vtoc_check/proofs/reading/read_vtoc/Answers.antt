@@ -26,19 +26,22 @@ returns-clause-vtoc c =
     let front = c.in_ok-bytes.ensures.front in
     let run = c.requires.run in
     let same = same_run head slots pointer c.args.run bytes (omega arith, omega arith) (slot_short head.device c.args.run c.args.slots.now (track_at (heads_of head.device) pointer.at)) run front in (
-      record { stands = record {
-        bytes = bytes;
-        format_4 = front.format_4;
-        geometry = front.geometry;
-        extent = front.extent;
-        heads_are = c.heads-heads.ensures;
-        limit_is = c.limit.ensures;
-        place_is = c.place_at.ensures ∙ ap (λ (heads : ℕ). named_place heads pointer) c.heads-heads.ensures;
-        valid_is = c.is_valid.ensures;
-        alternates_are = c.from.ensures ∙ c.number_at.ensures;
-        run_is = run.run_is ∙ ap (λ (b : List ℕ). run_of (heads_of head.device) (extent_at b 105)) same;
-        reading = c.in_ok-tracks.ensures;
-      }; four_is = refl },
+      record {
+        stands = record {
+          bytes = bytes;
+          format_4 = front.format_4;
+          geometry = front.geometry;
+          extent = front.extent;
+          heads_are = c.heads-heads.ensures;
+          limit_is = c.limit.ensures;
+          place_is = c.place_at.ensures ∙ ap (λ (heads : ℕ). named_place heads pointer) c.heads-heads.ensures;
+          valid_is = c.is_valid.ensures;
+          alternates_are = c.from.ensures ∙ c.number_at.ensures;
+          run_is = run.run_is ∙ ap (λ (b : List ℕ). run_of (heads_of head.device) (extent_at b 105)) same;
+          reading = c.in_ok-tracks.ensures;
+        };
+        four_is = refl;
+      },
       refl,
       record {
         some_heads = omega (arith, c.heads-heads.ensures, some_heads head.device);

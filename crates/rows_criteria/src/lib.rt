@@ -1,0 +1,5 @@
+//! Tests: criteria and the days that they name.
+#![tactic(auto)]
+
+#[cfg(test)]
+mod tests;

@@ -1,0 +1,5 @@
+//! Tests: DD names.
+#![tactic(auto)]
+
+#[cfg(test)]
+mod tests;

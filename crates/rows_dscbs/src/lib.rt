@@ -1,0 +1,5 @@
+//! Tests: DSCBs and their fields.
+#![tactic(auto)]
+
+#[cfg(test)]
+mod tests;

@@ -1,0 +1,5 @@
+//! Tests: free tracks and places for new extents.
+#![tactic(auto)]
+
+#[cfg(test)]
+mod tests;

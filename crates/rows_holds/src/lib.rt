@@ -1,0 +1,5 @@
+//! Tests: held names.
+#![tactic(auto)]
+
+#[cfg(test)]
+mod tests;

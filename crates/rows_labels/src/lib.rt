@@ -1,0 +1,5 @@
+//! Tests: labels, serials and their code page.
+#![tactic(auto)]
+
+#[cfg(test)]
+mod tests;

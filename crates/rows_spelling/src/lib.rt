@@ -1,0 +1,5 @@
+//! Tests: the spellings of SYSIN words.
+#![tactic(auto)]
+
+#[cfg(test)]
+mod tests;

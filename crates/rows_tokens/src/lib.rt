@@ -1,0 +1,5 @@
+//! Tests: the lines of a SYSIN text and their tokens.
+#![tactic(auto)]
+
+#[cfg(test)]
+mod tests;
