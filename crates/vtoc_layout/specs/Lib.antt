@@ -1,0 +1,3 @@
+pub mod FiveChain
+pub mod Layout
+pub mod Laws
