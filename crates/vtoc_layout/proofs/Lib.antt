@@ -1,1 +1,6 @@
 pub mod FiveChains
+pub mod Distinct
+pub mod Uses
+pub mod Links
+pub mod PlainRules
+pub mod PointerRules
