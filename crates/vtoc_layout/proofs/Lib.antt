@@ -4,3 +4,4 @@ pub mod Uses
 pub mod Links
 pub mod PlainRules
 pub mod PointerRules
+pub mod FiveRules
