@@ -5,3 +5,4 @@ pub mod Links
 pub mod PlainRules
 pub mod PointerRules
 pub mod FiveRules
+pub mod Apart
