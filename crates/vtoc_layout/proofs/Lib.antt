@@ -6,3 +6,4 @@ pub mod PlainRules
 pub mod PointerRules
 pub mod FiveRules
 pub mod Apart
+pub mod ExtentRules

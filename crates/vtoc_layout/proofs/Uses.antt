@@ -8,7 +8,7 @@ use Rattle.volume_model.specs.declared.format.Format.{Format}
 use Rattle.volume_model.specs.declared.format.Format.TheVariants.{Broken, Free, F1, F3, F4, F5}
 use Rattle.volume_model.specs.declared.place.Placed.{Placed}
 use Rattle.volume_model.specs.declared.place.Vtoc.{Vtoc}
-use Rattle.volume_model.specs.Dscbs.{format_of, is_broken, is_f1, is_f3, is_f4, is_f5}
+use Rattle.volume_model.specs.Dscbs.{format_of, is_broken, is_f1, is_f3, is_f4, is_f5, extent_offsets}
 use Rattle.volume_model.specs.Directory.{same_place}
 use Rattle.volume_model.specs.Check.{records_of, fives_of, is_among}
 use Rattle.vtoc_check.specs.Places.{number_of, IsAscending, blank}
@@ -86,7 +86,7 @@ module _ (vtoc : Vtoc) (layout : Layout) (sized : IsSized vtoc) (is : IsLayoutOf
   abbrev records : List Placed
   records = records_of vtoc
 
-  abbrev of_sets : List Placed
+  abbrev pub of_sets : List Placed
   of_sets = flat_map records_in_set layout.sets
 
   up : IsAscending (256 * vtoc.run.first) records
@@ -253,3 +253,14 @@ module _ (vtoc : Vtoc) (layout : Layout) (sized : IsSized vtoc) (is : IsLayoutOf
 
       back : (placed : Placed) → Contains layout.fives placed → Contains (fives_of vtoc) placed
       back placed c = in_filter (λ (p : Placed). is_f5 (format_of p.bytes)) records placed (five_there placed c) (ap is_f5 (five_format placed c))
+
+  -- a record that is none of a data set's has no extents
+  pub in_set_or_bare : (placed : Placed) → Contains records placed → Contains of_sets placed ⊎ (extent_offsets (format_of placed.bytes) ≡ [])
+  in_set_or_bare placed c = by (use_of placed c)
+    where
+      by : Use vtoc layout placed → Contains of_sets placed ⊎ (extent_offsets (format_of placed.bytes) ≡ [])
+      by (four same) = inr (ap extent_offsets (four_format placed same))
+      by (five there) = inr (ap extent_offsets (five_format placed there))
+      by (one set p same) = inl (in_flat records_in_set layout.sets set placed p (0, omega arith, same))
+      by (three set p there) = inl (in_flat records_in_set layout.sets set placed p (in_later set.one placed set.threes there))
+      by (free here) = inr (ap extent_offsets here)
