@@ -7,3 +7,4 @@ pub mod PointerRules
 pub mod FiveRules
 pub mod Apart
 pub mod ExtentRules
+pub mod FreeRules

@@ -1,4 +1,5 @@
 use Rattle.vtoc_layout.proofs.Distinct.{no_later_ones}
+use Rattle.vtoc_layout.proofs.FreeRules.{no_bad_free}
 use Rattle.vtoc_layout.proofs.ExtentRules.{extents_permuted}
 use Rattle.vtoc_layout.proofs.Apart.{flat_kept}
 use Rattle.vtoc_layout.proofs.FiveRules.{no_bad_fives}
