@@ -8,3 +8,4 @@ pub mod FiveRules
 pub mod Apart
 pub mod ExtentRules
 pub mod FreeRules
+pub mod Layouts
