@@ -1,23 +1,22 @@
 -- The extents of a VTOC are those of its layout, and apart.
-use Rattle.std.proofs.Common.{◌≡◌, ◌⊎◌, ℕ, suc, ◌+◌, ◌<◌, ◌≤◌, ◌||◌, ◌&&◌, ◌==◌, List, [], ◌∷◌, ◌++◌, length, map, filter, not, Bool, true, false, All, Contains, refl, sym, ap, subst, ◌∙◌, arith, inl, inr}
+use Rattle.std.proofs.Common.{◌≡◌, ◌⊎◌, ℕ, ◌||◌, ◌==◌, List, [], ◌∷◌, ◌++◌, map, filter, not, Bool, true, false, Contains, refl, sym, ap, subst, ◌∙◌, inl, inr}
 use Rattle.std.specs.List.{flat_map, list_any}
 use Rattle.std.specs.List.Sorted.{IsPermutation}
 use Rattle.std.proofs.lemmas.Bool.{both_ways}
 use Rattle.std.proofs.lemmas.List.Elements.{All-contains}
 use Rattle.free_map.specs.declared.run.Run.{Run}
 use Rattle.volume_model.specs.declared.extent.ExtentField.{ExtentField}
-use Rattle.volume_model.specs.declared.format.Format.{Format}
 use Rattle.volume_model.specs.declared.place.Placed.{Placed}
 use Rattle.volume_model.specs.declared.place.Vtoc.{Vtoc}
 use Rattle.volume_model.specs.declared.rule.VtocRule.TheVariants as rules
 use Rattle.volume_model.specs.Dscbs.{format_of, extents_of, extent_at, extent_offsets}
 use Rattle.volume_model.specs.Directory.{same_place}
-use Rattle.volume_model.specs.Space.{overlap, is_run, run_of, runs_of}
+use Rattle.volume_model.specs.Space.{overlap, is_run, run_of}
 use Rattle.volume_model.specs.Check.{breach, records_of, later_ones, is_among, own_runs, track_0, any_overlap, overlap_within, bad_ranges, bad_overlaps, extents_in}
 use Rattle.vtoc_check.specs.Sized.{IsSized}
 use Rattle.vtoc_check.proofs.Marks.{any_passes}
-use Rattle.vtoc_layout.specs.Layout.{AreDistinct, AreApart, AreExtentsApart, Layout, SetRecords, IsLayoutOf, records_in_set, extents_in_set, extents_by, runs_by}
-use Rattle.vtoc_layout.proofs.Distinct.{at_first, in_map, in_flat, from_flat, in_none, first_or_later, in_filter, from_filter, distinct_filter, filter_nothing, filter_all, any_nothing, no_later_ones, flat_permuted, HaveSame}
+use Rattle.vtoc_layout.specs.Layout.{AreApart, AreExtentsApart, Layout, IsLayoutOf, records_in_set, extents_in_set, extents_by, runs_by}
+use Rattle.vtoc_layout.proofs.Distinct.{in_flat, from_flat, in_none, first_or_later, in_filter, from_filter, distinct_filter, filter_nothing, filter_all, any_nothing, no_later_ones, flat_permuted, HaveSame}
 use Rattle.vtoc_layout.proofs.Apart.{NoneShared, none_overlap, none_within, apart_each, apart_two, map_flat, flat_flat, flat_same, flat_kept}
 use Rattle.vtoc_layout.proofs.Uses.{among, all_distinct, same_record, set_there, of_sets, distinct_of_sets, in_set_or_bare}
 

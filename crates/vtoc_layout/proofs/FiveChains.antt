@@ -1,8 +1,8 @@
 -- The walk along the format 5s is the one chain that they have.
-use Rattle.std.proofs.Common.{◌≡◌, ◌⊎◌, inl, inr, ℕ, zero, suc, ◌+◌, ◌<◌, ◌≤◌, List, [], ◌∷◌, ◌++◌, length, filter, find, Bool, true, false, cond, not, Option, Some, None, refl, sym, ap, subst, ◌∙◌, arith, append_assoc}
+use Rattle.std.proofs.Common.{◌≡◌, ◌⊎◌, inl, inr, ℕ, zero, suc, ◌+◌, ◌≤◌, List, [], ◌∷◌, ◌++◌, length, filter, find, Bool, true, false, cond, not, Option, Some, None, refl, sym, ap, subst, ◌∙◌, arith, append_assoc}
 use Rattle.std.specs.Prelude.{◌&&◌, ◌||◌, ◌==◌, nat_lt, if◌then◌else◌}
 use Rattle.std.specs.List.{list_any}
-use Rattle.std.proofs.lemmas.Bool.{and_parts, or_parts, cases_Bool, cond_both, eqb-true, eq-eqb, both_ways}
+use Rattle.std.proofs.lemmas.Bool.{and_parts, cases_Bool, eqb-true, eq-eqb, both_ways}
 use Rattle.std.proofs.lemmas.List.{append-nil}
 use Rattle.std.proofs.lemmas.List.Folds.{list_any-append}
 use Rattle.ckd_image.specs.declared.track.Cchhr.{Cchhr}
@@ -12,7 +12,7 @@ use Rattle.volume_model.specs.declared.place.Vtoc.{Vtoc}
 use Rattle.volume_model.specs.Dscbs.{format_of, is_f5, pointer_in}
 use Rattle.volume_model.specs.Directory.{named_place, named_record, record_at, same_place}
 use Rattle.volume_model.specs.Check.{FiveChain, five_chain, chain_from, goes_on, joined, points as points_in, named_by, records_of, fives_of, is_among, first_of, or_else, first_five, same_target}
-use Rattle.vtoc_layout.specs.FiveChain.{Names, LeadsNowhere, EndsAt, IsFiveChain, walk_of}
+use Rattle.vtoc_layout.specs.FiveChain.{Names, EndsAt, IsFiveChain, walk_of}
 use Rattle.volume_model.proofs.Filters.{filter_skip, filter_keep}
 
 -- ---- places

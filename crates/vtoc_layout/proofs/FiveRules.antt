@@ -1,23 +1,21 @@
 -- In a VTOC with a layout whose format 5s are linked, they are the chain that one reads.
-use Rattle.std.proofs.Common.{◌≡◌, ◌⊎◌, ℕ, suc, ◌+◌, ◌<◌, ◌≤◌, ◌||◌, ◌&&◌, List, [], ◌∷◌, ◌++◌, length, map, filter, not, cond, Bool, true, false, All, Contains, Option, Some, None, refl, sym, ap, subst, ◌∙◌, arith, inl, inr}
+use Rattle.std.proofs.Common.{◌≡◌, ◌⊎◌, List, [], ◌∷◌, ◌++◌, length, map, filter, not, Bool, true, false, Contains, Option, Some, None, refl, sym, ap, subst, ◌∙◌, arith, inl, inr}
 use Rattle.std.specs.Prelude.{if◌then◌else◌}
 use Rattle.std.specs.Option.{is_some}
 use Rattle.std.specs.List.{list_any}
 use Rattle.std.proofs.lemmas.Bool.{both_ways}
-use Rattle.ckd_image.specs.declared.track.Cchhr.{Cchhr}
-use Rattle.volume_model.specs.declared.format.Format.TheVariants.{F5}
 use Rattle.volume_model.specs.declared.place.Placed.{Placed}
 use Rattle.volume_model.specs.declared.place.Vtoc.{Vtoc}
 use Rattle.volume_model.specs.declared.rule.VtocRule.TheVariants as rules
-use Rattle.volume_model.specs.Dscbs.{format_of, is_f5, pointer_in}
+use Rattle.volume_model.specs.Dscbs.{is_f5, pointer_in}
 use Rattle.volume_model.specs.Directory.{same_place, named_record}
-use Rattle.volume_model.specs.Check.{breach, records_of, fives_of, named_by, same_target, is_among, first_of, or_else, first_five, points as points_in, FiveChain, off_chain, bad_fives}
+use Rattle.volume_model.specs.Check.{breach, records_of, fives_of, named_by, same_target, is_among, first_of, or_else, first_five, points as points_in, off_chain, bad_fives}
 use Rattle.vtoc_check.specs.Sized.{IsSized}
 use Rattle.vtoc_check.proofs.Marks.{any_passes, passes_any}
 use Rattle.volume_model.proofs.Filters.{filter_skip, filter_keep}
 use Rattle.vtoc_layout.specs.FiveChain.{Names, EndsAt, IsFiveChain, walk_of}
 use Rattle.vtoc_layout.specs.Layout.{AreDistinct, IsLinked, AreLinkedFives, Layout, IsLayoutOf}
-use Rattle.vtoc_layout.proofs.Distinct.{first_or_later, at_first, in_later, in_none, in_front, in_middle, distinct_others, not_both, filter_nothing}
+use Rattle.vtoc_layout.proofs.Distinct.{first_or_later, at_first, in_later, in_none, in_front, in_middle, not_both, filter_nothing}
 use Rattle.vtoc_layout.proofs.FiveChains.{one_chain}
 use Rattle.vtoc_layout.proofs.Links.{Precedes, second_later, first_there, has_before, precedes_split, leads_on, leads_to_next, last_ends}
 use Rattle.vtoc_layout.proofs.Uses.{itself, among, same_record, five_there, five_format, distinct_fives, same_fives}

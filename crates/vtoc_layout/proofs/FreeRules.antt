@@ -1,20 +1,20 @@
 -- The entries of the format 5s of a VTOC are those of its layout, and state the free tracks.
-use Rattle.std.proofs.Common.{◌≡◌, ◌⊎◌, ℕ, zero, suc, ◌+◌, ◌<◌, ◌≤◌, max, ◌||◌, ◌&&◌, ◌==◌, List, [], ◌∷◌, ◌++◌, length, map, filter, not, Bool, true, false, All, Contains, refl, sym, ap, subst, ◌∙◌, arith, inl, inr}
+use Rattle.std.proofs.Common.{◌≡◌, ◌⊎◌, ℕ, ◌+◌, ◌<◌, ◌≤◌, max, ◌||◌, ◌&&◌, ◌==◌, List, [], ◌∷◌, ◌++◌, not, Bool, true, false, Contains, refl, sym, ap, subst, ◌∙◌, arith, inl, inr}
 use Rattle.std.specs.Prelude.{nat_lt, nat_le, fold, if◌then◌else◌}
-use Rattle.std.specs.List.{flat_map, list_all, list_any}
+use Rattle.std.specs.List.{list_all, list_any}
 use Rattle.std.specs.List.Sorted.{IsPermutation}
-use Rattle.std.proofs.lemmas.Bool.{both_ways, and_parts, and_right, cases_lt, eq-eqb, lt-ltb, le-ltb, le-leb, ltb-true, leb-true}
+use Rattle.std.proofs.lemmas.Bool.{both_ways, and_parts, and_right, cases_lt, eq-eqb, lt-ltb, le-ltb, le-leb, ltb-true}
 use Rattle.std.proofs.lemmas.List.Elements.{All-contains}
 use Rattle.std.proofs.lemmas.List.Sorted.{Contains-permutation, IsPermutation-sym, IsPermutation-cons, IsPermutation-append, list_any-IsPermutation}
 use Rattle.free_map.specs.declared.run.Run.{Run}
-use Rattle.free_map.specs.Runs.{Holds, InRuns, AreApart as AreSpaced, AreMaximalRuns}
+use Rattle.free_map.specs.Runs.{Holds, InRuns, AreApart as AreSpaced}
 use Rattle.volume_model.specs.declared.place.Breach.{Breach}
 use Rattle.volume_model.specs.declared.place.Placed.{Placed}
 use Rattle.volume_model.specs.declared.place.Vtoc.{Vtoc}
 use Rattle.volume_model.specs.declared.rule.VtocRule.TheVariants as rules
 use Rattle.volume_model.specs.Dscbs.{numbers_below}
-use Rattle.volume_model.specs.Space.{end_of, has_track, overlap, runs_of, entries_of, greatest_end, usable_of, is_used, is_free}
-use Rattle.volume_model.specs.Check.{records_of, fives_of, track_0, any_overlap, overlap_within, extents_in, entries_in, usable_in, states_free, bad_free}
+use Rattle.volume_model.specs.Space.{end_of, has_track, overlap, runs_of, entries_of, greatest_end, usable_of, is_used}
+use Rattle.volume_model.specs.Check.{records_of, fives_of, track_0, extents_in, entries_in, usable_in, states_free, bad_free}
 use Rattle.volume_model.proofs.Filters.{all_below}
 use Rattle.vtoc_check.specs.Sized.{IsSized}
 use Rattle.vtoc_check.specs.Tracks.{HasTracks}

@@ -1,13 +1,13 @@
 -- Records that pointers lead through, one after the other.
-use Rattle.std.proofs.Common.{◌≡◌, ◌⊎◌, ℕ, zero, suc, ◌+◌, ◌<◌, ◌≤◌, List, [], ◌∷◌, ◌++◌, length, Bool, true, false, cond, All, Contains, Option, Some, None, refl, sym, ap, subst, ◌∙◌, arith, inl, inr}
+use Rattle.std.proofs.Common.{◌≡◌, ◌⊎◌, ℕ, zero, suc, ◌≤◌, List, [], ◌∷◌, ◌++◌, length, Bool, cond, All, Contains, Option, Some, None, refl, sym, ap, subst, ◌∙◌, arith, inl, inr}
 use Rattle.std.proofs.lemmas.List.Elements.{All-head, All-tail}
 use Rattle.volume_model.specs.declared.format.Format.TheVariants.{F3}
 use Rattle.volume_model.specs.declared.place.Placed.{Placed}
 use Rattle.volume_model.specs.Dscbs.{format_of, is_f3, pointer_in}
 use Rattle.volume_model.specs.Directory.{named_record, if_format, next_format_3, extended, chain_of}
 use Rattle.volume_model.specs.Check.{first_of}
-use Rattle.vtoc_layout.specs.Layout.{AreDistinct, IsLinked, AreLinkedFives}
-use Rattle.vtoc_layout.proofs.Distinct.{first_or_later, at_first, in_later, in_none}
+use Rattle.vtoc_layout.specs.Layout.{AreDistinct, IsLinked}
+use Rattle.vtoc_layout.proofs.Distinct.{first_or_later, in_later, in_none}
 
 -- in a list one stands right before another
 abbrev pub Precedes : List Placed → Placed → Placed → Type 0

@@ -1,19 +1,18 @@
 -- A VTOC with a layout has no record that is no DSCB, no second format 4, and no name twice.
-use Rattle.std.proofs.Common.{◌≡◌, ◌≢◌, ℕ, ◌+◌, ◌==◌, ◌||◌, ◌&&◌, List, [], ◌∷◌, map, filter, not, Bool, true, false, All, Contains, Option, Some, None, refl, sym, ap, subst, ◌∙◌}
+use Rattle.std.proofs.Common.{◌≡◌, ◌≢◌, ℕ, ◌+◌, ◌==◌, ◌||◌, ◌&&◌, List, [], ◌∷◌, map, not, Bool, true, false, All, Contains, Option, Some, None, refl, sym, ap, ◌∙◌}
 use Rattle.std.specs.Prelude.{take}
 use Rattle.std.proofs.lemmas.Bool.{eqb-true, and_parts}
 use Rattle.std.proofs.lemmas.List.Elements.{All-head, All-tail}
 use Rattle.volume_model.specs.declared.place.Placed.{Placed}
 use Rattle.volume_model.specs.declared.place.Place.{Place}
-use Rattle.volume_model.specs.declared.place.Breach.{Breach}
 use Rattle.volume_model.specs.declared.place.Vtoc.{Vtoc}
 use Rattle.volume_model.specs.declared.rule.VtocRule.TheVariants as rules
-use Rattle.volume_model.specs.Dscbs.{format_of, is_broken, is_f1, is_f4}
+use Rattle.volume_model.specs.Dscbs.{format_of, is_broken, is_f4}
 use Rattle.volume_model.specs.Directory.{same_place}
-use Rattle.volume_model.specs.Check.{breach, records_of, later_ones, same_bytes, bad_tracks, bad_dscbs, bad_names}
+use Rattle.volume_model.specs.Check.{breach, records_of, same_bytes, bad_tracks, bad_dscbs, bad_names}
 use Rattle.vtoc_check.specs.Sized.{IsSized}
-use Rattle.vtoc_layout.specs.Layout.{SetRecords, Layout, IsLayoutOf, name_of}
-use Rattle.vtoc_layout.proofs.Distinct.{filter_nothing, from_filter, from_map, one_of_map, no_later_ones}
+use Rattle.vtoc_layout.specs.Layout.{Layout, IsLayoutOf, name_of}
+use Rattle.vtoc_layout.proofs.Distinct.{filter_nothing, from_map, one_of_map, no_later_ones}
 use Rattle.vtoc_layout.proofs.Uses.{itself, one_of, is_four, none_broken, ones, distinct_f1s, same_ones}
 
 pub no_bad_tracks : (track : ℕ) (tracks : List (Option (List (List ℕ)))) → All (λ dscbs. dscbs ≢ None) tracks → bad_tracks track tracks ≡ []

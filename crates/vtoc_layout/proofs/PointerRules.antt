@@ -1,9 +1,7 @@
 -- In a VTOC with a layout each pointer of a data set leads to the next of its records.
-use Rattle.std.proofs.Common.{◌≡◌, ◌⊎◌, ℕ, suc, ◌<◌, ◌≤◌, ◌||◌, ◌&&◌, List, [], ◌∷◌, ◌++◌, length, map, filter, not, Bool, true, false, All, Contains, Option, Some, None, refl, sym, ap, subst, ◌∙◌, arith, inl, inr}
+use Rattle.std.proofs.Common.{◌≡◌, ◌⊎◌, ◌||◌, ◌&&◌, List, [], ◌++◌, length, map, filter, not, Bool, true, false, Contains, Some, None, refl, sym, ap, subst, ◌∙◌, arith, inl, inr}
 use Rattle.std.specs.Option.{is_some}
-use Rattle.std.specs.List.{flat_map}
-use Rattle.std.proofs.lemmas.Bool.{both_ways, and_parts, cases_Bool}
-use Rattle.ckd_image.specs.declared.track.Cchhr.{Cchhr}
+use Rattle.std.proofs.lemmas.Bool.{both_ways, and_parts}
 use Rattle.volume_model.specs.declared.format.Format.TheVariants.{F3}
 use Rattle.volume_model.specs.declared.place.Placed.{Placed}
 use Rattle.volume_model.specs.declared.place.Vtoc.{Vtoc}
@@ -13,9 +11,9 @@ use Rattle.volume_model.specs.Directory.{same_place, chain_of}
 use Rattle.volume_model.specs.Check.{breach, records_of, later_ones, namers_of, named_by, names_3, names_format, same_target, is_among, reached_3s, bad_pointers}
 use Rattle.vtoc_check.specs.Sized.{IsSized}
 use Rattle.vtoc_layout.specs.Layout.{AreDistinct, SetRecords, Layout, IsLayoutOf, records_in_set}
-use Rattle.vtoc_layout.proofs.Distinct.{filter_nothing, from_filter, in_filter, distinct_filter, from_map, in_map, in_flat, in_later, at_first, no_more, no_later_ones, one_of_flat, distinct_each}
-use Rattle.vtoc_layout.proofs.Links.{Precedes, second_later, first_there, one_before, leads_to_next, chain_is}
-use Rattle.vtoc_layout.proofs.Uses.{among, one_of, all_distinct, same_record, in_set_there, set_there, distinct_of_sets, set_is, three_format, is_one, is_three, ones, same_ones}
+use Rattle.vtoc_layout.proofs.Distinct.{filter_nothing, from_filter, distinct_filter, from_map, in_map, in_flat, in_later, no_more, no_later_ones, one_of_flat, distinct_each}
+use Rattle.vtoc_layout.proofs.Links.{Precedes, second_later, one_before, leads_to_next, chain_is}
+use Rattle.vtoc_layout.proofs.Uses.{among, one_of, all_distinct, same_record, in_set_there, distinct_of_sets, set_is, three_format, is_one, is_three, ones, same_ones}
 
 module _ (vtoc : Vtoc) (layout : Layout) (sized : IsSized vtoc) (is : IsLayoutOf vtoc layout) where
   abbrev records : List Placed

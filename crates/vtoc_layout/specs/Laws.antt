@@ -1,5 +1,5 @@
 -- What holds of a VTOC that has a layout.
-use Rattle.std.specs.Prelude.{◌≡◌, ◌≢◌, true, List, [], map, None, All}
+use Rattle.std.specs.Prelude.{◌≡◌, ◌≢◌, true, [], map, None, All}
 use Rattle.std.specs.List.Sorted.{IsPermutation}
 use Rattle.volume_model.specs.declared.place.Vtoc.{Vtoc}
 use Rattle.volume_model.specs.Directory.{rows_of}

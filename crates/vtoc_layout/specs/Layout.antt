@@ -1,5 +1,5 @@
 -- The records of a VTOC by what they are used for.
-use Rattle.std.specs.Prelude.{◌≡◌, ◌≢◌, ℕ, ◌<◌, ◌≤◌, true, false, List, [], ◌∷◌, ◌++◌, length, map, filter, take, All, Contains, Option, Some, None, if◌then◌else◌, IsTrue}
+use Rattle.std.specs.Prelude.{◌≡◌, ℕ, ◌≤◌, true, false, List, [], ◌∷◌, ◌++◌, length, map, filter, take, All, Contains, Some, None, if◌then◌else◌, IsTrue}
 use Rattle.std.specs.List.{flat_map}
 use Rattle.free_map.specs.declared.run.Run.{Run}
 use Rattle.free_map.specs.Runs.{AreMaximalRuns}
