@@ -45,7 +45,7 @@ spaced_apart from (run ∷ runs) h = (all_from (λ other. overlap run other ≡ 
         and_right (nat_lt run.first (end_of other)) (nat_lt other.first (end_of run))
         (le-ltb other.first (end_of run) (omega (arith, starts_after (run.first + run.len + 1) runs other h.2 c)))
 
-has_some : (from : ℕ) (runs : List Run) (run : Run) → AreSpaced from runs → Contains runs run → 1 ≤ run.len
+pub has_some : (from : ℕ) (runs : List Run) (run : Run) → AreSpaced from runs → Contains runs run → 1 ≤ run.len
 has_some from [] run h c = absurd (in_none run c)
 has_some from (first ∷ runs) run h c = by (has_some (first.first + first.len + 1) runs run h.2) (first_or_later first run runs c)
   where
@@ -53,7 +53,7 @@ has_some from (first ∷ runs) run h c = by (has_some (first.first + first.len +
     by later (inl same) = omega (arith, h.1, ap (λ (r : Run). r.len) same)
     by later (inr there) = later there
 
-held_in : (runs : List Run) (run : Run) (track : ℕ) → Contains runs run → Holds run track → InRuns runs track
+pub held_in : (runs : List Run) (run : Run) (track : ℕ) → Contains runs run → Holds run track → InRuns runs track
 held_in [] run track c h = absurd (in_none run c)
 held_in (first ∷ runs) run track c h = by (λ there. held_in runs run track there h) (first_or_later first run runs c)
   where
@@ -92,15 +92,15 @@ shared_track a b p q e = by (cases_lt a.first b.first)
 
 -- ---- the greatest end
 
-grows : (a : ℕ) (runs : List Run) → a ≤ fold (λ end run. max end (end_of run)) a runs
+pub grows : (a : ℕ) (runs : List Run) → a ≤ fold (λ end run. max end (end_of run)) a runs
 grows a [] = omega arith
 grows a (run ∷ runs) = omega (arith, grows (max a (end_of run)) runs)
 
-at_most : (limit a : ℕ) (runs : List Run) → a ≤ limit → ((run : Run) → Contains runs run → end_of run ≤ limit) → fold (λ end run. max end (end_of run)) a runs ≤ limit
+pub at_most : (limit a : ℕ) (runs : List Run) → a ≤ limit → ((run : Run) → Contains runs run → end_of run ≤ limit) → fold (λ end run. max end (end_of run)) a runs ≤ limit
 at_most limit a [] le h = le
 at_most limit a (run ∷ runs) le h = at_most limit (max a (end_of run)) runs (omega (arith, le, h run (at_first run runs))) (λ other c. h other (in_later run other runs c))
 
-each_end : (a : ℕ) (runs : List Run) (run : Run) → Contains runs run → end_of run ≤ fold (λ end run. max end (end_of run)) a runs
+pub each_end : (a : ℕ) (runs : List Run) (run : Run) → Contains runs run → end_of run ≤ fold (λ end run. max end (end_of run)) a runs
 each_end a [] run c = absurd (in_none run c)
 each_end a (first ∷ runs) run c = by (each_end (max a (end_of first)) runs run) (first_or_later first run runs c)
   where
