@@ -1,9 +1,9 @@
 -- The chains of format 3s in a VTOC that breaks no rule.
-use Rattle.std.proofs.Common.{◌≡◌, ◌⊎◌, ℕ, zero, suc, ◌+◌, ◌*◌, ◌<◌, ◌≤◌, List, [], ◌∷◌, ◌++◌, length, map, filter, take, get_or, Bool, true, false, cond, All, Contains, Option, Some, None, refl, sym, ap, subst, ◌∙◌, arith, inl, inr}
+use Rattle.std.proofs.Common.{◌≡◌, ◌⊎◌, ℕ, zero, suc, ◌*◌, ◌<◌, ◌≤◌, List, [], ◌∷◌, ◌++◌, length, map, filter, take, get_or, Bool, true, false, cond, All, Contains, Option, Some, None, refl, sym, ap, subst, ◌∙◌, arith, inl, inr}
 use Rattle.std.specs.Prelude.{◌&&◌, ◌||◌, not, find, nat_lt}
 use Rattle.std.specs.Option.{is_some}
 use Rattle.std.specs.List.{flat_map, list_any}
-use Rattle.std.proofs.lemmas.Bool.{cases_order, eq-eqb}
+use Rattle.std.proofs.lemmas.Bool.{cases_order}
 use Rattle.std.proofs.lemmas.List.{get_or-take, length-take}
 use Rattle.std.proofs.lemmas.List.Elements.{All-nil, All-cons, All-weaker, All-contains, Contains-get_or}
 use Rattle.ckd_image.specs.declared.track.Cchhr.{Cchhr}
@@ -15,41 +15,19 @@ use Rattle.volume_model.specs.declared.rule.VtocRule.TheVariants as rules
 use Rattle.volume_model.specs.Dscbs.{format_of, is_f1, is_f3, pointer_in}
 use Rattle.volume_model.specs.Directory.{same_place, record_at, named_place, named_record, if_format, next_format_3, extended, chain_of}
 use Rattle.volume_model.specs.Check.{breach, records_of, later_ones, namers_of, named_by, names_3, names_format, same_target, is_among, reached_3s, bad_tracks, bad_dscbs, bad_names, bad_pointers, bad_fives, bad_ranges, bad_overlaps, bad_free, breaches_of}
-use Rattle.vtoc_check.specs.Places.{number_of, IsAscending, AreShort, blank}
+use Rattle.vtoc_check.specs.Places.{IsAscending, AreShort, blank}
 use Rattle.vtoc_check.specs.Reach.{record_in}
-use Rattle.vtoc_check.proofs.Order.{ascending, above, in_order_from}
+use Rattle.vtoc_check.proofs.Order.{ascending}
 use Rattle.vtoc_check.proofs.Targets.{named_by_next}
-use Rattle.vtoc_check.proofs.Marks.{any_passes, passes_any, same_number, one_index}
+use Rattle.vtoc_check.proofs.Marks.{any_passes, passes_any}
 use Rattle.vtoc_check.proofs.FirstFound.{later_found}
-use Rattle.vtoc_load.specs.Chained.{AreDistinct, AreEachOnce, threes_of}
-use Rattle.vtoc_load.proofs.Distinct.{in_later, in_none, no_more, distinct_append, in_filter, from_filter, distinct_filter, from_flat}
+use Rattle.vtoc_layout.specs.Layout.{AreDistinct}
+use Rattle.vtoc_layout.proofs.Distinct.{in_later, in_none, no_more, distinct_append, in_filter, from_filter, distinct_filter, from_flat}
+use Rattle.vtoc_layout.proofs.Uses.{distinct_records, one_record, itself}
+use Rattle.vtoc_load.specs.Chained.{AreEachOnce, threes_of}
 
 abbrev nothing : Option Placed
 nothing = None
-
--- ---- records of different places
-
-pub distinct_records : (from : ℕ) (records : List Placed) → IsAscending from records → AreDistinct records
-distinct_records from [] h = tt
-distinct_records from (placed ∷ more) h =
-    (λ c. omega (arith, above (number_of placed.place + 1) more c.0 placed h.2 c.1, ap (λ (p : Placed). number_of p.place) c.2), distinct_records (number_of placed.place + 1) more h.2)
-
-pub one_record : (from : ℕ) (records : List Placed) → IsAscending from records → (a b : Placed) → Contains records a → Contains records b → same_place a.place b.place ≡ true → a ≡ b
-one_record from records up a b p q e =
-    let at_a : get_or records p.0 blank ≡ a = at p in
-    let at_b : get_or records q.0 blank ≡ b = at q in
-    let numbers : number_of (record_in records p.0).place ≡ number_of (record_in records q.0).place =
-    ap (λ (x : Placed). number_of x.place) at_a ∙ same_number a b e ∙ sym (ap (λ (x : Placed). number_of x.place) at_b) in
-    let k : p.0 ≡ q.0 = one_index records (in_order_from from records up) p.0 q.0 p.1 q.1 numbers in
-    sym at_a ∙ ap (λ (n : ℕ). get_or records n blank) k ∙ at_b
-  where
-    any_default : (xs : List Placed) (k : ℕ) (d e : Placed) → k < length xs → get_or xs k d ≡ get_or xs k e
-    any_default [] k d e lt = absurd (omega (arith, lt))
-    any_default (x ∷ xs) zero d e lt = refl
-    any_default (x ∷ xs) (suc k) d e lt = any_default xs k d e (omega (arith, lt))
-
-    at : {x : Placed} → (c : Contains records x) → get_or records c.0 blank ≡ x
-    at {x} c = any_default records c.0 blank x c.1 ∙ c.2
 
 -- ---- where a pointer leads
 
@@ -267,9 +245,6 @@ some_pointer : (heads : ℕ) (records : List Placed) (pointer : Option Cchhr) (x
 some_pointer heads records None x e = absurd (let q : nothing ≡ Some x = e in let r : ⊥ = cc in r)
 some_pointer heads records (Some pointer) x e = refl
 
-itself : (placed : Placed) → same_place placed.place placed.place ≡ true
-itself placed = (λ i. eq-eqb placed.place.track placed.place.track refl i && eq-eqb placed.place.record_number placed.place.record_number refl i)
-
 -- the records that name a format 3
 abbrev naming : Vtoc → List Placed
 naming vtoc = filter (names_3 vtoc) (namers_of vtoc)
@@ -390,8 +365,8 @@ chains_apart vtoc short none = record {
 
     count : length (reached_3s vtoc) ≡ length (threes_of vtoc)
     count =
-        let few = no_more (reached_3s vtoc) (threes_of vtoc) distinct (λ k d lt. reached (get_or (reached_3s vtoc) k d) (Contains-get_or (reached_3s vtoc) k d lt)) in
+        let few = no_more (reached_3s vtoc) (threes_of vtoc) distinct reached in
         let many =
         no_more (threes_of vtoc) (reached_3s vtoc) (distinct_filter (λ (p : Placed). is_f3 (format_of p.bytes)) records (distinct_records (256 * vtoc.run.first) records up))
-        (λ k d lt. covered (get_or (threes_of vtoc) k d) (Contains-get_or (threes_of vtoc) k d lt)) in
+        covered in
         omega (arith, few, many)

@@ -16,9 +16,9 @@ use Rattle.vtoc_check.specs.Places.{AreShort}
 use Rattle.vtoc_core.specs.declared.volume.Row.{Row}
 use Rattle.vtoc_core.specs.Loaded.{row_in, records_for}
 use Rattle.vtoc_core.specs.Shrink.{is_free_dscb}
+use Rattle.vtoc_layout.proofs.Distinct.{in_none, in_filter, at_first, in_later}
 use Rattle.vtoc_load.specs.LoadedVtoc.{free_records_of}
 use Rattle.vtoc_load.specs.Counted.{fours_of}
-use Rattle.vtoc_load.proofs.Distinct.{in_none, in_filter, at_first, in_later}
 use Rattle.vtoc_load.proofs.Chains.{chain_at, chains_apart, no_bad_dscbs, map_nil}
 
 -- ---- each record has one format

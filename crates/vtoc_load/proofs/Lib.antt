@@ -1,6 +1,5 @@
 pub mod Usable
 pub mod SortedRows
 pub mod Sizes
-pub mod Distinct
 pub mod Chains
 pub mod Counting

@@ -1,8 +1,8 @@
 -- How many tracks of a volume are usable.
 use Rattle.std.proofs.Common.{◌≡◌, ℕ, ◌*◌, ◌-◌, ◌≤◌, max, List, [], ◌∷◌, ◌++◌, Bool, true, false, cond, ◌&&◌, ◌||◌, not, All, arith, refl, get_or}
-use Rattle.std.specs.Prelude.{nat_le, fold}
+use Rattle.std.specs.Prelude.{nat_le}
 use Rattle.std.specs.List.{list_all, list_any}
-use Rattle.std.proofs.lemmas.List.Elements.{All-head, All-tail, All-cons, All-append}
+use Rattle.std.proofs.lemmas.List.Elements.{All-cons, All-append, All-contains}
 use Rattle.free_map.specs.declared.run.Run.{Run}
 use Rattle.volume_model.specs.declared.place.Breach.{Breach}
 use Rattle.volume_model.specs.declared.place.Vtoc.{Vtoc}
@@ -13,15 +13,11 @@ use Rattle.volume_model.specs.Check.{track_0, any_overlap, overlap_within, state
 use Rattle.vtoc_check.specs.Sized.{IsSized}
 use Rattle.vtoc_check.proofs.Joined.{extents_within, ends_by}
 use Rattle.vtoc_core.proofs.Spaces.{ends_within, all_front}
+use Rattle.vtoc_layout.proofs.FreeRules.{grows, at_most}
 
-grows : (a : ℕ) (runs : List Run) → a ≤ fold (λ end run. max end (end_of run)) a runs
-grows a [] = omega arith
-grows a (run ∷ runs) = omega (arith, grows (max a (end_of run)) runs)
-
-at_most : (limit a : ℕ) (runs : List Run) → a ≤ limit → All (λ run. end_of run ≤ limit) runs → fold (λ end run. max end (end_of run)) a runs ≤ limit
-at_most limit a [] le h = le
-at_most limit a (run ∷ runs) le h =
-    at_most limit (max a (end_of run)) runs (omega (arith, le, All-head (λ (r : Run). end_of r ≤ limit) run runs h)) (All-tail (λ (r : Run). end_of r ≤ limit) run runs h)
+-- where each of these runs ends by a limit, their greatest end does
+within_all : (limit : ℕ) (runs : List Run) → 1 ≤ limit → All (λ run. end_of run ≤ limit) runs → greatest_end runs ≤ limit
+within_all limit runs some h = at_most limit 1 runs some (λ run c. All-contains (λ (r : Run). end_of r ≤ limit) runs run h c)
 
 both_most : (a b c : ℕ) → a ≤ c → max a (c - b) ≤ c
 both_most a b c le = omega (arith, le)
@@ -29,11 +25,11 @@ both_most a b c le = omega (arith, le)
 most : (valid : Bool) (heads limit alternates : ℕ) (vtoc : Run) (extents entries : List Run) → 1 ≤ limit → end_of vtoc ≤ limit → All (λ run. end_of run ≤ limit) extents
     → (valid ≡ true → All (λ run. end_of run ≤ limit) entries) → usable_of valid heads limit alternates vtoc extents entries ≤ limit
 most true heads limit alternates vtoc extents entries some within ext ent =
-    at_most limit 1 (vtoc ∷ extents ++ entries) some
+    within_all limit (vtoc ∷ extents ++ entries) some
     (All-cons (λ (run : Run). end_of run ≤ limit) vtoc (extents ++ entries) within (All-append (λ (run : Run). end_of run ≤ limit) extents entries ext (ent refl)))
 most false heads limit alternates vtoc extents entries some within ext ent =
     both_most (greatest_end (vtoc ∷ extents)) (heads * ceil_div alternates heads) limit
-    (at_most limit 1 (vtoc ∷ extents) some (All-cons (λ (run : Run). end_of run ≤ limit) vtoc extents within ext))
+    (within_all limit (vtoc ∷ extents) some (All-cons (λ (run : Run). end_of run ≤ limit) vtoc extents within ext))
 
 left_most : (a b c : ℕ) → c ≤ a → c ≤ max a b
 left_most a b c le = omega (arith, le)

@@ -1,15 +1,11 @@
 -- The format 3s of a VTOC that breaks no rule.
-use Rattle.std.specs.Prelude.{◌≡◌, ◌↔◌, List, [], ◌∷◌, length, filter, Contains}
+use Rattle.std.specs.Prelude.{◌≡◌, ◌↔◌, List, [], length, filter, Contains}
 use Rattle.volume_model.specs.declared.place.Placed.{Placed}
 use Rattle.volume_model.specs.declared.place.Vtoc.{Vtoc}
 use Rattle.volume_model.specs.Dscbs.{format_of, is_f3}
 use Rattle.volume_model.specs.Check.{records_of, reached_3s, breaches_of}
 use Rattle.vtoc_check.specs.Places.{AreShort}
-
--- no element stands twice in a list
-abbrev pub AreDistinct : {X : Type 0} → List X → Type 0
-AreDistinct [] = Unit {0}
-AreDistinct (x ∷ xs) = (¬ Contains xs x) × AreDistinct xs
+use Rattle.vtoc_layout.specs.Layout.{AreDistinct}
 
 -- the format 3s of a VTOC
 abbrev pub threes_of : Vtoc → List Placed
