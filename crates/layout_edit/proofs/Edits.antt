@@ -1,7 +1,6 @@
 -- Records of which some are edited, each at a place of its own.
-use Rattle.std.proofs.Common.{◌≡◌, ◌⊎◌, ℕ, ◌+◌, ◌==◌, ◌&&◌, List, [], ◌∷◌, length, map, Bool, true, false, cond, Contains, Option, Some, None, refl, sym, ap, subst, ◌∙◌, arith, inl, inr}
+use Rattle.std.proofs.Common.{◌≡◌, ◌⊎◌, ℕ, ◌+◌, List, [], ◌∷◌, length, map, Bool, true, false, cond, Contains, Option, Some, None, refl, sym, ap, subst, ◌∙◌, arith, inl, inr}
 use Rattle.std.specs.Prelude.{nat_lt}
-use Rattle.std.proofs.lemmas.Bool.{and_parts, eqb-true, eq-eqb}
 use Rattle.std.proofs.lemmas.List.Elements.{All-nil, All-cons, All-head, All-tail}
 use Rattle.ckd_image.specs.declared.track.Cchhr.{Cchhr}
 use Rattle.volume_model.specs.declared.place.Place.{Place}
@@ -10,29 +9,22 @@ use Rattle.volume_model.specs.Dscbs.{pointer_in}
 use Rattle.volume_model.specs.Directory.{same_place, record_at, named_place, named_record}
 use Rattle.vtoc_check.specs.Places.{IsShort, AreShort}
 use Rattle.vtoc_layout.specs.Layout.{AreDistinct, IsLinked}
+use Rattle.vtoc_layout.proofs.FiveChains.{one_place, itself}
 use Rattle.vtoc_layout.proofs.Distinct.{first_or_later, at_first, in_later, in_none, in_map}
 use Rattle.vtoc_write.specs.Edited.{edit_of, placed_with, after_edits, dscbs_after, tracks_after}
 use Rattle.layout_edit.specs.Change.{place_of}
 
 -- ---- places
 
-pub same_places : (a b : Place) → same_place a b ≡ true → a ≡ b
-same_places a b e =
-    let parts = and_parts (a.track == b.track) (a.record_number == b.record_number) e in
-    let track : a.track ≡ b.track = eqb-true a.track b.track parts.0 in
-    let number : a.record_number ≡ b.record_number = eqb-true a.record_number b.record_number parts.1 in
-    (λ i. record { track = track i; record_number = number i })
+places_same : (a b : Place) → a ≡ b → same_place a b ≡ true
+places_same a b e = ap (same_place a) (sym e) ∙ itself a
 
-pub places_same : (a b : Place) → a ≡ b → same_place a b ≡ true
-places_same a b e =
-    (λ i. eq-eqb a.track b.track (ap (λ (p : Place). p.track) e) i && eq-eqb a.record_number b.record_number (ap (λ (p : Place). p.record_number) e) i)
-
-pub other_places : (a b : Place) → ¬ (a ≡ b) → same_place a b ≡ false
+other_places : (a b : Place) → ¬ (a ≡ b) → same_place a b ≡ false
 other_places a b differ = by (same_place a b) refl
   where
     by : (t : Bool) → same_place a b ≡ t → t ≡ false
     by false e = refl
-    by true e = absurd (differ (same_places a b e))
+    by true e = absurd (differ (one_place a b e))
 
 -- ---- the edit of a place
 
@@ -67,7 +59,7 @@ edit_found (first ∷ more) place edit e = by (edit_found more place edit) (same
         → Contains (first ∷ more) edit × (edit.place ≡ place)
     by later true at q =
         let same : first ≡ edit = cc in
-        ((0, omega arith, same), ap place_of (sym same) ∙ same_places first.place place at)
+        ((0, omega arith, same), ap place_of (sym same) ∙ one_place first.place place at)
     by later false at q = let r = later q in (in_later first edit more r.0, r.1)
 
 -- ---- the records afterwards

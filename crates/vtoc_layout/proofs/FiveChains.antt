@@ -17,14 +17,14 @@ use Rattle.volume_model.proofs.Filters.{filter_skip, filter_keep}
 
 -- ---- places
 
-one_place : (a b : Place) → same_place a b ≡ true → a ≡ b
+pub one_place : (a b : Place) → same_place a b ≡ true → a ≡ b
 one_place a b same =
     let parts = and_parts (a.track == b.track) (a.record_number == b.record_number) same in
     let track : a.track ≡ b.track = eqb-true a.track b.track parts.0 in
     let number : a.record_number ≡ b.record_number = eqb-true a.record_number b.record_number parts.1 in
     (λ i. record { track = track i; record_number = number i })
 
-itself : (a : Place) → same_place a a ≡ true
+pub itself : (a : Place) → same_place a a ≡ true
 itself a = (λ i. eq-eqb a.track a.track refl i && eq-eqb a.record_number a.record_number refl i)
 
 or_first : (a b : Bool) → a ≡ true → (a || b) ≡ true
