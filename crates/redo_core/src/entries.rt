@@ -56,7 +56,8 @@ impl Entries {
         Ok(())
     }
 
-    pub(crate) fn as_slice(&self) -> &[Entry]
+    /// The entries in the order in which they were added.
+    pub fn as_slice(&self) -> &[Entry]
         ensures { result.now ≡ self.now }
     {
         self.list.as_slice()

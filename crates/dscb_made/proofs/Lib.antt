@@ -1,0 +1,5 @@
+pub mod SlotsPut
+pub mod PointerPut
+pub mod Reading
+pub mod Makes
+pub mod FourMade
