@@ -1,6 +1,5 @@
 -- The spot of a name, and rows once one is put there.
 use Rattle.std.proofs.Common.{◌≡◌, ◌↔◌, inl, inr, ℕ, zero, suc, ◌+◌, ◌-◌, ◌<◌, ◌≤◌, List, [], ◌∷◌, ◌++◌, length, map, take, drop, get_or, All, Bool, true, false, Option, Some, None, refl, sym, ap, subst, ◌∙◌, arith}
-use Rattle.std.specs.Prelude.{Contains}
 use Rattle.std.specs.declared.cmp.Ordering.{Ordering}
 use Rattle.std.specs.declared.cmp.Ordering.TheVariants.{Less, Equal, Greater}
 use Rattle.std.specs.Ordering.{is_lt, nat_cmp, ordering_reverse}
@@ -17,7 +16,7 @@ use Rattle.std.proofs.lemmas.List.Sorted.{sorted_far}
 use Rattle.vtoc_core.specs.declared.volume.Row.{Row}
 use Rattle.vtoc_core.specs.Loaded.{row_in, HasItsName}
 use Rattle.vtoc_layout.specs.Layout.{AreDistinct}
-use Rattle.volume_model.specs.Directory.{DirectoryRow, name_before}
+use Rattle.volume_model.specs.Directory.{name_before}
 use Rattle.volume_change.specs.declared.spot.Spot.{Spot}
 use Rattle.volume_change.specs.Spot.{comes_before, behind, AreNamed, HasNameAt, IsSpot, Suits, rows_with}
 

@@ -6,7 +6,6 @@ use Rattle.std.specs.Cmp.Lexicographic.{slice_cmp}
 use Rattle.volume_model.specs.Directory.{name_before}
 use Rattle.volume_model.specs.Pinned.{IsNameOf}
 use Rattle.dsn_filter.specs.declared.dsn.Dsn.{Dsn}
-use Rattle.dsn_filter.specs.Dsn.{IsDsn}
 use Rattle.vtoc_core.specs.declared.volume.Row.{Row}
 use Rattle.vtoc_core.specs.Loaded.{row_in, HasItsName}
 use Rattle.vtoc_layout.specs.Layout.{AreDistinct}

@@ -1,4 +1,4 @@
-use Rattle.std.proofs.Common.{◌≡◌, ◌<◌, ◌≤◌, length, refl, ◌∙◌, arith}
+use Rattle.std.proofs.Common.{◌<◌, length, refl, ◌∙◌, arith}
 use Rattle.std.proofs.lemmas.List.{length-set}
 use Rattle.volume_change.proofs.Names.{has_code, short_name, all_blank, coded_more, blank_more}
 use Rattle.volume_change.proofs.name.name_bytes.Goals as goal

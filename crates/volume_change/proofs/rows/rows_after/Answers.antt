@@ -1,6 +1,5 @@
-use Rattle.std.proofs.Common.{List, ◌≡◌, sym, subst}
+use Rattle.std.proofs.Common.{◌≡◌, sym, subst}
 use Rattle.std.proofs.lemmas.Result.{IfOk-weaker}
-use Rattle.vtoc_core.specs.declared.volume.Row.{Row}
 use Rattle.volume_change.specs.Spot.{AreNamed, rows_with}
 use Rattle.volume_change.proofs.Spots.{put_in_order}
 use Rattle.volume_change.proofs.rows.rows_after.Goals as goal

@@ -1,4 +1,4 @@
-use Rattle.std.proofs.Common.{List, ◌≡◌, map, take, ap, sym, ◌∙◌}
+use Rattle.std.proofs.Common.{List, map, ap, sym, ◌∙◌}
 use Rattle.std.proofs.lemmas.List.{take_all}
 use Rattle.dscb_rec.specs.declared.field.Extent.{Extent}
 use Rattle.volume_model.specs.Space.{run_of}

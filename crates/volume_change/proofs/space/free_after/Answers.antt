@@ -1,4 +1,4 @@
-use Rattle.std.proofs.Common.{List, ◌≡◌, ◌≤◌, ◌<◌, ◌++◌, ℕ, All, ap, subst, ◌∙◌}
+use Rattle.std.proofs.Common.{List, ◌≤◌, ◌<◌, ◌++◌, ℕ, All, ap, subst, ◌∙◌}
 use Rattle.std.proofs.lemmas.Result.{IfOk-weaker}
 use Rattle.free_map.specs.declared.run.Run.{Run}
 use Rattle.free_map.specs.Runs.{InRuns, AreMaximalRuns}
