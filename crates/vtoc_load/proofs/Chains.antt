@@ -31,7 +31,7 @@ nothing = None
 
 -- ---- where a pointer leads
 
-found_in : (test : Placed → Bool) (xs : List Placed) (x : Placed) → find test xs ≡ Some x → Contains xs x
+pub found_in : (test : Placed → Bool) (xs : List Placed) (x : Placed) → find test xs ≡ Some x → Contains xs x
 found_in test [] x e = absurd (let q : nothing ≡ Some x = e in let r : ⊥ = cc in r)
 found_in test (y ∷ xs) x e = by (λ q. found_in test xs x q) (test y) e
   where
@@ -42,7 +42,7 @@ found_in test (y ∷ xs) x e = by (λ q. found_in test xs x q) (test y) e
     by later true q = (0, omega arith, same q)
     by later false q = in_later y x xs (later q)
 
-named_in : (heads : ℕ) (records : List Placed) (pointer : Option Cchhr) (x : Placed) → named_record heads records pointer ≡ Some x → Contains records x
+pub named_in : (heads : ℕ) (records : List Placed) (pointer : Option Cchhr) (x : Placed) → named_record heads records pointer ≡ Some x → Contains records x
 named_in heads records None x e = absurd (let q : nothing ≡ Some x = e in let r : ⊥ = cc in r)
 named_in heads records (Some pointer) x e = by (nat_lt pointer.at.head heads) e
   where
@@ -61,7 +61,7 @@ format_3 (Some other) x e = by (is_f3 (format_of other.bytes)) refl e
     by true here q = sym (ap (λ (p : Placed). is_f3 (format_of p.bytes)) (same q)) ∙ here
     by false here q = absurd (let p : nothing ≡ Some x = q in let r : ⊥ = cc in r)
 
-next_in : (heads : ℕ) (records : List Placed) (bytes : List ℕ) (x : Placed) → next_format_3 heads records bytes ≡ Some x → Contains records x × (is_f3 (format_of x.bytes) ≡ true)
+pub next_in : (heads : ℕ) (records : List Placed) (bytes : List ℕ) (x : Placed) → next_format_3 heads records bytes ≡ Some x → Contains records x × (is_f3 (format_of x.bytes) ≡ true)
 next_in heads records bytes x e =
     let o = named_record heads records (pointer_in bytes) in
     (named_in heads records (pointer_in bytes) x (named_by_next o x e), format_3 o x e)
@@ -218,7 +218,7 @@ no_first_four vtoc e =
     (left_nil (four ++ bad_fives vtoc) (bad_ranges vtoc)
     (left_nil (four ++ bad_fives vtoc ++ bad_ranges vtoc) (bad_overlaps vtoc) (left_nil (four ++ bad_fives vtoc ++ bad_ranges vtoc ++ bad_overlaps vtoc) (bad_free vtoc) e)))
 
-no_bad_pointers : (vtoc : Vtoc) → breaches_of vtoc ≡ [] → bad_pointers vtoc ≡ []
+pub no_bad_pointers : (vtoc : Vtoc) → breaches_of vtoc ≡ [] → bad_pointers vtoc ≡ []
 no_bad_pointers vtoc e = right_nil (bad_tracks vtoc.run.first vtoc.tracks ++ bad_dscbs vtoc ++ bad_names vtoc) (bad_pointers vtoc) (no_first_four vtoc e)
 
 pub no_bad_dscbs : (vtoc : Vtoc) → breaches_of vtoc ≡ [] → bad_dscbs vtoc ≡ []
@@ -227,10 +227,10 @@ no_bad_dscbs vtoc e =
     right_nil (bad_tracks vtoc.run.first vtoc.tracks) (bad_dscbs vtoc) (left_nil two (bad_names vtoc) (left_nil (two ++ bad_names vtoc) (bad_pointers vtoc) (no_first_four vtoc e)))
 
 -- the records whose pointers name no format 3
-abbrev lost : Vtoc → List Placed
+abbrev pub lost : Vtoc → List Placed
 lost vtoc = filter (λ placed. not (names_3 vtoc placed)) (namers_of vtoc)
 
-no_parts : (vtoc : Vtoc) → breaches_of vtoc ≡ [] → lost vtoc ++ twice_named vtoc ++ orphans vtoc ≡ []
+pub no_parts : (vtoc : Vtoc) → breaches_of vtoc ≡ [] → lost vtoc ++ twice_named vtoc ++ orphans vtoc ≡ []
 no_parts vtoc e = map_nil (breach rules.Pointer) (lost vtoc ++ twice_named vtoc ++ orphans vtoc) (no_bad_pointers vtoc e)
 
 none_twice : (vtoc : Vtoc) → breaches_of vtoc ≡ [] → twice_named vtoc ≡ []
@@ -263,7 +263,7 @@ is_naming vtoc a x n e =
     )
 
 -- an earlier and a later record that are related
-none_related : (related : Placed → Placed → Bool) (xs : List Placed) → later_ones related xs ≡ [] → (i j : ℕ) → i < j → j < length xs → related (record_in xs j) (record_in xs i) ≡ true → ⊥
+pub none_related : (related : Placed → Placed → Bool) (xs : List Placed) → later_ones related xs ≡ [] → (i j : ℕ) → i < j → j < length xs → related (record_in xs j) (record_in xs i) ≡ true → ⊥
 none_related related xs none i j lt less e =
     let earlier : Contains (take j xs) (record_in xs i) =
     (i, omega (arith, lt, less, length-take j xs), any_default (take j xs) i (record_in xs i) blank (omega (arith, lt, less, length-take j xs)) ∙ get_or-take j xs i blank lt) in

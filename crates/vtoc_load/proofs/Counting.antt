@@ -58,7 +58,7 @@ by_formats (placed ∷ records) h =
 
 -- ---- no record is broken
 
-none_broken : (vtoc : Vtoc) → breaches_of vtoc ≡ [] → (placed : Placed) → Contains (records_of vtoc) placed → is_broken (format_of placed.bytes) ≡ false
+pub none_broken : (vtoc : Vtoc) → breaches_of vtoc ≡ [] → (placed : Placed) → Contains (records_of vtoc) placed → is_broken (format_of placed.bytes) ≡ false
 none_broken vtoc e placed there = by (is_broken (format_of placed.bytes)) refl
   where
     test : Placed → Bool
