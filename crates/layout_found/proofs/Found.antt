@@ -9,7 +9,7 @@ use Rattle.vtoc_layout.specs.Layout.{records_in_set, used_records, fives_in_orde
 use Rattle.vtoc_load.proofs.Distinct.{in_later}
 use Rattle.layout_found.specs.Found.{SoundVtocsHaveLayouts}
 use Rattle.layout_found.proofs.Members.{distinct_parts}
-use Rattle.layout_found.proofs.Fives.{linked_fives}
+use Rattle.layout_found.proofs.ChainedFives.{linked_fives}
 use Rattle.layout_found.proofs.Uses.{layout_right}
 use Rattle.layout_found.proofs.Extents.{extents_apart}
 

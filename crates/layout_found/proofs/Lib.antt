@@ -2,7 +2,11 @@ pub mod Members
 pub mod Unrelated
 pub mod Formats
 pub mod Threes
-pub mod Fives
+pub mod ChainedFives
 pub mod Uses
 pub mod Extents
 pub mod Found
+pub mod Gathered
+pub mod FivesInOrder
+pub mod SetsByName
+pub mod Taken

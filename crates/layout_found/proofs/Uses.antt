@@ -25,7 +25,7 @@ use Rattle.layout_found.proofs.Members.{all_by, in_flat, from_map, none_of, dist
 use Rattle.layout_found.proofs.Unrelated.{AreUnrelated, unrelated}
 use Rattle.layout_found.proofs.Formats.{f1_is, f3_is, f5_is}
 use Rattle.layout_found.proofs.Threes.{chain_in, no_three_is_one, set_linked}
-use Rattle.layout_found.proofs.Fives.{AreAllFives, all_fives}
+use Rattle.layout_found.proofs.ChainedFives.{AreAllFives, all_fives}
 
 abbrev is_one : Placed → Bool
 is_one placed = is_f1 (format_of placed.bytes)

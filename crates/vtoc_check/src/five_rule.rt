@@ -85,7 +85,7 @@ pub fn any_five(records: &[Placed]) -> Option<usize>
 }
 
 /// Where the chain of format 5s begins.
-fn first_index(directory: &Directory, records: &[Placed], marks: &[bool]) -> Option<usize>
+pub fn first_index(directory: &Directory, records: &[Placed], marks: &[bool]) -> Option<usize>
     requires { AreNamed directory.now.heads records.now records.now marks.now }
     ensures found { IfSome result (λ k. (k < length records.now) × (first_five (named directory.now.heads records.now) (filter is_five records.now) ≡ Some (record_in records.now k))) }
     ensures none { IfNone result (first_five (named directory.now.heads records.now) (filter is_five records.now) ≡ None) }

@@ -27,7 +27,7 @@ pub use chain::chain_at;
 pub use check::{check_vtoc, lowest_breach};
 pub use directory::Directory;
 pub use fault::VtocFault;
-pub use five_rule::count_fives;
+pub use five_rule::{count_fives, first_index, mark_targets};
 pub use free::used_runs;
 pub use front::vtoc_run;
 pub use reading::Found;
