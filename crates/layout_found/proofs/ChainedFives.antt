@@ -16,8 +16,9 @@ use Rattle.volume_model.specs.Check.{breach, records_of, fives_of, named_by, sam
 use Rattle.vtoc_check.specs.Places.{AreShort}
 use Rattle.vtoc_check.proofs.Order.{ascending}
 use Rattle.vtoc_check.proofs.Marks.{any_passes, passes_any}
-use Rattle.vtoc_layout.specs.FiveChain.{EndsAt, IsFiveChain, walk_of, WalkIsChain}
+use Rattle.vtoc_layout.specs.FiveChain.{EndsAt, IsFiveChain, walk_of}
 use Rattle.vtoc_layout.specs.Layout.{IsLinked, AreLinkedFives, fives_in_order}
+use Rattle.vtoc_layout.proofs.FiveChains.{walk_is_chain}
 use Rattle.vtoc_load.specs.Chained.{AreDistinct}
 use Rattle.vtoc_load.proofs.Distinct.{first_or_later, in_none, in_filter, from_filter, distinct_filter}
 use Rattle.vtoc_load.proofs.Chains.{left_nil, right_nil, map_nil, named_in, distinct_records, one_record}
@@ -128,10 +129,10 @@ none_off vtoc e valid =
 abbrev off_walk : Vtoc → List Placed
 off_walk vtoc = filter (λ five. not (is_among (walk_of vtoc).0 five)) (fives_of vtoc)
 
-right_walk : WalkIsChain → (vtoc : Vtoc) → breaches_of vtoc ≡ [] → vtoc.valid ≡ true → IsRight vtoc (walk_of vtoc).0
-right_walk walks vtoc sound valid =
+right_walk : (vtoc : Vtoc) → breaches_of vtoc ≡ [] → vtoc.valid ≡ true → IsRight vtoc (walk_of vtoc).0
+right_walk vtoc sound valid =
     let P : List Placed → Type 0 = λ wrong. IsFiveChain points (named_by vtoc) (fives_of vtoc) (walk_of vtoc).0 wrong in
-    subst P (left_nil (walk_of vtoc).1 (off_walk vtoc) (none_off vtoc sound valid)) (walks vtoc)
+    subst P (left_nil (walk_of vtoc).1 (off_walk vtoc) (none_off vtoc sound valid)) (walk_is_chain vtoc)
 
 walk_has : (vtoc : Vtoc) → AreShort vtoc.tracks → breaches_of vtoc ≡ [] → vtoc.valid ≡ true → IsRight vtoc (walk_of vtoc).0 → (five : Placed) → IsFive vtoc five → Contains (walk_of vtoc).0 five
 walk_has vtoc short sound valid is five good = by (cases_Bool (is_among (walk_of vtoc).0 five))
@@ -145,12 +146,12 @@ walk_has vtoc short sound valid is five good = by (cases_Bool (is_among (walk_of
         let none = right_nil (walk_of vtoc).1 (off_walk vtoc) (none_off vtoc sound valid) in
         absurd (both_ways true (sym (ap not e) ∙ none_of (λ (p : Placed). not (is_among (walk_of vtoc).0 p)) (fives_of vtoc) none five (in_filter is_five (records_of vtoc) five good.0 good.1)) refl)
 
-pub all_fives : WalkIsChain → (vtoc : Vtoc) → AreShort vtoc.tracks → breaches_of vtoc ≡ [] → AreAllFives vtoc (fives_in_order vtoc)
-all_fives walks vtoc short sound = by vtoc.valid refl
+pub all_fives : (vtoc : Vtoc) → AreShort vtoc.tracks → breaches_of vtoc ≡ [] → AreAllFives vtoc (fives_in_order vtoc)
+all_fives vtoc short sound = by vtoc.valid refl
   where
     by : (t : Bool) → vtoc.valid ≡ t → AreAllFives vtoc (if t then (walk_of vtoc).0 else fives_of vtoc)
     by true valid =
-        let is = right_walk walks vtoc sound valid in
+        let is = right_walk vtoc sound valid in
         record { each = each_five vtoc (walk_of vtoc).0 is; once = distinct_from vtoc (walk_of vtoc).0 is (walk_of vtoc).0 [] refl; all = walk_has vtoc short sound valid is }
     by false valid = record {
       each = from_filter is_five (records_of vtoc);
@@ -158,7 +159,7 @@ all_fives walks vtoc short sound = by vtoc.valid refl
       all = λ five good. in_filter is_five (records_of vtoc) five good.0 good.1;
     }
 
-pub linked_fives : WalkIsChain → (vtoc : Vtoc) → breaches_of vtoc ≡ [] → vtoc.valid ≡ true → AreLinkedFives vtoc.heads (records_of vtoc) (fives_in_order vtoc)
-linked_fives walks vtoc sound valid =
+pub linked_fives : (vtoc : Vtoc) → breaches_of vtoc ≡ [] → vtoc.valid ≡ true → AreLinkedFives vtoc.heads (records_of vtoc) (fives_in_order vtoc)
+linked_fives vtoc sound valid =
     let P : List Placed → Type 0 = λ fives. AreLinkedFives vtoc.heads (records_of vtoc) fives in
-    subst P (sym (ap (λ (t : Bool). if t then (walk_of vtoc).0 else fives_of vtoc) valid)) (linked vtoc (walk_of vtoc).0 (right_walk walks vtoc sound valid))
+    subst P (sym (ap (λ (t : Bool). if t then (walk_of vtoc).0 else fives_of vtoc) valid)) (linked vtoc (walk_of vtoc).0 (right_walk vtoc sound valid))

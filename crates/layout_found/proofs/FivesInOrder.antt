@@ -22,10 +22,10 @@ begins vtoc valid = ap first_of (chained vtoc valid) ∙ (walk_is_chain vtoc).be
 
 fives_from : (vtoc : Vtoc) (first : Placed) (found : List Placed) → AreShort vtoc.tracks → breaches_of vtoc ≡ [] → vtoc.valid ≡ true → first_five (named_by vtoc) (fives_of vtoc) ≡ Some first
     → ((linked : List Placed) → IsLinked vtoc.heads (records_of vtoc) first.bytes linked → length linked ≤ length (records_of vtoc) → found ≡ first ∷ linked) → found ≡ fives_in_order vtoc
-fives_from vtoc first found short sound valid is h = by (fives_in_order vtoc) (begins vtoc valid ∙ is) (linked_fives walk_is_chain vtoc sound valid) few
+fives_from vtoc first found short sound valid is h = by (fives_in_order vtoc) (begins vtoc valid ∙ is) (linked_fives vtoc sound valid) few
   where
     all : AreAllFives vtoc (fives_in_order vtoc)
-    all = all_fives walk_is_chain vtoc short sound
+    all = all_fives vtoc short sound
 
     few : length (fives_in_order vtoc) ≤ length (records_of vtoc)
     few = no_more (fives_in_order vtoc) (records_of vtoc) all.once (all_by (Contains (records_of vtoc)) (fives_in_order vtoc) (λ five c. (all.each five c).0))

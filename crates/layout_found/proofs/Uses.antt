@@ -15,7 +15,6 @@ use Rattle.volume_model.specs.Directory.{same_place}
 use Rattle.volume_model.specs.Check.{breach, records_of, same_bytes, later_ones, bad_tracks, bad_dscbs, bad_names, bad_pointers, breaches_of}
 use Rattle.vtoc_check.specs.Places.{AreShort}
 use Rattle.vtoc_check.proofs.Order.{ascending}
-use Rattle.vtoc_layout.specs.FiveChain.{WalkIsChain}
 use Rattle.vtoc_layout.specs.Layout.{SetRecords, IsLayoutOf, AreSetRecords, records_in_set, used_records, name_of, fives_in_order, set_of, sets_of, layout_of}
 use Rattle.vtoc_load.specs.Chained.{AreDistinct}
 use Rattle.vtoc_load.proofs.Distinct.{first_or_later, at_first, in_later, in_filter, from_filter, distinct_filter, distinct_append, from_flat}
@@ -135,9 +134,9 @@ no_bad_four vtoc sound placed there four =
 
 -- ---- the whole
 
-pub layout_right : WalkIsChain → (vtoc : Vtoc) (four : Placed) → AreShort vtoc.tracks → Contains (records_of vtoc) four → format_of four.bytes ≡ F4 → four.place ≡ vtoc.format_4 → breaches_of vtoc ≡ []
+pub layout_right : (vtoc : Vtoc) (four : Placed) → AreShort vtoc.tracks → Contains (records_of vtoc) four → format_of four.bytes ≡ F4 → four.place ≡ vtoc.format_4 → breaches_of vtoc ≡ []
     → IsLayoutOf vtoc (layout_of vtoc four)
-layout_right walks vtoc four short there four_is four_at sound = record {
+layout_right vtoc four short there four_is four_at sound = record {
   there = all_by (Contains records) (four ∷ (fives ++ flat_map records_in_set (sets_of vtoc))) (λ x c. member x (subst_used x c));
   once = once;
   four_is = four_is;
@@ -158,7 +157,7 @@ layout_right walks vtoc four short there four_is four_at sound = record {
     sets = in_sets vtoc.heads records (ones_of vtoc)
 
     all : AreAllFives vtoc fives
-    all = all_fives walks vtoc short sound
+    all = all_fives vtoc short sound
 
     subst_used : (x : Placed) → Contains (used_records (layout_of vtoc four)) x → Contains (four ∷ (fives ++ sets)) x
     subst_used x c = let P : List Placed → Type 0 = λ found. Contains (four ∷ (fives ++ found)) x in subst P (set_records vtoc) c

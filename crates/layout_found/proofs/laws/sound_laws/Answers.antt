@@ -1,6 +1,5 @@
-use Rattle.vtoc_layout.proofs.FiveChains.{walk_is_chain}
 use Rattle.layout_found.proofs.Found.{found_layout}
 use Rattle.layout_found.proofs.laws.sound_laws.Goals as goal
 
 pub returns : goal.returns
-returns c = record { layout = found_layout walk_is_chain }
+returns c = record { layout = found_layout }
