@@ -1,9 +1,9 @@
 -- The format 5s of a VTOC that breaks no rule.
 use Rattle.std.proofs.Common.{◌≡◌, ◌⊎◌, List, [], ◌∷◌, ◌++◌, map, filter, Bool, true, false, Contains, Option, Some, None, refl, sym, ap, subst, ◌∙◌, inl, inr, append_assoc}
-use Rattle.std.specs.Prelude.{◌&&◌, not, if◌then◌else◌}
+use Rattle.std.specs.Prelude.{not, if◌then◌else◌}
 use Rattle.std.specs.Option.{is_some}
 use Rattle.std.specs.List.{list_any}
-use Rattle.std.proofs.lemmas.Bool.{both_ways, cases_Bool, or_parts, eq-eqb}
+use Rattle.std.proofs.lemmas.Bool.{both_ways, cases_Bool, or_parts}
 use Rattle.std.proofs.lemmas.List.Elements.{Contains-push}
 use Rattle.std.proofs.lemmas.List.Folds.{list_any-append}
 use Rattle.ckd_image.specs.declared.track.Cchhr.{Cchhr}
@@ -19,9 +19,10 @@ use Rattle.vtoc_check.proofs.Marks.{any_passes, passes_any}
 use Rattle.vtoc_layout.specs.FiveChain.{EndsAt, IsFiveChain, walk_of}
 use Rattle.vtoc_layout.specs.Layout.{IsLinked, AreLinkedFives, fives_in_order}
 use Rattle.vtoc_layout.proofs.FiveChains.{walk_is_chain}
-use Rattle.vtoc_load.specs.Chained.{AreDistinct}
-use Rattle.vtoc_load.proofs.Distinct.{first_or_later, in_none, in_filter, from_filter, distinct_filter}
-use Rattle.vtoc_load.proofs.Chains.{left_nil, right_nil, map_nil, named_in, distinct_records, one_record}
+use Rattle.vtoc_layout.specs.Layout.{AreDistinct}
+use Rattle.vtoc_layout.proofs.Uses.{distinct_records, one_record, itself}
+use Rattle.vtoc_layout.proofs.Distinct.{first_or_later, in_none, in_filter, from_filter, distinct_filter}
+use Rattle.vtoc_load.proofs.Chains.{left_nil, right_nil, map_nil, named_in}
 use Rattle.layout_found.proofs.Members.{none_of, first_in, either_first}
 
 abbrev is_five : Placed → Bool
@@ -38,9 +39,6 @@ pub record AreAllFives (vtoc : Vtoc) (fives : List Placed) : Type 0 where
   pub all : (five : Placed) → IsFive vtoc five → Contains fives five
 
 -- ---- a chain, by what is before and behind each
-
-itself : (placed : Placed) → same_place placed.place placed.place ≡ true
-itself placed = (λ i. eq-eqb placed.place.track placed.place.track refl i && eq-eqb placed.place.record_number placed.place.record_number refl i)
 
 no_pointer : (o : Option Cchhr) → is_some o ≡ false → o ≡ None
 no_pointer None e = refl

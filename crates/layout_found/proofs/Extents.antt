@@ -1,39 +1,28 @@
 -- The extents of a VTOC that breaks no rule are apart.
-use Rattle.std.proofs.Common.{◌≡◌, ◌⊎◌, ℕ, List, [], ◌∷◌, ◌++◌, length, map, filter, Bool, true, false, Contains, refl, sym, ap, subst, ◌∙◌, inl, inr, arith}
-use Rattle.std.specs.Prelude.{◌||◌, ◌&&◌, not, nat_lt, nat_le}
+use Rattle.std.proofs.Common.{◌≡◌, ◌⊎◌, List, [], ◌∷◌, ◌++◌, length, map, filter, Bool, true, false, Contains, refl, sym, ap, subst, ◌∙◌, inl, inr, arith}
+use Rattle.std.specs.Prelude.{◌||◌, not, nat_le}
 use Rattle.std.specs.List.{flat_map, list_any}
 use Rattle.std.proofs.lemmas.Bool.{both_ways, cases_Bool, or_parts}
 use borrow.Author.Tests.{leb-true}
-use Rattle.std.proofs.lemmas.List.{map-append}
-use Rattle.std.proofs.lemmas.List.Concat.{flat_map-append}
-use Rattle.std.proofs.lemmas.List.Elements.{All-contains, Contains-append_cases}
 use Rattle.free_map.specs.declared.run.Run.{Run}
 use Rattle.volume_model.specs.declared.extent.ExtentField.{ExtentField}
 use Rattle.volume_model.specs.declared.place.Placed.{Placed}
 use Rattle.volume_model.specs.declared.place.Vtoc.{Vtoc}
 use Rattle.volume_model.specs.declared.rule.VtocRule.TheVariants as rules
 use Rattle.volume_model.specs.Dscbs.{extents_of}
-use Rattle.volume_model.specs.Space.{end_of, overlap, is_run, run_of}
+use Rattle.volume_model.specs.Space.{overlap, is_run, run_of}
 use Rattle.volume_model.specs.Check.{breach, records_of, own_runs, track_0, any_overlap, overlap_within, later_ones, bad_tracks, bad_dscbs, bad_names, bad_pointers, bad_fives, bad_ranges, bad_overlaps, bad_free, breaches_of}
-use Rattle.volume_model.proofs.Filters.{filter_keep}
 use Rattle.vtoc_check.proofs.Marks.{passes_any}
-use Rattle.vtoc_layout.specs.Layout.{SetRecords, Layout, AreApart, AreExtentsApart, records_in_set, extents_in_set, extents_by, runs_by}
-use Rattle.vtoc_load.specs.Chained.{AreDistinct}
-use Rattle.vtoc_load.proofs.Distinct.{at_first, in_later, from_flat}
+use Rattle.vtoc_layout.specs.Layout.{Layout, AreApart, AreExtentsApart, records_in_set, extents_in_set, extents_by, runs_by}
+use Rattle.vtoc_layout.specs.Layout.{AreDistinct}
+use Rattle.vtoc_layout.proofs.Apart.{all_from, overlap_turned, apart_joined}
+use Rattle.vtoc_layout.proofs.ExtentRules.{runs_at, runs_by_records}
+use Rattle.vtoc_layout.proofs.Distinct.{at_first, in_later, from_flat, in_flat, filter_all}
 use Rattle.vtoc_load.proofs.Chains.{left_nil, right_nil, map_nil}
-use Rattle.layout_found.proofs.Members.{all_by, in_flat, none_of}
+use Rattle.layout_found.proofs.Members.{none_of}
 use Rattle.layout_found.proofs.Unrelated.{AreUnrelated, unrelated, unrelated_two}
 
 -- ---- overlaps
-
-and_swap : (a b : Bool) → (a && b) ≡ (b && a)
-and_swap true true = refl
-and_swap true false = refl
-and_swap false true = refl
-and_swap false false = refl
-
-overlap_swap : (a b : Run) → overlap a b ≡ overlap b a
-overlap_swap a b = and_swap (nat_lt a.first (end_of b)) (nat_lt b.first (end_of a))
 
 none_any : {X : Type 0} (test : X → Bool) (xs : List X) (x : X) → list_any test xs ≡ false → Contains xs x → test x ≡ false
 none_any test xs x e c = by (cases_Bool (test x))
@@ -45,20 +34,9 @@ none_any test xs x e c = by (cases_Bool (test x))
 no_overlap : (runs others : List Run) (run other : Run) → any_overlap runs others ≡ false → Contains runs run → Contains others other → overlap run other ≡ false
 no_overlap runs others run other e c d = none_any (overlap run) others other (none_any (λ (r : Run). list_any (overlap r) others) runs run e c) d
 
-apart_joined : (runs others : List Run) → AreApart runs → AreApart others → ((run other : Run) → Contains runs run → Contains others other → overlap run other ≡ false) → AreApart (runs ++ others)
-apart_joined [] others p q h = q
-apart_joined (run ∷ runs) others p q h = (
-  all_by (λ (other : Run). overlap run other ≡ false) (runs ++ others) (λ other c. by other (Contains-append_cases runs others other c)),
-  apart_joined runs others p.1 q (λ r o c d. h r o (in_later run r runs c) d),
-)
-  where
-    by : (other : Run) → (Contains runs other ⊎ Contains others other) → overlap run other ≡ false
-    by other (inl c) = All-contains (λ (other : Run). overlap run other ≡ false) runs other p.0 c
-    by other (inr c) = h run other (at_first run runs) c
-
 apart_unrelated : (runs : List Run) → AreUnrelated overlap runs → AreApart runs
 apart_unrelated [] h = tt
-apart_unrelated (run ∷ runs) h = (all_by (λ (other : Run). overlap run other ≡ false) runs (λ other c. overlap_swap run other ∙ h.0 other c), apart_unrelated runs h.1)
+apart_unrelated (run ∷ runs) h = (all_from (λ (other : Run). overlap run other ≡ false) runs (λ other c. overlap_turned other run (h.0 other c)), apart_unrelated runs h.1)
 
 is_by_not : (b : Bool) → not b ≡ false → b ≡ true
 is_by_not true e = refl
@@ -94,16 +72,8 @@ in_range vtoc sound placed there extent c =
     none : filter test (records_of vtoc) ≡ []
     none = map_nil (breach rules.Range) (filter test (records_of vtoc)) (no_bad_ranges vtoc sound)
 
-filter_whole : {X : Type 0} (test : X → Bool) (xs : List X) → ((x : X) → Contains xs x → test x ≡ true) → filter test xs ≡ xs
-filter_whole test [] h = refl
-filter_whole test (x ∷ xs) h = filter_keep test x xs (h x (at_first x xs)) ∙ ap (λ ys. x ∷ ys) (filter_whole test xs (λ y c. h y (in_later x y xs c)))
-
--- the runs of a record's extents
-abbrev all_runs : ℕ → Placed → List Run
-all_runs heads placed = map (run_of heads) (extents_of placed.bytes)
-
-own_whole : (vtoc : Vtoc) → breaches_of vtoc ≡ [] → (placed : Placed) → Contains (records_of vtoc) placed → own_runs vtoc placed ≡ all_runs vtoc.heads placed
-own_whole vtoc sound placed there = ap (map (run_of vtoc.heads)) (filter_whole (is_run vtoc.heads vtoc.limit) (extents_of placed.bytes) (in_range vtoc sound placed there))
+own_whole : (vtoc : Vtoc) → breaches_of vtoc ≡ [] → (placed : Placed) → Contains (records_of vtoc) placed → own_runs vtoc placed ≡ runs_at vtoc.heads placed
+own_whole vtoc sound placed there = ap (map (run_of vtoc.heads)) (filter_all (is_run vtoc.heads vtoc.limit) (extents_of placed.bytes) (in_range vtoc sound placed there))
 
 abbrev with_own : Vtoc → Placed → Bool
 with_own vtoc placed = any_overlap (own_runs vtoc placed) (track_0 ∷ vtoc.run ∷ []) || overlap_within (own_runs vtoc placed)
@@ -115,8 +85,8 @@ no_overlaps : (vtoc : Vtoc) → breaches_of vtoc ≡ [] → filter (with_own vto
 no_overlaps vtoc sound = map_nil (breach rules.Overlap) (filter (with_own vtoc) (records_of vtoc) ++ later_ones (with_earlier_one vtoc) (records_of vtoc)) (no_bad_overlaps vtoc sound)
 
 record IsApartAlone (vtoc : Vtoc) (placed : Placed) : Type 0 where
-  off : any_overlap (all_runs vtoc.heads placed) (track_0 ∷ vtoc.run ∷ []) ≡ false
-  apart : AreApart (all_runs vtoc.heads placed)
+  off : any_overlap (runs_at vtoc.heads placed) (track_0 ∷ vtoc.run ∷ []) ≡ false
+  apart : AreApart (runs_at vtoc.heads placed)
 
 apart_alone : (vtoc : Vtoc) → breaches_of vtoc ≡ [] → (placed : Placed) → Contains (records_of vtoc) placed → IsApartAlone vtoc placed
 apart_alone vtoc sound placed there =
@@ -129,7 +99,7 @@ apart_alone vtoc sound placed there =
 
 -- runs of two records
 apart_two : (vtoc : Vtoc) → breaches_of vtoc ≡ [] → (a b : Placed) → Contains (records_of vtoc) a → Contains (records_of vtoc) b → ¬ (a ≡ b)
-    → (run other : Run) → Contains (all_runs vtoc.heads a) run → Contains (all_runs vtoc.heads b) other → overlap run other ≡ false
+    → (run other : Run) → Contains (runs_at vtoc.heads a) run → Contains (runs_at vtoc.heads b) other → overlap run other ≡ false
 apart_two vtoc sound a b there_a there_b two run other c d = by (unrelated_two (with_earlier_one vtoc) (records_of vtoc) apart a b there_a there_b two)
   where
     apart : AreUnrelated (with_earlier_one vtoc) (records_of vtoc)
@@ -143,40 +113,28 @@ apart_two vtoc sound a b there_a there_b two run other c d = by (unrelated_two (
 
     by : ((with_earlier_one vtoc a b ≡ false) ⊎ (with_earlier_one vtoc b a ≡ false)) → overlap run other ≡ false
     by (inl e) = no_overlap (own_runs vtoc a) (own_runs vtoc b) run other e own_a own_b
-    by (inr e) = overlap_swap run other ∙ no_overlap (own_runs vtoc b) (own_runs vtoc a) other run e own_b own_a
+    by (inr e) = overlap_turned other run (no_overlap (own_runs vtoc b) (own_runs vtoc a) other run e own_b own_a)
 
 all_apart : (vtoc : Vtoc) → breaches_of vtoc ≡ [] → (placeds : List Placed) → AreDistinct placeds → ((placed : Placed) → Contains placeds placed → Contains (records_of vtoc) placed)
-    → AreApart (flat_map (all_runs vtoc.heads) placeds)
+    → AreApart (flat_map (runs_at vtoc.heads) placeds)
 all_apart vtoc sound [] d there = tt
 all_apart vtoc sound (placed ∷ more) d there =
-    apart_joined (all_runs vtoc.heads placed) (flat_map (all_runs vtoc.heads) more) (apart_alone vtoc sound placed (there placed (at_first placed more))).apart
+    apart_joined (runs_at vtoc.heads placed) (flat_map (runs_at vtoc.heads) more) (apart_alone vtoc sound placed (there placed (at_first placed more))).apart
     (all_apart vtoc sound more d.1 (λ p c. there p (in_later placed p more c)))
     (λ run other c e.
-    let r = from_flat (all_runs vtoc.heads) more other e in
+    let r = from_flat (runs_at vtoc.heads) more other e in
     let P : Placed → Type 0 = λ p. Contains more p in
     apart_two vtoc sound placed r.0 (there placed (at_first placed more)) (there r.0 (in_later placed r.0 more r.1)) (λ same. d.0 (subst P (sym same) r.1)) run other c r.2)
 
 -- ---- the extents of a layout
 
-runs_of_records : (heads : ℕ) (placeds : List Placed) → map (run_of heads) (flat_map (λ placed. extents_of placed.bytes) placeds) ≡ flat_map (all_runs heads) placeds
-runs_of_records heads [] = refl
-runs_of_records heads (placed ∷ more) =
-    map-append (run_of heads) (extents_of placed.bytes) (flat_map (λ (placed : Placed). extents_of placed.bytes) more) ∙ ap (λ (runs : List Run). all_runs heads placed ++ runs) (runs_of_records heads more)
-
-runs_of_sets : (heads : ℕ) (sets : List SetRecords) → map (run_of heads) (flat_map extents_in_set sets) ≡ flat_map (all_runs heads) (flat_map records_in_set sets)
-runs_of_sets heads [] = refl
-runs_of_sets heads (set ∷ sets) =
-    map-append (run_of heads) (extents_in_set set) (flat_map extents_in_set sets)
-    ∙ (λ i. runs_of_records heads (records_in_set set) i ++ runs_of_sets heads sets i)
-    ∙ sym (flat_map-append (all_runs heads) (records_in_set set) (flat_map records_in_set sets))
-
 pub extents_apart : (vtoc : Vtoc) (layout : Layout) → breaches_of vtoc ≡ [] → AreDistinct (flat_map records_in_set layout.sets)
     → ((placed : Placed) → Contains (flat_map records_in_set layout.sets) placed → Contains (records_of vtoc) placed) → AreExtentsApart vtoc layout
 extents_apart vtoc layout sound once there = record {
-  ranges = all_by (λ (extent : ExtentField). is_run vtoc.heads vtoc.limit extent ≡ true) (extents_by layout) range;
-  off_track_0 = all_by (λ (run : Run). overlap run track_0 ≡ false) (runs_by vtoc.heads layout) (λ run c. off run track_0 c (0, omega arith, refl));
-  off_vtoc = all_by (λ (run : Run). overlap run vtoc.run ≡ false) (runs_by vtoc.heads layout) (λ run c. off run vtoc.run c (1, omega arith, refl));
-  apart = subst AreApart (sym (runs_of_sets vtoc.heads layout.sets)) (all_apart vtoc sound placeds once there);
+  ranges = all_from (λ (extent : ExtentField). is_run vtoc.heads vtoc.limit extent ≡ true) (extents_by layout) range;
+  off_track_0 = all_from (λ (run : Run). overlap run track_0 ≡ false) (runs_by vtoc.heads layout) (λ run c. off run track_0 c (0, omega arith, refl));
+  off_vtoc = all_from (λ (run : Run). overlap run vtoc.run ≡ false) (runs_by vtoc.heads layout) (λ run c. off run vtoc.run c (1, omega arith, refl));
+  apart = subst AreApart (sym (runs_by_records vtoc.heads layout)) (all_apart vtoc sound placeds once there);
 }
   where
     placeds : List Placed
@@ -191,5 +149,5 @@ extents_apart vtoc layout sound once there = record {
     off : (run other : Run) → Contains (runs_by vtoc.heads layout) run → Contains (track_0 ∷ vtoc.run ∷ []) other → overlap run other ≡ false
     off run other c d =
         let P : List Run → Type 0 = λ runs. Contains runs run in
-        let r = from_flat (all_runs vtoc.heads) placeds run (subst P (runs_of_sets vtoc.heads layout.sets) c) in
-        no_overlap (all_runs vtoc.heads r.0) (track_0 ∷ vtoc.run ∷ []) run other (apart_alone vtoc sound r.0 (there r.0 r.1)).off r.2 d
+        let r = from_flat (runs_at vtoc.heads) placeds run (subst P (runs_by_records vtoc.heads layout) c) in
+        no_overlap (runs_at vtoc.heads r.0) (track_0 ∷ vtoc.run ∷ []) run other (apart_alone vtoc sound r.0 (there r.0 r.1)).off r.2 d

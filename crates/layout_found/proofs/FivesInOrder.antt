@@ -1,5 +1,5 @@
 -- The format 5s in order, by the first of their chain and those that pointers lead to from it on.
-use Rattle.std.proofs.Common.{◌≡◌, ℕ, ◌≤◌, List, [], ◌∷◌, length, filter, Bool, true, Contains, Option, Some, None, sym, ap, subst, ◌∙◌, arith}
+use Rattle.std.proofs.Common.{◌≡◌, ℕ, ◌≤◌, List, [], ◌∷◌, length, filter, Bool, true, Option, Some, None, sym, ap, subst, ◌∙◌, arith}
 use Rattle.std.specs.Prelude.{if◌then◌else◌}
 use Rattle.volume_model.specs.declared.place.Placed.{Placed}
 use Rattle.volume_model.specs.declared.place.Vtoc.{Vtoc}
@@ -10,8 +10,7 @@ use Rattle.vtoc_check.specs.Pointers.{named}
 use Rattle.vtoc_layout.specs.FiveChain.{walk_of}
 use Rattle.vtoc_layout.specs.Layout.{IsLinked, AreLinkedFives, fives_in_order}
 use Rattle.vtoc_layout.proofs.FiveChains.{walk_is_chain}
-use Rattle.vtoc_load.proofs.Distinct.{no_more}
-use Rattle.layout_found.proofs.Members.{all_by}
+use Rattle.vtoc_layout.proofs.Distinct.{no_more}
 use Rattle.layout_found.proofs.ChainedFives.{AreAllFives, all_fives, linked_fives}
 
 chained : (vtoc : Vtoc) → vtoc.valid ≡ true → fives_in_order vtoc ≡ (walk_of vtoc).0
@@ -28,7 +27,7 @@ fives_from vtoc first found short sound valid is h = by (fives_in_order vtoc) (b
     all = all_fives vtoc short sound
 
     few : length (fives_in_order vtoc) ≤ length (records_of vtoc)
-    few = no_more (fives_in_order vtoc) (records_of vtoc) all.once (all_by (Contains (records_of vtoc)) (fives_in_order vtoc) (λ five c. (all.each five c).0))
+    few = no_more (fives_in_order vtoc) (records_of vtoc) all.once (λ five c. (all.each five c).0)
 
     by : (fives : List Placed) → first_of fives ≡ Some first → AreLinkedFives vtoc.heads (records_of vtoc) fives → length fives ≤ length (records_of vtoc) → found ≡ fives
     by [] e l n = absurd (let nothing : Option Placed = None in let q : nothing ≡ Some first = e in let r : ⊥ = cc in r)

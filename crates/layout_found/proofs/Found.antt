@@ -5,9 +5,8 @@ use Rattle.std.proofs.lemmas.List.Elements.{All-contains, Contains-append_right}
 use Rattle.volume_model.specs.declared.place.Placed.{Placed}
 use Rattle.volume_model.specs.Check.{records_of}
 use Rattle.vtoc_layout.specs.Layout.{records_in_set, used_records, fives_in_order, sets_of, layout_of}
-use Rattle.vtoc_load.proofs.Distinct.{in_later}
+use Rattle.vtoc_layout.proofs.Distinct.{in_later, distinct_back}
 use Rattle.layout_found.specs.Found.{SoundVtocsHaveLayouts}
-use Rattle.layout_found.proofs.Members.{distinct_parts}
 use Rattle.layout_found.proofs.ChainedFives.{linked_fives}
 use Rattle.layout_found.proofs.Uses.{layout_right}
 use Rattle.layout_found.proofs.Extents.{extents_apart}
@@ -18,7 +17,7 @@ found_layout vtoc four sized there four_is four_at sound =
     let of_sets : List Placed = flat_map records_in_set (sets_of vtoc) in (
       right,
       linked_fives vtoc sound,
-      extents_apart vtoc (layout_of vtoc four) sound (distinct_parts (fives_in_order vtoc) of_sets right.once.1).back
+      extents_apart vtoc (layout_of vtoc four) sound (distinct_back (fives_in_order vtoc) of_sets right.once.1)
           (λ placed c.
           All-contains (Contains (records_of vtoc)) (used_records (layout_of vtoc four)) placed right.there (in_later four placed (fives_in_order vtoc ++ of_sets) (Contains-append_right (fives_in_order vtoc) of_sets placed c))),
     )

@@ -13,10 +13,10 @@ use Rattle.volume_model.specs.Check.{records_of, namers_of, named_by, names_3, n
 use Rattle.vtoc_check.specs.Places.{AreShort}
 use Rattle.vtoc_check.proofs.Targets.{named_by_next}
 use Rattle.vtoc_layout.specs.Layout.{IsLinked}
-use Rattle.vtoc_load.specs.Chained.{AreDistinct}
-use Rattle.vtoc_load.proofs.Distinct.{first_or_later, in_none, in_filter, no_more}
+use Rattle.vtoc_layout.specs.Layout.{AreDistinct}
+use Rattle.vtoc_layout.proofs.Distinct.{first_or_later, in_none, in_filter, no_more, distinct_each}
 use Rattle.vtoc_load.proofs.Chains.{chain_at, left_nil, next_in, lost, twice_named, orphans, no_parts, chains_apart}
-use Rattle.layout_found.proofs.Members.{all_by, none_of, distinct_part}
+use Rattle.layout_found.proofs.Members.{none_of}
 use Rattle.layout_found.proofs.Formats.{f1_is, f3_is}
 
 -- a format 1 or 3
@@ -113,7 +113,7 @@ set_linked vtoc short sound a there one = linked vtoc sound (length (records_of 
     start = λ placed. is_f1 (format_of placed.bytes)
 
     distinct : AreDistinct chain
-    distinct = distinct_part (chain_at vtoc.heads records) (filter start records) a (chains_apart vtoc short sound).once (in_filter start records a there one)
+    distinct = distinct_each (chain_at vtoc.heads records) (filter start records) a (chains_apart vtoc short sound).once (in_filter start records a there one)
 
     member : (x : Placed) → Contains (a ∷ chain) x → Contains records x
     member x c = by (first_or_later a x chain c)
@@ -123,4 +123,4 @@ set_linked vtoc short sound a there one = linked vtoc sound (length (records_of 
         by (inr later) = (chain_in vtoc.heads records (length records) a.bytes x later).0
 
     few : length (a ∷ chain) ≤ length records
-    few = no_more (a ∷ chain) records (λ c. no_three_is_one a a refl one (chain_in vtoc.heads records (length records) a.bytes a c).1, distinct) (all_by (Contains records) (a ∷ chain) member)
+    few = no_more (a ∷ chain) records (λ c. no_three_is_one a a refl one (chain_in vtoc.heads records (length records) a.bytes a c).1, distinct) member

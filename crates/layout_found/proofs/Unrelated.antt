@@ -5,7 +5,7 @@ use Rattle.std.specs.List.{list_any}
 use Rattle.std.proofs.lemmas.Bool.{or_parts}
 use Rattle.std.proofs.lemmas.List.Folds.{list_any-append}
 use Rattle.volume_model.specs.Check.{with_earlier, later_ones}
-use Rattle.vtoc_load.proofs.Distinct.{first_or_later, in_none}
+use Rattle.vtoc_layout.proofs.Distinct.{first_or_later, in_none}
 use Rattle.vtoc_load.proofs.Chains.{map_nil}
 
 -- no element of these is related to this one

@@ -16,11 +16,13 @@ use Rattle.volume_model.specs.Check.{breach, records_of, same_bytes, later_ones,
 use Rattle.vtoc_check.specs.Places.{AreShort}
 use Rattle.vtoc_check.proofs.Order.{ascending}
 use Rattle.vtoc_layout.specs.Layout.{SetRecords, IsLayoutOf, AreSetRecords, records_in_set, used_records, name_of, fives_in_order, set_of, sets_of, layout_of}
-use Rattle.vtoc_load.specs.Chained.{AreDistinct}
-use Rattle.vtoc_load.proofs.Distinct.{first_or_later, at_first, in_later, in_filter, from_filter, distinct_filter, distinct_append, from_flat}
-use Rattle.vtoc_load.proofs.Chains.{left_nil, right_nil, map_nil, chain_at, distinct_records, one_record, no_first_four, no_bad_dscbs, chains_apart}
+use Rattle.vtoc_layout.specs.Layout.{AreDistinct}
+use Rattle.vtoc_layout.proofs.Apart.{all_from}
+use Rattle.vtoc_layout.proofs.Uses.{distinct_records, one_record}
+use Rattle.vtoc_layout.proofs.Distinct.{first_or_later, at_first, in_later, in_filter, from_filter, distinct_filter, distinct_append, distinct_front, distinct_back, not_both, from_flat, in_flat, from_map}
+use Rattle.vtoc_load.proofs.Chains.{left_nil, right_nil, map_nil, chain_at, no_first_four, no_bad_dscbs, chains_apart}
 use Rattle.vtoc_load.proofs.Counting.{none_broken}
-use Rattle.layout_found.proofs.Members.{all_by, in_flat, from_map, none_of, distinct_parts}
+use Rattle.layout_found.proofs.Members.{none_of}
 use Rattle.layout_found.proofs.Unrelated.{AreUnrelated, unrelated}
 use Rattle.layout_found.proofs.Formats.{f1_is, f3_is, f5_is}
 use Rattle.layout_found.proofs.Threes.{chain_in, no_three_is_one, set_linked}
@@ -67,13 +69,16 @@ AreOnes ones = (one : Placed) → Contains ones one → is_f1 (format_of one.byt
 distinct_sets : (heads : ℕ) (records ones : List Placed) → AreOnes ones → AreDistinct ones → AreDistinct (flat_map (chain_at heads records) ones) → AreDistinct (in_sets heads records ones)
 distinct_sets heads records [] are once apart = tt
 distinct_sets heads records (one ∷ ones) are once apart =
-    let parts = distinct_parts (chain_at heads records one) (flat_map (chain_at heads records) ones) apart in
+    let mine_once = distinct_front (chain_at heads records one) (flat_map (chain_at heads records) ones) apart in
+    let others_once = distinct_back (chain_at heads records one) (flat_map (chain_at heads records) ones) apart in
+    let not_again : (x : Placed) → Contains (chain_at heads records one) x → Contains (flat_map (chain_at heads records) ones) x → ⊥ =
+    λ x. not_both (chain_at heads records one) (flat_map (chain_at heads records) ones) x apart in
     let behind : (x : Placed) → Contains (chain_at heads records one) x → is_f3 (format_of x.bytes) ≡ true = λ x c. (chain_in heads records (length records) one.bytes x c).1 in
     let mine : is_f1 (format_of one.bytes) ≡ true = are one (at_first one ones) in
     let others : AreOnes ones = λ x c. are x (in_later one x ones c) in (
       λ c. first mine behind (Contains-append_cases (chain_at heads records one) (in_sets heads records ones) one c),
-      distinct_append (chain_at heads records one) (in_sets heads records ones) parts.front (distinct_sets heads records ones others once.1 parts.back)
-          (λ z here there. second z others parts.apart here (behind z here) (which heads records ones z there)),
+      distinct_append (chain_at heads records one) (in_sets heads records ones) mine_once (distinct_sets heads records ones others once.1 others_once)
+          (λ z here there. second z others not_again here (behind z here) (which heads records ones z there)),
     )
   where
     first : is_f1 (format_of one.bytes) ≡ true → ((x : Placed) → Contains (chain_at heads records one) x → is_f3 (format_of x.bytes) ≡ true)
@@ -137,12 +142,12 @@ no_bad_four vtoc sound placed there four =
 pub layout_right : (vtoc : Vtoc) (four : Placed) → AreShort vtoc.tracks → Contains (records_of vtoc) four → format_of four.bytes ≡ F4 → four.place ≡ vtoc.format_4 → breaches_of vtoc ≡ []
     → IsLayoutOf vtoc (layout_of vtoc four)
 layout_right vtoc four short there four_is four_at sound = record {
-  there = all_by (Contains records) (four ∷ (fives ++ flat_map records_in_set (sets_of vtoc))) (λ x c. member x (subst_used x c));
+  there = all_from (Contains records) (four ∷ (fives ++ flat_map records_in_set (sets_of vtoc))) (λ x c. member x (subst_used x c));
   once = once;
   four_is = four_is;
   four_at = four_at;
-  fives_are = all_by (λ (five : Placed). format_of five.bytes ≡ F5) fives (λ five c. f5_is (format_of five.bytes) (all.each five c).1);
-  sets_are = all_by (AreSetRecords vtoc.heads records) (sets_of vtoc) set_right;
+  fives_are = all_from (λ (five : Placed). format_of five.bytes ≡ F5) fives (λ five c. f5_is (format_of five.bytes) (all.each five c).1);
+  sets_are = all_from (AreSetRecords vtoc.heads records) (sets_of vtoc) set_right;
   names = names_apart vtoc (ones_of vtoc) (unrelated same_name (ones_of vtoc) (map_nil (breach rules.Name) (later_ones same_name (ones_of vtoc)) (no_bad_names vtoc sound)));
   rest = rest;
 }
@@ -222,7 +227,7 @@ layout_right vtoc four short there four_is four_at sound = record {
         subst (AreSetRecords vtoc.heads records) found.2 (record {
           one_is = f1_is (format_of found.0.bytes) one.1;
           threes_are =
-              all_by (λ (three : Placed). format_of three.bytes ≡ F3) (chain_at vtoc.heads records found.0)
+              all_from (λ (three : Placed). format_of three.bytes ≡ F3) (chain_at vtoc.heads records found.0)
               (λ three d. f3_is (format_of three.bytes) (chain_in vtoc.heads records (length records) found.0.bytes three d).1);
           linked = set_linked vtoc short sound found.0 one.0 one.1;
         })
