@@ -1,0 +1,5 @@
+//! Tests: the values of SYSIN operands.
+#![tactic(auto)]
+
+#[cfg(test)]
+mod tests;

@@ -1,0 +1,12 @@
+use Rattle.sysin_values.proofs.Waits as waits
+use Rattle.sysin_values.proofs.CriteriaLists as criteria
+use Rattle.sysin_values.proofs.laws.other_laws.Goals as goal
+
+pub returns-clause-wait : goal.returns-clause-wait
+returns-clause-wait c = waits.exact
+
+pub returns-clause-wait_why : goal.returns-clause-wait_why
+returns-clause-wait_why c = waits.tells_why
+
+pub returns-clause-criteria : goal.returns-clause-criteria
+returns-clause-criteria c = criteria.exact

@@ -1,0 +1,11 @@
+pub mod Series
+pub mod Values
+pub mod Progress
+pub mod Begun
+pub mod Exact
+pub mod NoValue
+pub mod Pairs
+pub mod Names
+pub mod Wait
+pub mod Criteria
+pub mod Laws
