@@ -119,7 +119,7 @@ spelled machine text criteria r (ended, same) =
     let s = subst (λ (c : List Criterion). Spell (rules_of text) c) same (read_is_spelled (rules_of text) machine r ended) in
     (s.sequence, λ _. s.few)
 
-given : (machine : Machine) (text : List Token) (criteria : List Criterion) → CriteriaReads machine text → IsCriteria true criteria text → CriteriaGive machine criteria
+pub given : (machine : Machine) (text : List Token) (criteria : List Criterion) → CriteriaReads machine text → IsCriteria true criteria text → CriteriaGive machine criteria
 given machine text criteria r (sequence, few) =
     let s = spelled_is_read (rules_of text) criteria (record { sequence = sequence; few = few refl }) in
     let same : s.0 ≡ machine = let a = s.1 in cc in

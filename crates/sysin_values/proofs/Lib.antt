@@ -5,3 +5,4 @@ pub mod Naming
 pub mod Waits
 pub mod CriteriaLists
 pub mod Said
+pub mod OneValues

@@ -19,9 +19,9 @@ pub record IsExact {X M : Type 0} (Spells : Bool → X → List Token → Type 0
   pub wrong : (progress : M) (text : List Token) (token : Token) (fault : ValueFault) → Reads progress text → Stops progress token fault → ¬ (fault ≡ faults.NoMemory)
       → ¬ Begin Spells (text ++ token ∷ [])
 
--- a token spells one value at most
+-- tokens spell one value at most
 abbrev pub OneValue : {X : Type 0} → (Bool → X → List Token → Type 0) → Type 0
-OneValue {X} Spells = (limited other : Bool) (left right : X) (text : List Token) → Spells limited left text → Spells other right text → left ≡ right
+OneValue {X} Spells = (left right : X) (text : List Token) → Spells true left text → Spells true right text → left ≡ right
 
 -- but for the letters of a word the token is right; lists may have a limit
 abbrev pub MayStand : {X : Type 0} → (Bool → X → List Token → Type 0) → Bool → List Token → Token → Type 0

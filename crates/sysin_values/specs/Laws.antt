@@ -3,7 +3,7 @@ use Rattle.std.specs.Prelude.{◌≡◌, ℕ, List}
 use Rattle.by_rules.specs.Reading.{start as criteria_start}
 use Rattle.sysin_values.specs.declared.place.WaitPlace.TheVariants.{First}
 use Rattle.sysin_values.specs.Values.{SaysDdName, SaysPattern, SaysNumber, IsPatterns, IsOutputs, IsCriteria, IsPairs, IsRename, most_entries, most_outputs}
-use Rattle.sysin_values.specs.Exact.{IsExact, TellsWhy}
+use Rattle.sysin_values.specs.Exact.{IsExact, OneValue, TellsWhy}
 use Rattle.sysin_values.specs.Progress.{start, Goes, Stops, Gives, Reads}
 use Rattle.sysin_values.specs.Pairs.{pair_start, PairGoes, PairStops, PairsGive, PairReads}
 use Rattle.sysin_values.specs.Names.{names_start, NamesGo, NamesStop, NamesGive, NamesRead}
@@ -49,3 +49,7 @@ WaitTellsWhy = TellsWhy SpellsWait WaitStops WaitReads
 
 abbrev pub CriteriaAreExact : Type 0
 CriteriaAreExact = IsExact IsCriteria criteria_start CriteriaGo CriteriaStop CriteriaGive CriteriaReads
+
+-- the same tokens say the same patterns, outputs, pairs, names, criteria
+abbrev pub EachIsOne : Type 0
+EachIsOne = OneValue IsPatterns × OneValue IsOutputs × OneValue IsPairs × OneValue IsRename × OneValue IsCriteria

@@ -1,7 +1,7 @@
 //! What holds of values whatever reads them.
 
 ghost use Rattle.sysin_values.specs.Values.{SaysSerial, SaysDdName, SaysPattern, SaysName, SaysPrefix};
-ghost use Rattle.sysin_values.specs.Laws.{SaysOne, NumberIsOne, PatternsAreExact, PatternsTellWhy, OutputsAreExact, OutputsTellWhy, PairsAreExact, PairsTellWhy, NamesAreExact, NamesTellWhy, WaitIsExact, WaitTellsWhy, CriteriaAreExact};
+ghost use Rattle.sysin_values.specs.Laws.{SaysOne, NumberIsOne, PatternsAreExact, PatternsTellWhy, OutputsAreExact, OutputsTellWhy, PairsAreExact, PairsTellWhy, NamesAreExact, NamesTellWhy, WaitIsExact, WaitTellsWhy, CriteriaAreExact, EachIsOne};
 
 /// A word says one value of a kind at most.
 pub fn word_laws()
@@ -29,9 +29,10 @@ pub fn name_laws()
     ensures names_why { NamesTellWhy }
 {}
 
-/// So are the numbers of WAIT, and criteria.
+/// So are the numbers of WAIT, and criteria; and tokens say one value of a kind at most.
 pub fn other_laws()
     ensures wait { WaitIsExact }
     ensures wait_why { WaitTellsWhy }
     ensures criteria { CriteriaAreExact }
+    ensures one { EachIsOne }
 {}

@@ -1,5 +1,6 @@
 use Rattle.sysin_values.proofs.Waits as waits
 use Rattle.sysin_values.proofs.CriteriaLists as criteria
+use Rattle.sysin_values.proofs.OneValues.{one_patterns, one_outputs, one_pairs, one_rename, one_criteria}
 use Rattle.sysin_values.proofs.laws.other_laws.Goals as goal
 
 pub returns-clause-wait : goal.returns-clause-wait
@@ -10,3 +11,6 @@ returns-clause-wait_why c = waits.tells_why
 
 pub returns-clause-criteria : goal.returns-clause-criteria
 returns-clause-criteria c = criteria.exact
+
+pub returns-clause-one : goal.returns-clause-one
+returns-clause-one c = (one_patterns, one_outputs, one_pairs, one_rename, one_criteria)
