@@ -1,10 +1,13 @@
 ghost use Rattle.std.specs.Prelude.{◌≤◌, length};
 
+use by_rules::Op;
 use dsn_filter::Rename;
 use std::alloc::Global;
 use std::test::*;
+use sysin_heads::{Head, HeadReading};
 use sysin_text::Tokens;
 use sysin_values::*;
+use sysin_words::Which;
 
 /// What the tokens of a text lead to.
 fn read_patterns(alloc: Global, text: &[u8]) -> Result<PatternList, ValueFault>
@@ -172,4 +175,29 @@ fn words_say_values(rt: HostRuntime) {
     assert!(rt; prefix_of(b"A.B").is_none());
     assert!(rt; pattern_of(alloc, b"A.**").is_ok());
     assert_eq!(rt; number_within(1, 4, b"05"), None);
+}
+
+/// Which head the tokens of a text are, where they end it.
+fn head(text: &[u8]) -> Result<Option<Head>, ValueFault>
+    requires { length text.now ≤ 1048576 }
+{
+    let mut reading = HeadReading::new();
+    let mut tokens = Tokens::of(text);
+    'tokens: while let Some(placed) = tokens.take() {
+        reading.take(&placed.token)?;
+    }
+    Ok(reading.finish())
+}
+
+#[test]
+fn heads_are_read(rt: HostRuntime) {
+    assert_eq!(rt; head(b"SET MAXCC=12"), Ok(Some(Head::Set(Which::Max, 12))));
+    assert_eq!(rt;
+        head(b"IF LASTCC >= 8 THEN"),
+        Ok(Some(Head::If(Which::Last, Op::GreaterOrEqual, 8)))
+    );
+    assert_eq!(rt; head(b"IF LASTCC NE 0"), Ok(None));
+    assert_eq!(rt; head(b"SET MAXCC=13"), Err(ValueFault::Value));
+    assert_eq!(rt; head(b"SET CC"), Err(ValueFault::Word));
+    assert_eq!(rt; head(b"SET MAXCC=12 THEN"), Err(ValueFault::Word));
 }
