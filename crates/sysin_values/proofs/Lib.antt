@@ -6,3 +6,4 @@ pub mod Waits
 pub mod CriteriaLists
 pub mod Said
 pub mod OneValues
+pub mod Ends

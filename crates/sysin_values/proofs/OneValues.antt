@@ -1,12 +1,8 @@
 -- Tokens spell one value at most.
-use Rattle.std.proofs.Common.{◌≡◌, ℕ, List, [], ◌∷◌, ◌++◌, refl, sym, ap, subst, ◌∙◌}
-use Rattle.dsn_filter.specs.declared.rename.Rename.{Rename}
+use Rattle.std.proofs.Common.{refl, sym, ap, ◌∙◌}
 use Rattle.dsn_filter.specs.declared.rename.Rename.TheVariants as renames
-use Rattle.by_rules.specs.declared.criterion.Criterion.{Criterion}
 use Rattle.by_rules.proofs.Reader.{spelled_is_read}
-use Rattle.sysin_text.specs.declared.token.Token.{Token}
-use Rattle.sysin_text.specs.declared.token.Token.TheVariants.{Open, Word}
-use Rattle.sysin_values.specs.Values.{IsWordOf, IsPair, IsPatterns, IsOutputs, IsPairs, IsRename, IsCriteria, SaysPattern, SaysDdName, SaysPrefix, rule_of}
+use Rattle.sysin_values.specs.Values.{IsWordOf, IsPair, IsPatterns, IsOutputs, IsPairs, IsRename, IsCriteria, SaysPattern, SaysDdName, SaysPrefix}
 use Rattle.sysin_values.specs.Exact.{OneValue}
 use Rattle.sysin_values.proofs.Lists.{one_list}
 use Rattle.sysin_values.proofs.WordLists.{closed_word, one_word}

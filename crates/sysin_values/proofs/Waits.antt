@@ -13,7 +13,7 @@ use Rattle.sysin_values.specs.Exact.{IsExact, MayStand, IsWhy, TellsWhy}
 use Rattle.sysin_values.specs.Wait.{SaysWait, WaitFits, NumberToken, NumbersNone, WantsNumber, WaitGoes, WaitStops, WaitReads, SpellsWait, WaitGives}
 
 -- the three tokens of both numbers
-waiting_is : (text : List Token) → IsWaiting text → WaitReads places.Ended text
+pub waiting_is : (text : List Token) → IsWaiting text → WaitReads places.Ended text
 waiting_is text ([], two, l) = absurd l
 waiting_is text (a ∷ [], two, l) = absurd (omega arith)
 waiting_is text (a ∷ b ∷ [], two, (front, rest, e, (w, f, s), (v, g, u))) =

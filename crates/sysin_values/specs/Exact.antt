@@ -23,6 +23,10 @@ pub record IsExact {X M : Type 0} (Spells : Bool → X → List Token → Type 0
 abbrev pub OneValue : {X : Type 0} → (Bool → X → List Token → Type 0) → Type 0
 OneValue {X} Spells = (left right : X) (text : List Token) → Spells true left text → Spells true right text → left ≡ right
 
+-- a bracket ends a value: none goes on with it
+abbrev pub EndsAtClose : {X : Type 0} → (Bool → X → List Token → Type 0) → Type 0
+EndsAtClose {X} Spells = (value : X) (text : List Token) → Spells true value text → ¬ Begin Spells (text ++ tokens.Close ∷ [])
+
 -- but for the letters of a word the token is right; lists may have a limit
 abbrev pub MayStand : {X : Type 0} → (Bool → X → List Token → Type 0) → Bool → List Token → Token → Type 0
 MayStand Spells limited text token =

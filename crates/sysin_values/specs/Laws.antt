@@ -3,7 +3,7 @@ use Rattle.std.specs.Prelude.{◌≡◌, ℕ, List}
 use Rattle.by_rules.specs.Reading.{start as criteria_start}
 use Rattle.sysin_values.specs.declared.place.WaitPlace.TheVariants.{First}
 use Rattle.sysin_values.specs.Values.{SaysDdName, SaysPattern, SaysNumber, IsPatterns, IsOutputs, IsCriteria, IsPairs, IsRename, most_entries, most_outputs}
-use Rattle.sysin_values.specs.Exact.{IsExact, OneValue, TellsWhy}
+use Rattle.sysin_values.specs.Exact.{IsExact, OneValue, EndsAtClose, TellsWhy}
 use Rattle.sysin_values.specs.Progress.{start, Goes, Stops, Gives, Reads}
 use Rattle.sysin_values.specs.Pairs.{pair_start, PairGoes, PairStops, PairsGive, PairReads}
 use Rattle.sysin_values.specs.Names.{names_start, NamesGo, NamesStop, NamesGive, NamesRead}
@@ -53,3 +53,7 @@ CriteriaAreExact = IsExact IsCriteria criteria_start CriteriaGo CriteriaStop Cri
 -- the same tokens say the same patterns, outputs, pairs, names, criteria
 abbrev pub EachIsOne : Type 0
 EachIsOne = OneValue IsPatterns × OneValue IsOutputs × OneValue IsPairs × OneValue IsRename × OneValue IsCriteria
+
+-- behind each of these a bracket is none of its tokens
+abbrev pub EachEnds : Type 0
+EachEnds = EndsAtClose IsPatterns × EndsAtClose IsOutputs × EndsAtClose IsPairs × EndsAtClose IsRename × EndsAtClose SpellsWait × EndsAtClose IsCriteria

@@ -1,7 +1,7 @@
 //! What holds of values whatever reads them.
 
 ghost use Rattle.sysin_values.specs.Values.{SaysSerial, SaysDdName, SaysPattern, SaysName, SaysPrefix};
-ghost use Rattle.sysin_values.specs.Laws.{SaysOne, NumberIsOne, PatternsAreExact, PatternsTellWhy, OutputsAreExact, OutputsTellWhy, PairsAreExact, PairsTellWhy, NamesAreExact, NamesTellWhy, WaitIsExact, WaitTellsWhy, CriteriaAreExact, EachIsOne};
+ghost use Rattle.sysin_values.specs.Laws.{SaysOne, NumberIsOne, PatternsAreExact, PatternsTellWhy, OutputsAreExact, OutputsTellWhy, PairsAreExact, PairsTellWhy, NamesAreExact, NamesTellWhy, WaitIsExact, WaitTellsWhy, CriteriaAreExact, EachIsOne, EachEnds};
 
 /// A word says one value of a kind at most.
 pub fn word_laws()
@@ -29,10 +29,11 @@ pub fn name_laws()
     ensures names_why { NamesTellWhy }
 {}
 
-/// So are the numbers of WAIT, and criteria; and tokens say one value of a kind at most.
+/// So are the numbers of WAIT, and criteria; tokens say one value of a kind at most, and a bracket ends it.
 pub fn other_laws()
     ensures wait { WaitIsExact }
     ensures wait_why { WaitTellsWhy }
     ensures criteria { CriteriaAreExact }
     ensures one { EachIsOne }
+    ensures ends { EachEnds }
 {}

@@ -1,6 +1,7 @@
 use Rattle.sysin_values.proofs.Waits as waits
 use Rattle.sysin_values.proofs.CriteriaLists as criteria
 use Rattle.sysin_values.proofs.OneValues.{one_patterns, one_outputs, one_pairs, one_rename, one_criteria}
+use Rattle.sysin_values.proofs.Ends.{patterns_end, outputs_end, pairs_end, rename_ends, wait_ends, criteria_end}
 use Rattle.sysin_values.proofs.laws.other_laws.Goals as goal
 
 pub returns-clause-wait : goal.returns-clause-wait
@@ -14,3 +15,6 @@ returns-clause-criteria c = criteria.exact
 
 pub returns-clause-one : goal.returns-clause-one
 returns-clause-one c = (one_patterns, one_outputs, one_pairs, one_rename, one_criteria)
+
+pub returns-clause-ends : goal.returns-clause-ends
+returns-clause-ends c = (patterns_end, outputs_end, pairs_end, rename_ends, wait_ends, criteria_end)
