@@ -1,25 +1,24 @@
 -- What is held of a layout has places of its own.
-use Rattle.std.proofs.Common.{◌≡◌, ◌⊎◌, ℕ, ◌+◌, ◌*◌, ◌≤◌, List, [], ◌∷◌, ◌++◌, length, map, true, false, Contains, refl, sym, ap, subst, ◌∙◌, arith, inl, inr}
+use Rattle.std.proofs.Common.{◌≡◌, ◌⊎◌, ℕ, ◌+◌, ◌*◌, ◌≤◌, List, [], ◌∷◌, ◌++◌, length, map, false, Contains, refl, sym, ap, subst, ◌∙◌, arith, inl, inr}
 use Rattle.std.specs.List.{flat_map}
 use Rattle.std.proofs.lemmas.List.{map-append}
 use Rattle.std.proofs.lemmas.List.Elements.{Contains-append_cases}
 use Rattle.volume_model.specs.declared.place.Place.{Place}
 use Rattle.volume_model.specs.declared.place.Placed.{Placed}
 use Rattle.volume_model.specs.declared.place.Vtoc.{Vtoc}
-use Rattle.volume_model.specs.Dscbs.{format_of}
 use Rattle.volume_model.specs.Check.{records_of}
 use Rattle.vtoc_core.specs.Shrink.{is_free_dscb}
 use Rattle.vtoc_check.specs.Places.{number_of, IsAscending}
 use Rattle.vtoc_check.specs.Sized.{IsSized}
 use Rattle.vtoc_check.proofs.Order.{ascending, above}
-use Rattle.vtoc_layout.specs.Layout.{AreDistinct, SetRecords, Layout, IsLayoutOf, records_in_set, used_records}
+use Rattle.vtoc_layout.specs.Layout.{AreDistinct, SetRecords, Layout, IsLayoutOf, records_in_set}
 use Rattle.vtoc_layout.proofs.Apart.{all_from}
-use Rattle.vtoc_layout.proofs.Distinct.{first_or_later, at_first, in_later, in_front, in_back, distinct_front, distinct_back, not_both, distinct_append, from_flat, in_map, from_map}
-use Rattle.vtoc_layout.proofs.Uses.{used_there, five_there, set_there, five_format, three_format, set_is, distinct_fives, distinct_of_sets}
+use Rattle.vtoc_layout.proofs.Distinct.{first_or_later, in_front, in_back, distinct_front, distinct_back, not_both, distinct_append, from_flat, from_map}
+use Rattle.vtoc_layout.proofs.Uses.{five_there, set_there, five_format, three_format, set_is, distinct_fives, distinct_of_sets}
 use Rattle.layout_edit.specs.Change.{place_of}
 use Rattle.layout_edit.proofs.Changes.{flat_three}
 use Rattle.vtoc_allot.specs.declared.held.Held.{Held}
-use Rattle.vtoc_allot.specs.Allotted.{listed, is_free, held_places, IsHeld}
+use Rattle.vtoc_allot.specs.Allotted.{is_free, held_places, IsHeld}
 use Rattle.vtoc_plan.specs.Plan.{HoldsLayout}
 use Rattle.vtoc_plan.proofs.Lists.{distinct_images}
 
@@ -27,10 +26,11 @@ use Rattle.vtoc_plan.proofs.Lists.{distinct_images}
 
 distinct_ascending : (from : ℕ) (records : List Placed) → IsAscending from records → AreDistinct (map place_of records)
 distinct_ascending from [] h = tt
-distinct_ascending from (placed ∷ more) h =
-    ((λ c. let at = from_map place_of more placed.place c in
-    omega (arith, above (number_of placed.place + 1) more at.1.0 at.0 h.2 at.1.1, ap (λ (p : Placed). number_of p.place) at.1.2, ap number_of at.2)),
-    distinct_ascending (number_of placed.place + 1) more h.2)
+distinct_ascending from (placed ∷ more) h = (
+  (λ c. let at = from_map place_of more placed.place c in
+      omega (arith, above (number_of placed.place + 1) more at.1.0 at.0 h.2 at.1.1, ap (λ (p : Placed). number_of p.place) at.1.2, ap number_of at.2)),
+  distinct_ascending (number_of placed.place + 1) more h.2,
+)
 
 -- each record has a place of its own
 pub places_apart : (vtoc : Vtoc) → IsSized vtoc → AreDistinct (map place_of (records_of vtoc))

@@ -1,16 +1,18 @@
 -- Lists of distinct elements in other orders.
-use Rattle.std.proofs.Common.{◌≡◌, ◌⊎◌, ℕ, zero, suc, List, [], ◌∷◌, ◌++◌, map, take, drop, Contains, refl, sym, ap, subst, ◌∙◌, arith, inl, inr}
+use Rattle.std.proofs.Common.{◌≡◌, ◌⊎◌, List, [], ◌∷◌, ◌++◌, map, Contains, subst, inl, inr}
 use Rattle.std.proofs.lemmas.List.Elements.{Contains-append_cases}
 use Rattle.vtoc_layout.specs.Layout.{AreDistinct}
-use Rattle.vtoc_layout.proofs.Distinct.{first_or_later, at_first, in_none, in_later, in_front, in_back, distinct_front, distinct_back, not_both, distinct_append, in_map, from_map, one_of_map}
+use Rattle.vtoc_layout.proofs.Distinct.{at_first, in_later, in_front, in_back, distinct_front, distinct_back, not_both, distinct_append, from_map, one_of_map}
 
 -- elements of a list whose images are distinct have distinct images
 pub distinct_images : {X Y : Type 0} (f : X → Y) (all xs : List X) → AreDistinct (map f all) → ((x : X) → Contains xs x → Contains all x) → AreDistinct xs → AreDistinct (map f xs)
 distinct_images f all [] apart there d = tt
-distinct_images {X} {Y} f all (x ∷ xs) apart there d =
-    ((λ c. let from = from_map f xs (f x) c in
-    let same : from.0 ≡ x = one_of_map f all from.0 x apart (there from.0 (in_later x from.0 xs from.1)) (there x (at_first x xs)) from.2 in
-    d.0 (subst (Contains xs) same from.1)), distinct_images f all xs apart (λ y c. there y (in_later x y xs c)) d.1)
+distinct_images {X} {Y} f all (x ∷ xs) apart there d = (
+  (λ c. let from = from_map f xs (f x) c in
+      let same : from.0 ≡ x = one_of_map f all from.0 x apart (there from.0 (in_later x from.0 xs from.1)) (there x (at_first x xs)) from.2 in
+      d.0 (subst (Contains xs) same from.1)),
+  distinct_images f all xs apart (λ y c. there y (in_later x y xs c)) d.1,
+)
 
 -- other distinct elements of the second list
 pub with_back : {X : Type 0} (xs ys zs : List X) → AreDistinct (xs ++ ys) → AreDistinct zs → ((z : X) → Contains zs z → Contains ys z) → AreDistinct (xs ++ zs)
@@ -72,3 +74,10 @@ pub six_turned : {X : Type 0} (a a' b b' c c' : List X) → AreDistinct ((a ++ a
 six_turned a a' b b' c c' h =
     middle_turned a a' (b ++ c) (b' ++ c')
     (with_back (a ++ a') ((b ++ b') ++ (c ++ c')) ((b ++ c) ++ (b' ++ c')) h (middle_turned b b' c c' (distinct_back (a ++ a') ((b ++ b') ++ (c ++ c')) h)) (λ z p. middle_there b c b' c' z p))
+
+pub six_back : {X : Type 0} (a a' b b' c c' : List X) (z : X) → Contains ((a ++ (b ++ c)) ++ (a' ++ (b' ++ c'))) z → Contains ((a ++ a') ++ ((b ++ b') ++ (c ++ c'))) z
+six_back {X} a a' b b' c c' z h = by (Contains-append_cases (a ++ a') ((b ++ c) ++ (b' ++ c')) z (middle_there a (b ++ c) a' (b' ++ c') z h))
+  where
+    by : (Contains (a ++ a') z ⊎ Contains ((b ++ c) ++ (b' ++ c')) z) → Contains ((a ++ a') ++ ((b ++ b') ++ (c ++ c'))) z
+    by (inl p) = in_front (a ++ a') ((b ++ b') ++ (c ++ c')) z p
+    by (inr q) = in_back (a ++ a') ((b ++ b') ++ (c ++ c')) z (middle_there b c b' c' z q)

@@ -1,12 +1,11 @@
 -- What is written says the extents and the entries that are wanted.
-use Rattle.std.proofs.Common.{◌≡◌, ℕ, ◌≤◌, List, [], ◌∷◌, ◌++◌, length, map, filter, take, drop, Bool, true, false, cond, All, Contains, Option, Some, None, refl, sym, ap, subst, ◌∙◌, arith, length-append}
+use Rattle.std.proofs.Common.{◌≡◌, ℕ, ◌≤◌, List, [], ◌∷◌, ◌++◌, length, map, filter, take, drop, Bool, true, false, cond, All, refl, sym, ap, ◌∙◌, arith, length-append}
 use Rattle.std.specs.Prelude.{nat_lt}
 use Rattle.std.specs.List.{flat_map}
 use Rattle.std.proofs.lemmas.Bool.{ltb-false}
-use Rattle.std.proofs.lemmas.List.{map-append, length-map, take-append-drop, drop_all}
-use Rattle.std.proofs.lemmas.List.Elements.{All-head, All-tail}
+use Rattle.std.proofs.lemmas.List.{map-append, length-map, take-append-drop, drop_all, append-nil}
+use Rattle.std.proofs.lemmas.List.Elements.{All-head}
 use Rattle.volume_model.specs.declared.extent.ExtentField.{ExtentField}
-use Rattle.volume_model.specs.declared.place.Place.{Place}
 use Rattle.volume_model.specs.declared.place.Placed.{Placed}
 use Rattle.free_map.specs.declared.run.Run.{Run}
 use Rattle.volume_model.specs.Dscbs.{extents_of}
@@ -21,7 +20,7 @@ use Rattle.dscb_made.specs.Made.{IsFormat3With}
 use Rattle.vtoc_allot.specs.declared.held.Wanted.{Wanted}
 use Rattle.vtoc_allot.specs.declared.places.Allotment.{Allotment}
 use Rattle.vtoc_allot.specs.Allotted.{listed, one_if}
-use Rattle.vtoc_plan.specs.Plan.{Putting, IsPut, AreFivesWith, Wants, ArePut}
+use Rattle.vtoc_plan.specs.Plan.{Putting, AreFivesWith, Wants, ArePut}
 
 -- ---- entries
 
@@ -49,11 +48,7 @@ further extents [] are long = sym (ap (map field_of) (short_drop 3 extents (by (
     by true e = absurd (omega (arith, e))
     by false e = refl
 further extents (three ∷ []) are long =
-    ap (λ (xs : List ExtentField). xs ++ []) (All-head (λ (three : Placed). IsFormat3With extents three.bytes) three [] are).extents_are ∙ append_nil (map field_of (drop 3 extents))
-  where
-    append_nil : (xs : List ExtentField) → xs ++ [] ≡ xs
-    append_nil [] = refl
-    append_nil (x ∷ xs) = ap (λ (ys : List ExtentField). x ∷ ys) (append_nil xs)
+    ap (λ (xs : List ExtentField). xs ++ []) (All-head (λ (three : Placed). IsFormat3With extents three.bytes) three [] are).extents_are ∙ append-nil (map field_of (drop 3 extents))
 further extents (three ∷ other ∷ more) are long = absurd (by (nat_lt 3 (length extents)) long)
   where
     by : (t : Bool) → length (three ∷ other ∷ more) ≡ cond t 1 0 → ⊥

@@ -1,11 +1,10 @@
 -- DSCBs that a change writes at the places that were allotted to it.
-use Rattle.std.specs.Prelude.{◌≡◌, ◌≢◌, ◌⊎◌, ℕ, ◌+◌, ◌*◌, ◌<◌, ◌≤◌, Bool, true, false, nat_lt, nat_le, if◌then◌else◌, List, [], ◌∷◌, ◌++◌, length, map, filter, take, drop, All, Contains, Option, Some, None, IfSome}
+use Rattle.std.specs.Prelude.{◌≡◌, ◌≢◌, ℕ, ◌≤◌, nat_lt, if◌then◌else◌, List, [], ◌∷◌, ◌++◌, length, map, filter, take, All, Option, Some, None}
 use Rattle.std.specs.List.{flat_map}
 use Rattle.ckd_image.specs.declared.track.Cchhr.{Cchhr}
 use Rattle.ckd_image.specs.Address.{address_of}
 use Rattle.dscb_rec.specs.declared.field.Extent.{Extent}
 use Rattle.dscb_rec.specs.declared.field.Entry5.{Entry5}
-use Rattle.dscb_rec.specs.Field.{IsEntry5}
 use Rattle.volume_model.specs.declared.place.Place.{Place}
 use Rattle.volume_model.specs.declared.place.Placed.{Placed}
 use Rattle.volume_model.specs.declared.place.Vtoc.{Vtoc}
@@ -15,8 +14,8 @@ use Rattle.volume_model.specs.Check.{records_of}
 use Rattle.vtoc_check.specs.Sized.{IsSized}
 use Rattle.vtoc_core.specs.Edit.{run_of_entry}
 use Rattle.vtoc_core.specs.Loaded.{field_of}
-use Rattle.vtoc_layout.specs.Layout.{AreDistinct, SetRecords, Layout, IsLayoutOf, name_of, extents_in_set, layout_of, entries_by}
-use Rattle.layout_edit.specs.Change.{place_of, LayoutChange, IsChangeOf, layout_after}
+use Rattle.vtoc_layout.specs.Layout.{AreDistinct, SetRecords, Layout, IsLayoutOf, name_of, extents_in_set, entries_by}
+use Rattle.layout_edit.specs.Change.{place_of, LayoutChange, IsChangeOf}
 use Rattle.dscb_made.specs.Made.{IsFormat1With, IsFormat3With, IsFormat5With, IsStatedFormat4}
 use Rattle.vtoc_allot.specs.declared.held.Held.{Held}
 use Rattle.vtoc_allot.specs.declared.held.Wanted.{Wanted}
