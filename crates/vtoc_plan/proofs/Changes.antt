@@ -169,7 +169,7 @@ module _ (vtoc : Vtoc) (layout : Layout) (front gone back : List SetRecords) (he
   names_before : AreDistinct (map name_of (front ++ (gone ++ back)))
   names_before = let N : List SetRecords → Type 0 = λ sets. AreDistinct (map name_of sets) in subst N sets_are is.names
 
-  pub is_change : IsChangeOf vtoc layout front gone back change
+  is_change : IsChangeOf vtoc layout front gone back change
   is_change = record {
     sets_are = sets_are;
     once = once;

@@ -64,7 +64,7 @@ module _ (vtoc : Vtoc) (layout : Layout) (front gone back : List SetRecords) (si
   abbrev of_back : List Placed
   of_back = flat_map records_in_set back
 
-  pub sets_before : flat_map records_in_set layout.sets ≡ of_front ++ (of_gone ++ of_back)
+  sets_before : flat_map records_in_set layout.sets ≡ of_front ++ (of_gone ++ of_back)
   sets_before = ap (flat_map records_in_set) sets_are ∙ flat_three records_in_set front gone back
 
   pub in_gone : (placed : Placed) → Contains of_gone placed → Contains (flat_map records_in_set layout.sets) placed
@@ -82,7 +82,7 @@ module _ (vtoc : Vtoc) (layout : Layout) (front gone back : List SetRecords) (si
   pub distinct_sets : AreDistinct (of_front ++ (of_gone ++ of_back))
   distinct_sets = let E : List Placed → Type 0 = λ xs. AreDistinct xs in subst E sets_before (distinct_of_sets vtoc layout sized is)
 
-  pub held_distinct : AreDistinct (records_held layout gone)
+  held_distinct : AreDistinct (records_held layout gone)
   held_distinct =
       distinct_append of_gone layout.fives (distinct_front of_gone of_back (distinct_back of_front (of_gone ++ of_back) distinct_sets)) (distinct_fives vtoc layout sized is)
       (λ z p q. not_both layout.fives (flat_map records_in_set layout.sets) z is.once.1 q (in_gone z p))
@@ -104,7 +104,7 @@ module _ (vtoc : Vtoc) (layout : Layout) (front gone back : List SetRecords) (si
       by set p (inl first) = ap is_free (sym first) ∙ ap is_free_dscb (set_is vtoc layout sized is set p).one_is
       by set p (inr later) = ap is_free_dscb (three_format vtoc layout sized is set placed p later)
 
-  pub held_used : (placed : Placed) → Contains (records_held layout gone) placed → is_free placed ≡ false
+  held_used : (placed : Placed) → Contains (records_held layout gone) placed → is_free placed ≡ false
   held_used placed c = by (Contains-append_cases of_gone layout.fives placed c)
     where
       by : (Contains of_gone placed ⊎ Contains layout.fives placed) → is_free placed ≡ false

@@ -22,7 +22,7 @@ pub swapped : {X : Type 0} (xs ys : List X) → AreDistinct (xs ++ ys) → AreDi
 swapped xs ys d = distinct_append ys xs (distinct_back xs ys d) (distinct_front xs ys d) (λ z p q. not_both xs ys z d q p)
 
 -- an element of four lists
-pub from_four : {X : Type 0} (a b c d : List X) (z : X) → Contains ((a ++ b) ++ (c ++ d)) z → (Contains a z ⊎ Contains b z) ⊎ (Contains c z ⊎ Contains d z)
+from_four : {X : Type 0} (a b c d : List X) (z : X) → Contains ((a ++ b) ++ (c ++ d)) z → (Contains a z ⊎ Contains b z) ⊎ (Contains c z ⊎ Contains d z)
 from_four {X} a b c d z h = by (Contains-append_cases (a ++ b) (c ++ d) z h)
   where
     by : (Contains (a ++ b) z ⊎ Contains (c ++ d) z) → (Contains a z ⊎ Contains b z) ⊎ (Contains c z ⊎ Contains d z)

@@ -49,7 +49,7 @@ one_parts true one = append-nil one
 one_parts false one = refl
 
 module _ (records : List Placed) (second : Place) (held : Held) (wanted : Wanted) (allotment : Allotment) (is : IsHeld records held) (apart : AreDistinct (map place_of records)) (made : IsAllotted records second held wanted allotment) where
-  abbrev pub given : List Place
+  abbrev given : List Place
   given = given_back held wanted
 
   abbrev k1 : List Place
@@ -70,13 +70,13 @@ module _ (records : List Placed) (second : Place) (held : Held) (wanted : Wanted
   abbrev g5 : List Place
   g5 = drop wanted.fives held.fives
 
-  abbrev pub kept : List Place
+  abbrev kept : List Place
   kept = k1 ++ (k3 ++ k5)
 
   abbrev first : List Place
   first = listed made.first
 
-  abbrev pub new : List Place
+  abbrev new : List Place
   new = first ++ (made.ones ++ (made.threes ++ made.fives))
 
   abbrev pub freed : List Place
@@ -88,12 +88,12 @@ module _ (records : List Placed) (second : Place) (held : Held) (wanted : Wanted
   kept_and_given : AreDistinct (kept ++ given)
   kept_and_given = let D : List Place → Type 0 = λ xs. AreDistinct xs in six_turned k1 g1 k3 g3 k5 g5 (subst D held_parts is.apart)
 
-  pub kept_or_given : (z : Place) → Contains (held_places held) z → Contains kept z ⊎ Contains given z
+  kept_or_given : (z : Place) → Contains (held_places held) z → Contains kept z ⊎ Contains given z
   kept_or_given z c =
       let P : List Place → Type 0 = λ xs. Contains xs z in
       Contains-append_cases kept given z (six_there k1 g1 k3 g3 k5 g5 z (subst P held_parts c))
 
-  pub kept_held : (z : Place) → Contains kept z → Contains (held_places held) z
+  kept_held : (z : Place) → Contains kept z → Contains (held_places held) z
   kept_held z c =
       let P : List Place → Type 0 = λ xs. Contains xs z in
       subst P (sym held_parts) (six_back k1 g1 k3 g3 k5 g5 z (in_front kept given z c))
@@ -124,7 +124,7 @@ module _ (records : List Placed) (second : Place) (held : Held) (wanted : Wanted
       (taken_distinct second (wants_first held wanted) (pool_of records given) first made.pool (distinct_map_filter place_of (λ placed. is_free placed || is_at given placed.place) records apart) made.first_is))
 
   -- a place that is taken is that of a free record, or is given back
-  pub new_place : (z : Place) → Contains new z → (placed : Placed) × Contains records placed × (placed.place ≡ z) × ((is_free placed ≡ true) ⊎ Contains given z)
+  new_place : (z : Place) → Contains new z → (placed : Placed) × Contains records placed × (placed.place ≡ z) × ((is_free placed ≡ true) ⊎ Contains given z)
   new_place z c =
       let P : List Place → Type 0 = λ xs. Contains xs z in
       in_pool z (taken_there second (wants_first held wanted) (pool_of records given) first made.pool z made.first_is (subst P (sym all_taken) (in_front new made.parts.left z c)))
@@ -141,7 +141,7 @@ module _ (records : List Placed) (second : Place) (held : Held) (wanted : Wanted
 
   -- ---- what is freed
 
-  pub freed_given : (z : Place) → Contains freed z → Contains given z
+  freed_given : (z : Place) → Contains freed z → Contains given z
   freed_given z c = (from_filter (λ (place : Place). not (is_at new place)) given z c).0
 
   new_not_freed : (z : Place) → Contains new z → Contains freed z → ⊥
@@ -257,7 +257,7 @@ module _ (records : List Placed) (second : Place) (held : Held) (wanted : Wanted
       five_or z p (inr q) = five_freed z p q
 
   -- each is kept, taken or freed
-  pub from_places : (z : Place) → Contains places z → Contains kept z ⊎ (Contains new z ⊎ Contains freed z)
+  from_places : (z : Place) → Contains places z → Contains kept z ⊎ (Contains new z ⊎ Contains freed z)
   from_places z c = by (Contains-append_cases (k5 ++ n5) (put ++ freed) z c)
     where
       in_five : (Contains k5 z ⊎ Contains n5 z) → Contains kept z ⊎ (Contains new z ⊎ Contains freed z)

@@ -51,7 +51,7 @@ are_fives heads (entries ∷ parts) (five ∷ fives) made = All-cons (λ (five :
 
 -- ---- where pointers lead
 
-pub place_named : (heads : ℕ) (place : Place) → named_place heads (pointer_to heads place) ≡ place
+place_named : (heads : ℕ) (place : Place) → named_place heads (pointer_to heads place) ≡ place
 place_named heads place = (λ i. record { track = div-add-mod' place.track heads i; record_number = place.record_number })
 
 places_after : (edits records : List Placed) → map place_of (after_edits edits records) ≡ map place_of records
@@ -75,7 +75,7 @@ module _ (heads : ℕ) (some_heads : 1 ≤ heads) (edits records : List Placed) 
       subst P same (in_map edited records at.0 at.1)
 
   -- the pointer to what is written leads there
-  pub edit_found : (edit : Placed) → Contains edits edit → named_record heads after (Some (pointer_to heads edit.place)) ≡ Some edit
+  edit_found : (edit : Placed) → Contains edits edit → named_record heads after (Some (pointer_to heads edit.place)) ≡ Some edit
   edit_found edit c =
       let D : List Place → Type 0 = λ xs. AreDistinct xs in
       ap (λ (b : Bool). cond b (record_at after (named_place heads (pointer_to heads edit.place))) None) (lt-ltb (edit.place.track % heads) heads (mod-lt edit.place.track some_heads))
@@ -128,7 +128,7 @@ module _ (heads : ℕ) (some_heads : 1 ≤ heads) (edits records : List Placed) 
 
 -- ---- names
 
-pub names_three : (xs ys zs : List SetRecords) → map name_of (xs ++ (ys ++ zs)) ≡ map name_of xs ++ (map name_of ys ++ map name_of zs)
+names_three : (xs ys zs : List SetRecords) → map name_of (xs ++ (ys ++ zs)) ≡ map name_of xs ++ (map name_of ys ++ map name_of zs)
 names_three xs ys zs = map-append name_of xs (ys ++ zs) ∙ ap (λ (names : List (List ℕ)). map name_of xs ++ names) (map-append name_of ys zs)
 
 pub names_apart : (heads : ℕ) (putting : List Putting) (allotment : Allotment) (front gone back put : List SetRecords) → AreDistinct (map name_of (front ++ (gone ++ back))) → MayBePut (front ++ back) putting
