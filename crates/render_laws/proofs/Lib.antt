@@ -1,0 +1,5 @@
+mod Indicators
+mod Before
+mod LayoutAfter
+mod SpaceAfter
+mod VolumeAfter
