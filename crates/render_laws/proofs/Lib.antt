@@ -3,3 +3,5 @@ mod Before
 mod LayoutAfter
 mod SpaceAfter
 mod VolumeAfter
+mod MarkedLayout
+mod MarkedVolume
