@@ -44,7 +44,7 @@ so_many_fives heads (entries ∷ parts) [] h = absurd h
 so_many_fives heads (entries ∷ parts) (five ∷ fives) h = omega (arith, so_many_fives heads parts fives h.1)
 
 -- a VTOC has as many format 5s as its layout
-pub length_fives : (vtoc : Vtoc) (layout : Layout) → IsSized vtoc → IsLayoutOf vtoc layout → length (fives_of vtoc) ≡ length layout.fives
+length_fives : (vtoc : Vtoc) (layout : Layout) → IsSized vtoc → IsLayoutOf vtoc layout → length (fives_of vtoc) ≡ length layout.fives
 length_fives vtoc layout sized is =
     let place : Placed → Place = λ placed. placed.place in
     let moved = map_permuted place (fives_of vtoc) layout.fives (distinct_f5s vtoc layout sized is) (distinct_fives vtoc layout sized is) (same_fives vtoc layout sized is) in
@@ -60,7 +60,7 @@ module _ {vtoc : Vtoc} {four : Placed} {front gone back : List SetRecords} {putt
   abbrev layout : Layout
   layout = layout_after front change back
 
-  pub made : IsChangeOf vtoc (layout_of vtoc four) front gone back change
+  made : IsChangeOf vtoc (layout_of vtoc four) front gone back change
   made =
       change_is vtoc (layout_of vtoc four) front gone back plan.held plan.wanted plan.second plan.allotment putting parts plan.highest plan.free change sized has plan.sets_are plan.one_gone
       plan.holds plan.wants plan.may plan.allotted plan.planned

@@ -1,7 +1,7 @@
-mod Indicators
-mod Before
-mod LayoutAfter
-mod SpaceAfter
-mod VolumeAfter
-mod MarkedLayout
-mod MarkedVolume
+pub mod Indicators
+pub mod Before
+pub mod LayoutAfter
+pub mod SpaceAfter
+pub mod VolumeAfter
+pub mod MarkedLayout
+pub mod MarkedVolume

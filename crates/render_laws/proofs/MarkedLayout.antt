@@ -76,7 +76,7 @@ module _ (vtoc : Vtoc) (layout : Layout) (marked : Placed) (sized : IsSized vtoc
       same_record vtoc layout sized is placed layout.four c (four_there vtoc layout sized is) (ap (same_place placed.place) (sym (sym same ∙ at)) ∙ itself placed.place)
 
   -- each record stays, or is the format 4
-  pub stays_or_four : (placed : Placed) → Contains records placed → (edit_of edits placed.place ≡ None) ⊎ ((placed ≡ layout.four) × (edited placed ≡ marked))
+  stays_or_four : (placed : Placed) → Contains records placed → (edit_of edits placed.place ≡ None) ⊎ ((placed ≡ layout.four) × (edited placed ≡ marked))
   stays_or_four placed c = by (same_place marked.place placed.place) refl
     where
       by : (t : Bool) → same_place marked.place placed.place ≡ t → (edit_of edits placed.place ≡ None) ⊎ ((placed ≡ layout.four) × (edited placed ≡ marked))

@@ -140,7 +140,7 @@ module _ {vtoc : Vtoc} {four : Placed} {front gone back : List SetRecords} {putt
 
   module _ (free : List Run) (free_are : AreMaximalRuns (λ track. IsTrue (is_free usable vtoc.run (runs_by vtoc.heads layout) track)) free)
       (stated : flat_map (λ entries. entries) parts ≡ map (entry_of vtoc.heads) free) where
-    pub entries_are : entries_by vtoc.heads layout ≡ free
+    entries_are : entries_by vtoc.heads layout ≡ free
     entries_are =
         put_entries sized has plan ∙ joined_parts vtoc.heads parts ∙ ap (λ (entries : List Entry5). filter has_len (map (run_of_entry vtoc.heads) entries)) stated
         ∙ runs_back vtoc.heads free free_are.apart

@@ -52,7 +52,7 @@ module _ (vtoc : Vtoc) (layout : Layout) (sized : IsSized vtoc) (is : IsLayoutOf
   same_extents : IsPermutation (extents_in vtoc) extents
   same_extents = extents_permuted vtoc layout sized is are_apart
 
-  pub usable_same : vtoc.valid ≡ true → usable_in vtoc ≡ usable_by vtoc layout
+  usable_same : vtoc.valid ≡ true → usable_in vtoc ≡ usable_by vtoc layout
   usable_same valid = at (extents_in vtoc) (entries_in vtoc) ∙ greatest ∙ sym (at extents entries)
     where
       at : (some others : List Run) → usable_of vtoc.valid vtoc.heads vtoc.limit vtoc.alternates vtoc.run some others ≡ greatest_end (vtoc.run ∷ (some ++ others))
@@ -72,11 +72,11 @@ module _ (vtoc : Vtoc) (layout : Layout) (sized : IsSized vtoc) (is : IsLayoutOf
                 (IsPermutation-sym (vtoc.run ∷ (extents_in vtoc ++ entries_in vtoc)) (vtoc.run ∷ (extents ++ entries)) moved),
           )
 
-  pub free_same : (usable track : ℕ) → is_free usable vtoc.run extents track ≡ is_free usable vtoc.run (extents_in vtoc) track
+  free_same : (usable track : ℕ) → is_free usable vtoc.run extents track ≡ is_free usable vtoc.run (extents_in vtoc) track
   free_same usable track =
       ap (λ (b : Bool). nat_lt track usable && not ((track == 0) || has_track track vtoc.run || b)) (sym (list_any-IsPermutation (has_track track) (extents_in vtoc) extents same_extents))
 
-  pub runs_same : (usable : ℕ) (runs : List Run) → AreMaximalRuns (λ track. IsTrue (is_free usable vtoc.run extents track)) runs
+  runs_same : (usable : ℕ) (runs : List Run) → AreMaximalRuns (λ track. IsTrue (is_free usable vtoc.run extents track)) runs
       → AreMaximalRuns (λ track. IsTrue (is_free usable vtoc.run (extents_in vtoc) track)) runs
   runs_same usable runs are = record {
     apart = are.apart;
