@@ -3,7 +3,7 @@ use Rattle.std.proofs.Common.{◌≡◌, ℕ, ◌≤◌, List, [], ◌∷◌, le
 use Rattle.std.specs.Prelude.{if◌then◌else◌}
 use Rattle.volume_model.specs.declared.place.Placed.{Placed}
 use Rattle.volume_model.specs.declared.place.Vtoc.{Vtoc}
-use Rattle.volume_model.specs.Check.{records_of, fives_of, named_by, first_of, first_five, breaches_of}
+use Rattle.volume_model.specs.Check.{records_of, fives_of, named_by, first_of, first_five, chain_from, points, breaches_of}
 use Rattle.vtoc_check.specs.Places.{AreShort}
 use Rattle.vtoc_check.specs.FiveRule.{is_five}
 use Rattle.vtoc_check.specs.Pointers.{named}
@@ -11,6 +11,7 @@ use Rattle.vtoc_layout.specs.FiveChain.{walk_of}
 use Rattle.vtoc_layout.specs.Layout.{IsLinked, AreLinkedFives, fives_in_order}
 use Rattle.vtoc_layout.proofs.FiveChains.{walk_is_chain}
 use Rattle.vtoc_layout.proofs.Distinct.{no_more}
+use Rattle.layout_found.specs.Fives.{AreItsFives}
 use Rattle.layout_found.proofs.ChainedFives.{AreAllFives, all_fives, linked_fives}
 
 chained : (vtoc : Vtoc) → vtoc.valid ≡ true → fives_in_order vtoc ≡ (walk_of vtoc).0
@@ -51,3 +52,17 @@ pub fives_found : (vtoc : Vtoc) (heads : ℕ) (records : List Placed) (first : P
 fives_found vtoc heads records first found same is short sound valid begin h =
     fives_from vtoc first found short sound valid (sym (first_same vtoc heads records same is) ∙ begin)
     (subst (λ (n : ℕ). AreFound n (records_of vtoc) first found) same (subst (λ (list : List Placed). AreFound heads list first found) is h))
+
+-- ---- the same of each VTOC with these records
+
+abbrev fives_by : ℕ → List Placed → Bool → List Placed
+fives_by heads records valid =
+    let fives = filter is_five records in if valid then (chain_from points (named heads records) (length fives) (first_five (named heads records) fives)).0 else fives
+
+same_fives : (a b : Vtoc) → a.heads ≡ b.heads → records_of a ≡ records_of b → a.valid ≡ b.valid → fives_in_order a ≡ fives_in_order b
+same_fives a b heads records valid = (λ i. fives_by (heads i) (records i) (valid i))
+
+pub fives_of_each : (one : Vtoc) (heads : ℕ) (records found : List Placed) (valid : Bool) → heads ≡ one.heads → records ≡ records_of one → valid ≡ one.valid → found ≡ fives_in_order one
+    → AreItsFives heads records valid found
+fives_of_each one heads records found valid heads_are records_are valid_is found_are =
+    λ vtoc h r v. found_are ∙ same_fives one vtoc (sym heads_are ∙ h) (sym records_are ∙ r) (sym valid_is ∙ v)

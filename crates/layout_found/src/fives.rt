@@ -1,18 +1,18 @@
 //! The format 5s in the order of their chain.
 
 ghost use Rattle.std.specs.Prelude.{◌≡◌, ◌<◌, ◌≤◌, ◌∷◌, ◌++◌, ℕ, List, [], length, filter, take, IfOk, OnOk, IfSome, IfNone, Some, None, false};
-ghost use Rattle.volume_model.specs.Check.{records_of, fives_of, first_five, breaches_of};
+ghost use Rattle.volume_model.specs.Check.{first_five};
 ghost use Rattle.volume_model.specs.declared.place.Placed.{Placed as PlacedOf};
 ghost use Rattle.vtoc_check.specs.FiveRule.{is_five};
 ghost use Rattle.vtoc_check.specs.Pointers.{named};
 ghost use Rattle.vtoc_check.specs.Reach.{record_in, is_marked};
-ghost use Rattle.vtoc_check.specs.Sized.{IsSized};
-ghost use Rattle.vtoc_layout.specs.Layout.{IsLinked, fives_in_order};
+ghost use Rattle.vtoc_layout.specs.Layout.{IsLinked};
+ghost use Rattle.layout_found.specs.Fives.{IsOfSoundVtoc, AreItsFives};
 
 use crate::linked::add_linked;
 use ckd_image::{Listed, NoMemory};
 use std::alloc::Global;
-use volume_model::{Format, Placed, Vtoc};
+use volume_model::{Format, Placed};
 use vtoc_check::{Directory, first_index, mark_targets};
 
 fn is_format_5(placed: &Placed) -> bool
@@ -87,18 +87,15 @@ fn with_linked(
 /// The format 5s in order.
 fn fives_among(
     alloc: Global,
-    vtoc: &Vtoc,
     directory: &Directory,
     records: &[Placed],
+    valid: bool,
 ) -> Result<Listed<Placed>, NoMemory>
-    requires sized { IsSized vtoc.now }
-    requires sound { breaches_of vtoc.now ≡ [] }
-    requires records { records.now ≡ records_of vtoc.now }
-    requires directory { directory.now.records.items ≡ records_of vtoc.now }
-    requires heads { directory.now.heads ≡ vtoc.now.heads }
-    ensures { IfOk result (λ fives. fives ≡ fives_in_order vtoc.now) }
+    requires same { records.now ≡ directory.now.records.items }
+    requires sound { IsOfSoundVtoc directory.now valid }
+    ensures { IfOk result (AreItsFives directory.now.heads records.now valid) }
 {
-    if !vtoc.valid {
+    if !valid {
         return fives_by_place(alloc, records);
     }
     let Some(first) = chain_start(alloc, directory, records)? else {
@@ -108,16 +105,13 @@ fn fives_among(
 }
 
 /// The format 5s of a VTOC that breaks no rule: in the order of their chain where they are valid, and else of their places.
-pub fn fives_of_vtoc(
+pub fn fives_in_directory(
     alloc: Global,
-    vtoc: &Vtoc,
     directory: &Directory,
+    valid: bool,
 ) -> Result<Listed<Placed>, NoMemory>
-    requires sized { IsSized vtoc.now }
-    requires sound { breaches_of vtoc.now ≡ [] }
-    requires records { directory.now.records.items ≡ records_of vtoc.now }
-    requires heads { directory.now.heads ≡ vtoc.now.heads }
-    ensures { IfOk result (λ fives. fives ≡ fives_in_order vtoc.now) }
+    requires { IsOfSoundVtoc directory.now valid }
+    ensures { IfOk result (AreItsFives directory.now.heads directory.now.records.items valid) }
 {
-    fives_among(alloc, vtoc, directory, directory.records())
+    fives_among(alloc, directory, directory.records(), valid)
 }

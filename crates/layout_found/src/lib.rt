@@ -7,7 +7,7 @@ mod laws;
 mod linked;
 mod sets;
 
-pub use fives::fives_of_vtoc;
+pub use fives::fives_in_directory;
 pub use free::free_places;
 pub use laws::sound_laws;
 pub use sets::{SetRecords, records_of_set};

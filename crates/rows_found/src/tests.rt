@@ -5,7 +5,7 @@ ghost use Rattle.vtoc_check.specs.Sized.{IsSized};
 
 use ckd_image::Listed;
 use free_map::Run;
-use layout_found::{fives_of_vtoc, free_places, records_of_set};
+use layout_found::{fives_in_directory, free_places, records_of_set};
 use std::test::*;
 use volume_model::{Place, Placed, Vtoc};
 use vtoc_check::{Directory, lowest_breach};
@@ -120,7 +120,7 @@ fn fives(rt: &HostRuntime, vtoc: &Vtoc) -> Result<Vec<u8>, Fail>
     )?;
     match lowest_breach(rt.alloc(), vtoc)? {
         Some(_) => Err(Fail::new("a rule is broken")),
-        None => numbers(rt, fives_of_vtoc(rt.alloc(), vtoc, &directory)?.as_slice()),
+        None => numbers(rt, fives_in_directory(rt.alloc(), &directory, vtoc.valid)?.as_slice()),
     }
 }
 

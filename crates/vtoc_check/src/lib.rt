@@ -30,6 +30,7 @@ pub use fault::VtocFault;
 pub use five_rule::{count_fives, first_index, mark_targets};
 pub use free::used_runs;
 pub use front::vtoc_run;
+pub use read::read_tracks;
 pub use reading::Found;
 pub use rows::{SetExtents, data_sets, extents_of_set};
 pub use space::{all_entries, all_extents, usable_tracks};
