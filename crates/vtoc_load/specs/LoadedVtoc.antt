@@ -16,7 +16,7 @@ use Rattle.volume_model.specs.Check.{records_of, fives_of, extents_in, usable_in
 use Rattle.volume_model.specs.Reads.{has_index}
 use Rattle.volume_model.specs.Sound.{Slots}
 use Rattle.vtoc_check.specs.Places.{blank}
-use Rattle.vtoc_check.specs.Sized.{IsVtocWith}
+use Rattle.vtoc_check.specs.Sized.{IsSized, IsVtocWith}
 use Rattle.vtoc_core.specs.declared.volume.Volume.{Volume}
 use Rattle.vtoc_core.specs.Loaded.{row_in, HasItsName}
 use Rattle.vtoc_core.specs.Shrink.{is_free_dscb}
@@ -64,5 +64,6 @@ pub record IsLoadedVtoc (head : Head) (label : Label) (slots : Slots) (sliding :
   pub vtoc : Vtoc
   pub four : List ℕ
   pub stands : IsVtocWith head slots label.vtoc sliding vtoc four
+  pub sized : IsSized vtoc
   pub sound : breaches_of vtoc ≡ []
   pub volume : IsVolumeOf label head.device vtoc four loaded

@@ -12,4 +12,4 @@ volume_of-requires-clause-sound c = (c.in_ok-found.ensures.sound (slot_in c.args
 pub returns-clause-loaded : goal.returns-clause-loaded
 returns-clause-loaded c = λ unit are.
     let found = c.in_ok-found.ensures.sound unit are in
-    record { vtoc = c.in_ok-found.found.vtoc; four = c.in_ok-found.found.four; stands = found.0; sound = found.1; volume = c.in_ok-volume.ensures }
+    record { vtoc = c.in_ok-found.found.vtoc; four = c.in_ok-found.found.four; stands = found.0; sized = found.2; sound = found.1; volume = c.in_ok-volume.ensures }
