@@ -157,6 +157,7 @@ marked_loads head label old new before slots blocks volume vtoc four marked was 
       stands_after was new true (marked ∷ []) blocks marked rewritten slots_after
       (found vtoc (layout_of vtoc four) marked was.sized (has_layout was) at mark.format vtoc.format_4 (at ∙ was.four_at)) (marked_long four.bytes marked.bytes long mark) mark.format
       (marked_fields four.bytes marked.bytes long mark) (marked_valid four.bytes marked.bytes long mark before (was_valid was off at mark));
+  sized = sized_marked vtoc (layout_of vtoc four) marked was.sized (has_layout was) at mark.format;
   sound = sound_then was off at mark;
   volume = volume_then was off at mark;
 }

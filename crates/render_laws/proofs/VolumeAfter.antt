@@ -172,6 +172,7 @@ rendered head label old new before after slots blocks volume next vtoc four fron
   vtoc = vtoc_after vtoc (edits_of change);
   four = change.four.bytes;
   stands = stands_then was plan takes is new after blocks rewritten slots_after;
+  sized = sized_then was plan takes is;
   sound = sound_then was plan takes is;
   volume = volume_then was plan takes is free_is;
 }
