@@ -120,7 +120,10 @@ fn fives(rt: &HostRuntime, vtoc: &Vtoc) -> Result<Vec<u8>, Fail>
     )?;
     match lowest_breach(rt.alloc(), vtoc)? {
         Some(_) => Err(Fail::new("a rule is broken")),
-        None => numbers(rt, fives_in_directory(rt.alloc(), &directory, vtoc.valid)?.as_slice()),
+        None => numbers(
+            rt,
+            fives_in_directory(rt.alloc(), &directory, vtoc.valid)?.as_slice(),
+        ),
     }
 }
 
