@@ -47,7 +47,7 @@ module _ {head : Head} {label : Label} {unit : Slots} {before : Bool} {slots : L
   abbrev is : IsVtoc head unit label.vtoc before vtoc
   is = was.stands.stands
 
-  four_format : format_of four.bytes ≡ F4
+  pub four_format : format_of four.bytes ≡ F4
   four_format = ap format_of was.stands.four_is ∙ is.format_4.format
 
   pub four_long : length four.bytes ≡ 140

@@ -44,7 +44,7 @@ so_many_fives heads (entries ∷ parts) [] h = absurd h
 so_many_fives heads (entries ∷ parts) (five ∷ fives) h = omega (arith, so_many_fives heads parts fives h.1)
 
 -- a VTOC has as many format 5s as its layout
-length_fives : (vtoc : Vtoc) (layout : Layout) → IsSized vtoc → IsLayoutOf vtoc layout → length (fives_of vtoc) ≡ length layout.fives
+pub length_fives : (vtoc : Vtoc) (layout : Layout) → IsSized vtoc → IsLayoutOf vtoc layout → length (fives_of vtoc) ≡ length layout.fives
 length_fives vtoc layout sized is =
     let place : Placed → Place = λ placed. placed.place in
     let moved = map_permuted place (fives_of vtoc) layout.fives (distinct_f5s vtoc layout sized is) (distinct_fives vtoc layout sized is) (same_fives vtoc layout sized is) in

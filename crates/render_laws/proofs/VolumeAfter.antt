@@ -117,7 +117,7 @@ module _ {head : Head} {label : Label} {old : Slots} {before : Bool} {slots : Li
   abbrev free_runs : AreMaximalRuns (λ track. IsTrue (is_free volume.usable vtoc.run (runs_by vtoc.heads layout) track)) next.free.runs
   free_runs = is.free_are
 
-  sound_then : breaches_of vtoc_then ≡ []
+  pub sound_then : breaches_of vtoc_then ≡ []
   sound_then =
       sound vtoc_then layout sized_then (tracks_stay (edits_of change) vtoc.run.first vtoc.tracks (tracks_stand was)) layout_then (λ valid. linked_after was.sized (has_layout was) plan) apart_then
       (λ valid. right_after was.sized (has_layout was) (apart was) plan takes (usable_within was) stood_ends some next.free.runs free_runs is.stated)
@@ -142,7 +142,7 @@ module _ {head : Head} {label : Label} {old : Slots} {before : Bool} {slots : Li
   so_many =
       sym (length-map (records_of vtoc) (λ placed. placed_with placed (edit_of (edits_of change) placed.place))) ∙ sym (ap length (records_after was.sized (has_layout was) plan))
 
-  volume_then : next.free_dscbs ≡ length (free_records_of vtoc_then) → IsVolumeOf label head.device vtoc_then change.four.bytes next
+  pub volume_then : next.free_dscbs ≡ length (free_records_of vtoc_then) → IsVolumeOf label head.device vtoc_then change.four.bytes next
   volume_then free_is = record {
     serial_is = is.serial_is ∙ was.volume_is.serial_is;
     device_is = is.device_is ∙ was.volume_is.device_is;

@@ -30,7 +30,7 @@ one_track heads track slot (Some a) (Some b) short one other =
     let text : one.text ≡ other.text = one_text_anywhere (address_of heads track) slot one.text other.text short one.stands other.stands in
     ap Some (one.dscbs_are ∙ ap (λ (t : Track). map dscb_of t.recs) text ∙ sym other.dscbs_are)
 
-one_reading : (heads : ℕ) (slots : Slots) (run : Run) (a b : List (Option (List (List ℕ)))) → ((track : ℕ) → length (slots track) ≤ 65536)
+pub one_reading : (heads : ℕ) (slots : Slots) (run : Run) (a b : List (Option (List (List ℕ)))) → ((track : ℕ) → length (slots track) ≤ 65536)
     → IsReading heads slots run a → IsReading heads slots run b → a ≡ b
 one_reading heads slots run a b short one other =
     ext_get_or None a b (one.whole ∙ sym other.whole)

@@ -1,0 +1,5 @@
+pub mod Loads
+pub mod Next
+pub mod Render
+pub mod Steps
+pub mod Written
