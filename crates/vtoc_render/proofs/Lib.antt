@@ -27,3 +27,6 @@ pub mod PlacedTracks
 pub mod PlacedSpace
 pub mod PlacedTakes
 pub mod Placed
+pub mod Highest
+pub mod ChangeWritten
+pub mod LoadsSlots

@@ -40,6 +40,7 @@ use Rattle.layout_found.specs.Sets.{set_named}
 use Rattle.volume_change.specs.declared.change.Change.{Change}
 use Rattle.volume_change.specs.declared.change.Change.TheVariants.{Repair, Put, Swap, Remove, Mark}
 use Rattle.vtoc_render.specs.declared.change.Rendered.{Rendered}
+use Rattle.vtoc_render.specs.Change.{putting_of}
 use Rattle.vtoc_render.specs.Loads.{gone_of}
 use Rattle.vtoc_render.specs.Next.{MayChange}
 use Rattle.vtoc_render.specs.Steps.{IsAimOf, IsSetFor, has_three, wanted_for, records_put}
@@ -50,10 +51,6 @@ use Rattle.vtoc_render.proofs.NextCounts.{found_passes, none_passes}
 use Rattle.vtoc_render.proofs.NextVolume.{put_named}
 
 -- ---- what is put
-
-abbrev pub putting_of : Option Row → List Putting
-putting_of None = []
-putting_of (Some row) = record { format_1 = row.f1; extents = row.extents } ∷ []
 
 abbrev pub sets_put : Option SetWritten → List SetRecords
 sets_put None = []
@@ -259,3 +256,18 @@ module _ {head : Head} {label : Label} {unit : Slots} {before : Bool} {slots : L
               freed_are = refl;
             };
       }
+
+  -- the plan's parts are those of what was written
+  pub record IsPlanOf (name : Option (List ℕ)) (put : Option Row) (rendered : Rendered) (is : IsWritten volume slots name put rendered)
+      (plan : WasPlanned vtoc four (named_split vtoc name).0 (gone_of vtoc name) (named_split vtoc name).1 (putting_of put) (parts_with volume slots name put rendered is)
+      (change_of is.four is.fives is.set is.allotment)) : Type 0 where
+    pub held_is : plan.held ≡ is.held
+    pub allotment_is : plan.allotment ≡ is.allotment
+    pub second_is : plan.second ≡ second_of volume
+    pub highest_is : plan.highest ≡ next_pointer (heads_of volume.device) (last_of (filter (is_one_after is.held.one is.allotment.one) is.base.directory.records.items))
+    pub free_is : plan.free ≡ free_left volume is.held put is.free
+
+  pub plan_is : (change : Change) (name : Option (List ℕ)) (put : Option Row) (rendered : Rendered) (may : MayChange volume change) (aim : IsAimOf change name put)
+      → (is : IsWritten volume slots name put rendered) → IsPlanOf name put rendered is (was_planned change name put rendered may aim is)
+  unfolding was_planned
+  plan_is change name put rendered may aim is = record { held_is = refl; allotment_is = refl; second_is = refl; highest_is = refl; free_is = refl }

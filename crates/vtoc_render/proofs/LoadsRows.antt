@@ -14,7 +14,8 @@ use Rattle.volume_change.specs.Runs.{runs_in}
 use Rattle.render_laws.specs.Rendered.{runs_put}
 use Rattle.vtoc_render.specs.Next.{runs_of_rows}
 use Rattle.vtoc_render.proofs.May.{IsFit}
-use Rattle.vtoc_render.proofs.LoadsPlan.{putting_of, nothing_more}
+use Rattle.vtoc_render.specs.Change.{putting_of}
+use Rattle.vtoc_render.proofs.LoadsPlan.{nothing_more}
 
 -- the runs of what is put are those of its row
 pub runs_put_are : (volume : Volume) (put : Option Row) → runs_put (heads_of volume.device) (putting_of put) ≡ runs_of_rows volume (option_to_list put)

@@ -29,7 +29,8 @@ use Rattle.vtoc_render.specs.Steps.{IsAimOf}
 use Rattle.vtoc_render.specs.Written.{IsWritten, edits_with}
 use Rattle.vtoc_render.proofs.Holds.{named_split}
 use Rattle.vtoc_render.proofs.LoadsAfterIs.{after_is}
-use Rattle.vtoc_render.proofs.LoadsPlan.{putting_of, sets_put, change_of, edits_same, was_planned}
+use Rattle.vtoc_render.specs.Change.{putting_of}
+use Rattle.vtoc_render.proofs.LoadsPlan.{sets_put, change_of, edits_same, was_planned}
 use Rattle.vtoc_render.proofs.LoadsVolume.{loads_counted}
 use Rattle.vtoc_render.proofs.NextVolume.{count_after}
 

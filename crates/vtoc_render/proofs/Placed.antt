@@ -34,7 +34,8 @@ use Rattle.vtoc_render.specs.Steps.{IsSetFor, IsRowFor, has_three, wanted_for, I
 use Rattle.vtoc_render.specs.declared.change.Rendered.{Rendered}
 use Rattle.vtoc_render.specs.Loads.{gone_of}
 use Rattle.vtoc_render.specs.Written.{IsWritten, second_of}
-use Rattle.vtoc_render.proofs.LoadsPlan.{putting_of, sets_put, nothing_more, was_planned}
+use Rattle.vtoc_render.specs.Change.{putting_of}
+use Rattle.vtoc_render.proofs.LoadsPlan.{sets_put, nothing_more, was_planned}
 use Rattle.vtoc_render.proofs.NextRows.{fields_same, runs_same}
 use Rattle.vtoc_render.proofs.PlacedRows.{ArePair, gone_pair, rows_after_are}
 use Rattle.vtoc_render.proofs.PlacedSpace.{runs_of_pair, free_after_is}

@@ -37,7 +37,8 @@ use Rattle.render_laws.proofs.Before.{has_layout, apart}
 use Rattle.vtoc_render.specs.Loads.{gone_of}
 use Rattle.vtoc_render.specs.Next.{MayChange, runs_of_rows}
 use Rattle.vtoc_render.specs.Steps.{IsAimOf}
-use Rattle.vtoc_render.proofs.LoadsPlan.{putting_of, nothing_more}
+use Rattle.vtoc_render.specs.Change.{putting_of}
+use Rattle.vtoc_render.proofs.LoadsPlan.{nothing_more}
 use Rattle.vtoc_render.proofs.LoadsRows.{runs_put_are, ranges_put}
 use Rattle.vtoc_render.proofs.May.{put_fits}
 use Rattle.vtoc_render.proofs.NextCounts.{found_passes, none_passes, set_of_row}

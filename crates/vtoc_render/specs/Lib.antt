@@ -3,3 +3,4 @@ pub mod Next
 pub mod Render
 pub mod Steps
 pub mod Written
+pub mod Change

@@ -1,5 +1,5 @@
 -- A volume that was loaded from the slots of its VTOC.
-use Rattle.std.specs.Prelude.{◌≡◌, ℕ, ◌*◌, Bool, List, [], length, Option, Some, None}
+use Rattle.std.specs.Prelude.{◌≡◌, ℕ, ◌*◌, ◌≤◌, Bool, List, [], length, Option, Some, None}
 use Rattle.std.specs.Option.{option_to_list}
 use Rattle.ckd_image.specs.declared.head.Head.{Head}
 use Rattle.ckd_image.specs.Device.{slot_of}
@@ -8,7 +8,9 @@ use Rattle.volume_model.specs.declared.place.Placed.{Placed}
 use Rattle.volume_model.specs.declared.place.Vtoc.{Vtoc}
 use Rattle.volume_model.specs.Sound.{Slots}
 use Rattle.volume_model.specs.Check.{records_of}
+use Rattle.vtoc_check.specs.Slots.{AreSlotsOf}
 use Rattle.vtoc_core.specs.declared.volume.Volume.{Volume}
+use Rattle.vtoc_load.specs.LoadedVtoc.{IsLoadedVtoc}
 use Rattle.vtoc_layout.specs.Layout.{SetRecords, layout_of}
 use Rattle.layout_found.specs.Sets.{set_named}
 use Rattle.vtoc_allot.specs.declared.held.Held.{Held}
@@ -46,3 +48,10 @@ gone_of vtoc (Some name) = option_to_list (set_named vtoc name)
 -- these are the places of its records, and of the format 5s
 abbrev pub HoldsNamed : Option (List ℕ) → Held → Vtoc → Placed → Type 0
 HoldsNamed name held vtoc four = HoldsLayout (layout_of vtoc four) (gone_of vtoc name) held
+
+-- A volume that was loaded from a unit's slots loads from them.
+abbrev pub LoadedVolumesLoadFrom : Type 0
+LoadedVolumesLoadFrom =
+    (head : Head) (label : Label) (unit : Slots) (sliding : Bool) (slots : List ℕ) (volume : Volume)
+    → head.tracks ≤ 65535 → IsLoadedVtoc head label unit sliding volume → AreSlotsOf volume.vtoc (slot_of head.device) slots unit
+    → length slots ≡ volume.vtoc.len * slot_of head.device → LoadsFrom volume slots

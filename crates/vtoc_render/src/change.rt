@@ -1,7 +1,8 @@
 //! One change of a VTOC.
 
 ghost use Rattle.std.specs.Prelude.{◌≡◌, false, IfOk, IfErr};
-ghost use Rattle.vtoc_render.specs.Loads.{LoadsFrom};
+ghost use Rattle.vtoc_render.specs.Change.{IsChangeWritten};
+ghost use Rattle.vtoc_render.specs.Loads.{LoadsFrom, OfEachVtoc};
 ghost use Rattle.vtoc_render.specs.Next.{MayChange, IsNext, IsChangeFault};
 ghost use Rattle.vtoc_render.specs.Render.{LoadsAfter};
 
@@ -35,6 +36,7 @@ pub fn render(
     ensures next { IfOk result (λ rendered. IsNext volume.now change.now rendered.next) }
     ensures loads { IfOk result (LoadsAfter volume.now slots.now change.now) }
     ensures fault { IfErr result (IsChangeFault volume.now change.now) }
+    ensures written { IfOk result (λ rendered. OfEachVtoc volume.now slots.now (IsChangeWritten volume.now slots.now change.now rendered)) }
     ensures unindexed { IfOk result (λ rendered. volume.now.indexed ≡ false) }
 {
     if volume.indexed {

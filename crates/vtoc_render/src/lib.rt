@@ -6,6 +6,7 @@ mod change;
 mod edits;
 mod four;
 mod ground;
+mod laws;
 mod mark;
 mod next;
 mod put;
@@ -13,3 +14,4 @@ mod set;
 mod space;
 
 pub use change::{Rendered, render};
+pub use laws::loading_laws;
