@@ -1,6 +1,6 @@
 //! One change of a VTOC, from its slots.
 
-ghost use Rattle.std.specs.Prelude.{◌≡◌, ◌≤◌, ◌*◌, length, take};
+ghost use Rattle.std.specs.Prelude.{◌≡◌, ◌≤◌, length, take};
 
 use crate::fault::RowFault;
 use crate::may::{may_change, track_number};

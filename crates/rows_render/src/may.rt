@@ -2,16 +2,13 @@
 
 ghost use Rattle.std.specs.Prelude.{◌≡◌, ◌≢◌, ◌↔◌, ◌⊎◌, ◌+◌, [], ◌∷◌, true, false, All, Contains, IsTrue, IfOk, IfSome};
 ghost use Rattle.dsn_filter.specs.Dsn.{IsDsn};
-ghost use Rattle.volume_model.specs.declared.format.Format.TheVariants.{F1};
-ghost use Rattle.volume_model.specs.Dscbs.{format_of};
 ghost use Rattle.volume_model.specs.Pinned.{IsNameOf};
 ghost use Rattle.volume_model.specs.Space.{is_run as is_run_in, overlap as overlap_in, track_at};
 ghost use Rattle.vtoc_core.specs.declared.volume.Row.{Row as RowOf};
-ghost use Rattle.vtoc_core.specs.Loaded.{field_of, HasItsName};
+ghost use Rattle.vtoc_core.specs.Loaded.{field_of};
 ghost use Rattle.vtoc_layout.specs.Layout.{AreApart};
 ghost use Rattle.dscb_made.specs.Slots.{IsThere};
 ghost use Rattle.volume_change.specs.Runs.{runs_in};
-ghost use Rattle.ckd_image.specs.Device.{heads_of};
 ghost use Rattle.vtoc_render.specs.Next.{MayPut, MayChange};
 ghost use Rattle.rows_render.specs.May.{IsSet, Covers, IsWithin, IsGiven, MayTake};
 
