@@ -1,0 +1,4 @@
+pub mod FormatFour
+pub mod OneVtoc
+pub mod OneUnit
+pub mod OneOrder
