@@ -60,7 +60,7 @@ describes_sets heads slots (row ∷ rows) (set ∷ sets) named are =
 
 -- ---- what is described
 
-runs_in_row : (heads : ℕ) (extents : List Field) → map run_in (extents_in_row heads extents) ≡ runs_in heads extents
+pub runs_in_row : (heads : ℕ) (extents : List Field) → map run_in (extents_in_row heads extents) ≡ runs_in heads extents
 runs_in_row heads [] = refl
 runs_in_row heads (extent ∷ extents) = (λ i. run_of heads (field_of extent) ∷ runs_in_row heads extents i)
 

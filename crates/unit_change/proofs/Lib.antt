@@ -5,3 +5,7 @@ pub mod OneOrder
 pub mod LoadedTracks
 pub mod Describing
 pub mod LoadedUnits
+pub mod UnitLoads
+pub mod Kept
+pub mod ChangedRows
+pub mod ChangedUnits

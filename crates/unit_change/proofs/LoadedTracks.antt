@@ -34,8 +34,9 @@ use Rattle.vtoc_load.proofs.Counting.{counted}
 use Rattle.vtoc_load.proofs.Usable.{usable_least}
 use Rattle.layout_found.proofs.Found.{found_layout}
 use Rattle.layout_edit.specs.Space.{runs_in_sets}
-use Rattle.volume_change.proofs.Tracks.{in_front, in_back, in_either}
+use Rattle.volume_change.specs.Runs.{runs_in}
 use Rattle.vtoc_render.specs.Next.{runs_of_rows, used_by}
+use Rattle.vtoc_render.proofs.LoadsPlan.{nothing_more}
 use Rattle.vtoc_render.proofs.NextCounts.{one_four}
 use Rattle.vtoc_render.proofs.PlacedTracks.{IsUnused, unused_free, free_unused, run_with, none_shared}
 use Rattle.unit_change.proofs.FormatFour.{home_of, four_there}
@@ -181,3 +182,12 @@ module _ {head : Head} {label : Label} {slots : Slots} {sliding : Bool} {loaded 
         is.volume.dscbs_are,
         is.volume.free_dscbs_are,
       )
+
+-- ---- tracks of one row
+
+-- the tracks of one row are tracks of all
+pub in_all_rows : (volume : Volume) (row : Row) (track : ℕ) → Contains volume.rows row → InRuns (runs_of_rows volume (row ∷ [])) track → InRuns (runs_of_rows volume volume.rows) track
+in_all_rows volume row track there h =
+    let f : Row → List Run = λ row. runs_in (heads_of volume.device) row.extents in
+    let run = run_with (f row) track (subst (λ (runs : List Run). InRuns runs track) (nothing_more (f row)) h) in
+    held_in (flat_map f volume.rows) run.0 track (in_flat f volume.rows row run.0 there run.1) run.2
