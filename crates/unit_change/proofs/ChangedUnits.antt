@@ -31,7 +31,7 @@ use Rattle.vtoc_render.specs.Next.{MayChange, IsNext, IsChanged, runs_of_rows}
 use Rattle.vtoc_render.specs.Render.{LoadsAfter}
 use Rattle.unit_change.specs.Described.{own_place, AreShort, Describes}
 use Rattle.unit_change.specs.Changed.{ChangesSets, AreGone, AreTextsPut, sets_put, IsUnitOf}
-use Rattle.unit_change.proofs.FormatFour.{home_of, run_inside}
+use Rattle.unit_change.proofs.FormatFour.{home_of, run_inside, KeepsFormat4}
 use Rattle.unit_change.proofs.OneVtoc.{home_short}
 use Rattle.unit_change.proofs.LoadedTracks.{four, free_unused_by_rows, rows_off_vtoc, vtoc_usable, in_all_rows}
 use Rattle.unit_change.proofs.Describing.{IsFoundLoaded, describes, sets_found, runs_described}
@@ -39,11 +39,6 @@ use Rattle.unit_change.proofs.LoadedUnits.{found_loaded}
 use Rattle.unit_change.proofs.UnitLoads.{head_stands, first_text, label_stands, labelled, four_short, was_loaded}
 use Rattle.unit_change.proofs.Kept.{AreSetsOfTwo, of_two, both, sets_kept}
 use Rattle.unit_change.proofs.ChangedRows.{is_changed, AreParted, parted_rows, gone_is, put_are, few_put, OnPut, put_texts_kept}
-
--- The format 4 that the label names has the same fields afterwards.
-abbrev pub KeepsFormat4 : Head → Cchhr → Slots → Slots → Type 0
-KeepsFormat4 head pointer old new =
-    (before after : List ℕ) → IsFormat4 (heads_of head.device) old pointer before → IsFormat4 (heads_of head.device) new pointer after → fields_of_4 after ≡ fields_of_4 before
 
 on_put : (heads : ℕ) (change : Change) (P Q : ℕ → Type 0) → ((track : ℕ) → P track → Q track) → OnPut heads change P → OnPut heads change Q
 on_put heads Repair P Q f all = tt

@@ -17,8 +17,9 @@ use Rattle.volume_model.specs.declared.place.Vtoc.{Vtoc}
 use Rattle.volume_model.specs.Check.{records_of, bad_tracks, bad_dscbs, bad_names, bad_pointers, bad_fives, bad_ranges, bad_overlaps, bad_free, breaches_of}
 use Rattle.volume_model.specs.Directory.{placed_from, placed_in}
 use Rattle.volume_model.specs.Dscbs.{extent_at}
+use Rattle.volume_model.specs.Reads.{fields_of_4}
 use Rattle.volume_model.specs.Space.{end_of, has_track, run_of, track_at}
-use Rattle.volume_model.specs.Sound.{Slots, dscb_of, IsTrackReading, IsVtoc, limit_of}
+use Rattle.volume_model.specs.Sound.{Slots, dscb_of, IsTrackReading, IsFormat4, IsVtoc, limit_of}
 use Rattle.vtoc_check.specs.Sized.{IsVtocWith}
 use Rattle.vtoc_check.proofs.Overlapping.{run_facts}
 use Rattle.vtoc_core.proofs.Pairs.{front_none}
@@ -98,6 +99,11 @@ all_read vtoc sound =
 -- the track of a label's pointer
 abbrev pub home_of : Head → Cchhr → ℕ
 home_of head pointer = track_at (heads_of head.device) pointer.at
+
+-- The format 4 that it names has the same fields afterwards.
+abbrev pub KeepsFormat4 : Head → Cchhr → Slots → Slots → Type 0
+KeepsFormat4 head pointer old new =
+    (before after : List ℕ) → IsFormat4 (heads_of head.device) old pointer before → IsFormat4 (heads_of head.device) new pointer after → fields_of_4 after ≡ fields_of_4 before
 
 -- it is one of the VTOC's
 pub home_in : (head : Head) (slots : Slots) (pointer : Cchhr) (sliding : Bool) (vtoc : Vtoc) → IsVtoc head slots pointer sliding vtoc

@@ -9,3 +9,5 @@ pub mod UnitLoads
 pub mod Kept
 pub mod ChangedRows
 pub mod ChangedUnits
+pub mod FormatFourKept
+pub mod RenderedUnits
