@@ -1,15 +1,14 @@
 -- The data sets before and after a change, by the rows.
-use Rattle.std.proofs.Common.{◌≡◌, ◌≢◌, ◌⊎◌, inl, inr, ℕ, ◌≤◌, List, [], ◌∷◌, ◌++◌, length, map, take, All, Contains, refl, sym, ap, subst, ◌∙◌, arith}
+use Rattle.std.proofs.Common.{◌≡◌, ◌≢◌, ℕ, ◌≤◌, List, [], ◌∷◌, ◌++◌, length, map, All, refl, sym, ap, subst, ◌∙◌, arith}
 use Rattle.std.proofs.lemmas.List.{length-map}
 use Rattle.std.proofs.lemmas.List.Elements.{All-nil, All-cons, All-contains}
 use Rattle.free_map.specs.declared.run.Run.{Run}
 use Rattle.free_map.specs.Runs.{InRuns}
-use Rattle.volume_model.specs.declared.extent.ExtentField.{ExtentField}
 use Rattle.volume_model.specs.Directory.{DirectoryRow}
 use Rattle.volume_model.specs.Pinned.{IsNameOf}
 use Rattle.volume_model.specs.Reads.{extent_in, AreTexts, IsDataSet, AreDataSets}
 use Rattle.volume_model.specs.Sound.{Slots}
-use Rattle.volume_model.specs.Unit.{Text, Extent, DataSet, run_in, tracks_of}
+use Rattle.volume_model.specs.Unit.{Text, DataSet, tracks_of}
 use Rattle.vtoc_core.specs.declared.volume.Row.{Row}
 use Rattle.vtoc_core.specs.declared.volume.Volume.{Volume}
 use Rattle.vtoc_core.specs.Loaded.{row_in, field_of, HasItsName}
@@ -17,11 +16,11 @@ use Rattle.vtoc_layout.proofs.Distinct.{in_middle}
 use Rattle.volume_change.specs.declared.change.Change.{Change}
 use Rattle.volume_change.specs.declared.change.Change.TheVariants.{Repair, Put, Swap, Remove, Mark}
 use Rattle.volume_change.specs.Runs.{runs_in}
-use Rattle.vtoc_render.specs.Next.{MayPut, MayChange, IsRowPut, AreRowsAfter, IsChanged, IsNext, numbered_from}
+use Rattle.vtoc_render.specs.Next.{MayChange, IsRowPut, AreRowsAfter, IsChanged, IsNext}
 use Rattle.vtoc_render.proofs.NextRows.{fields_same}
 use Rattle.unit_change.specs.Described.{own_place}
 use Rattle.unit_change.specs.Changed.{extents_of, set_put, sets_put, AreGone, AreTextsPut}
-use Rattle.unit_change.proofs.Describing.{extents_in_row, in_one_step, runs_in_row}
+use Rattle.unit_change.proofs.Describing.{in_one_step, runs_in_row}
 use Rattle.unit_change.proofs.Kept.{texts_kept}
 
 pub is_changed : (old new : Volume) (change : Change) → change ≢ Mark → IsNext old change new → IsChanged old change new

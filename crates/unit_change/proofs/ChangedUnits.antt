@@ -1,9 +1,8 @@
 -- Once a rendered change is written, the unit is the volume after it.
-use Rattle.std.proofs.Common.{◌≡◌, ◌≢◌, ◌⊎◌, inl, inr, ℕ, ◌+◌, ◌-◌, ◌<◌, ◌≤◌, not, List, [], ◌∷◌, ◌++◌, length, map, All, IsTrue, Bool, false, refl, sym, ap, subst, ◌∙◌, arith}
+use Rattle.std.proofs.Common.{◌≡◌, ◌≢◌, ◌⊎◌, inl, inr, ℕ, ◌-◌, List, [], ◌∷◌, ◌++◌, map, IsTrue, false, refl, sym, ap, subst, ◌∙◌, arith}
 use Rattle.std.proofs.lemmas.List.{map-append}
 use Rattle.ckd_image.specs.declared.device.Device.{Device}
 use Rattle.ckd_image.specs.declared.head.Head.{Head}
-use Rattle.ckd_image.specs.declared.track.Cchhr.{Cchhr}
 use Rattle.ckd_image.specs.Address.{address_of}
 use Rattle.ckd_image.specs.Device.{heads_of}
 use Rattle.ckd_image.specs.Track.{IsTrackText}
@@ -11,17 +10,16 @@ use Rattle.free_map.specs.declared.run.Run.{Run}
 use Rattle.free_map.specs.Free.{IsFree}
 use Rattle.free_map.specs.Runs.{Holds, InRuns, AreMaximalRuns}
 use Rattle.vol_label.specs.declared.label.Label.{Label}
-use Rattle.volume_model.specs.declared.place.Vtoc.{Vtoc}
-use Rattle.volume_model.specs.Check.{extents_in, usable_in, records_of, fives_of}
+use Rattle.volume_model.specs.Check.{extents_in, usable_in}
 use Rattle.volume_model.specs.Directory.{DirectoryRow}
-use Rattle.volume_model.specs.Reads.{AreDataSets, IsOnline, HasLabelOf, fields_of_4, has_index, blocks_from}
-use Rattle.volume_model.specs.Sound.{Slots, Volume, IsVolume, IsFormat4}
+use Rattle.volume_model.specs.Reads.{AreDataSets, IsOnline, fields_of_4, has_index, blocks_from}
+use Rattle.volume_model.specs.Sound.{Slots, Volume, IsVolume}
 use Rattle.volume_model.specs.Space.{end_of, is_free}
-use Rattle.volume_model.specs.Unit.{Text, DataSet, OnlineVolume, runs_of_sets}
+use Rattle.volume_model.specs.Unit.{Text, DataSet, OnlineVolume}
 use Rattle.volume_model.proofs.Blocks.{blocks_same}
 use Rattle.vtoc_core.specs.declared.volume.Row.{Row}
 use Rattle.vtoc_core.specs.declared.volume.Volume.{Volume as Loaded}
-use Rattle.vtoc_core.specs.Loaded.{row_in, HasItsName}
+use Rattle.vtoc_core.specs.Loaded.{row_in}
 use Rattle.vtoc_load.specs.LoadedVtoc.{IsLoadedVtoc}
 use Rattle.vtoc_rewrite.specs.Rewrite.{AreSlotsAfter}
 use Rattle.volume_change.specs.declared.change.Change.{Change}
@@ -31,7 +29,7 @@ use Rattle.vtoc_render.specs.Next.{MayChange, IsNext, IsChanged, runs_of_rows}
 use Rattle.vtoc_render.specs.Render.{LoadsAfter}
 use Rattle.unit_change.specs.Described.{own_place, AreShort, Describes}
 use Rattle.unit_change.specs.Changed.{ChangesSets, AreGone, AreTextsPut, sets_put, IsUnitOf}
-use Rattle.unit_change.proofs.FormatFour.{home_of, run_inside, KeepsFormat4}
+use Rattle.unit_change.proofs.FormatFour.{run_inside, KeepsFormat4}
 use Rattle.unit_change.proofs.OneVtoc.{home_short}
 use Rattle.unit_change.proofs.LoadedTracks.{four, free_unused_by_rows, rows_off_vtoc, vtoc_usable, in_all_rows}
 use Rattle.unit_change.proofs.Describing.{IsFoundLoaded, describes, sets_found, runs_described}

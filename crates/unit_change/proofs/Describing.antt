@@ -1,7 +1,5 @@
 -- An online volume is what the volume that was loaded from it describes.
-use Rattle.std.proofs.Common.{◌≡◌, ◌↔◌, ℕ, ◌+◌, ◌-◌, ◌≤◌, not, List, [], ◌∷◌, ◌++◌, length, map, take, All, Bool, false, refl, sym, ap, subst, ◌∙◌, arith, sum_by}
-use Rattle.std.specs.Prelude.{sum}
-use Rattle.std.specs.List.{flat_map}
+use Rattle.std.proofs.Common.{◌≡◌, ℕ, ◌≤◌, not, List, [], ◌∷◌, ◌++◌, length, map, All, false, refl, sym, ap, subst, ◌∙◌, arith, sum_by}
 use Rattle.std.proofs.lemmas.List.Elements.{All-head, All-tail}
 use Rattle.std.proofs.lemmas.List.Sums.{sum-map, sum_by-cons}
 use Rattle.ckd_image.specs.declared.device.Device.{Device}
@@ -12,21 +10,20 @@ use Rattle.free_map.specs.declared.run.Run.{Run}
 use Rattle.free_map.specs.Free.{IsFree}
 use Rattle.free_map.specs.Runs.{Holds, InRuns}
 use Rattle.vol_label.specs.declared.label.Label.{Label}
-use Rattle.volume_model.specs.declared.extent.ExtentField.{ExtentField}
 use Rattle.volume_model.specs.declared.place.Vtoc.{Vtoc}
 use Rattle.volume_model.specs.Changed.{records_for as records_of_set, free_records}
 use Rattle.volume_model.specs.Check.{records_of, fives_of, usable_in}
 use Rattle.volume_model.specs.Directory.{DirectoryRow}
-use Rattle.volume_model.specs.Reads.{IsDataSet, AreDataSets, IsOnline, extent_in, has_index, fields_of_1}
+use Rattle.volume_model.specs.Reads.{IsDataSet, AreDataSets, IsOnline, extent_in, has_index}
 use Rattle.volume_model.specs.Sound.{Slots}
 use Rattle.volume_model.specs.Space.{run_of}
-use Rattle.volume_model.specs.Unit.{Extent, DataSet, OnlineVolume, run_in, runs_of_sets, IsFreeTrack, AreFreeRunsOf}
+use Rattle.volume_model.specs.Unit.{Extent, DataSet, OnlineVolume, run_in, runs_of_sets, IsFreeTrack}
 use Rattle.vtoc_core.specs.declared.volume.Row.{Row}
 use Rattle.vtoc_core.specs.declared.volume.Volume.{Volume}
 use Rattle.vtoc_core.specs.Loaded.{row_in, field_of, records_for, HasItsName}
 use Rattle.vtoc_load.specs.LoadedVtoc.{IsLoadedVtoc}
 use Rattle.volume_change.specs.Runs.{runs_in}
-use Rattle.vtoc_render.specs.Next.{runs_of_rows, used_by}
+use Rattle.vtoc_render.specs.Next.{runs_of_rows}
 use Rattle.vtoc_render.proofs.PlacedTracks.{IsUnused}
 use Rattle.unit_change.specs.Described.{own_place, DescribesSet, DescribesSets, Describes}
 use Rattle.unit_change.proofs.FormatFour.{home_of}

@@ -20,7 +20,6 @@ use Rattle.volume_model.specs.Dscbs.{extent_at}
 use Rattle.volume_model.specs.Reads.{fields_of_4}
 use Rattle.volume_model.specs.Space.{end_of, has_track, run_of, track_at}
 use Rattle.volume_model.specs.Sound.{Slots, dscb_of, IsTrackReading, IsFormat4, IsVtoc, limit_of}
-use Rattle.vtoc_check.specs.Sized.{IsVtocWith}
 use Rattle.vtoc_check.proofs.Overlapping.{run_facts}
 use Rattle.vtoc_core.proofs.Pairs.{front_none}
 use Rattle.vtoc_core.proofs.Placed.{NumberedFrom, numbered_from}

@@ -1,5 +1,5 @@
 -- A rendered change keeps the fields of the format 4.
-use Rattle.std.proofs.Common.{◌≡◌, ◌≢◌, ℕ, ◌<◌, ◌≤◌, List, length, Bool, refl, sym, ap, subst, ◌∙◌}
+use Rattle.std.proofs.Common.{◌≡◌, ◌≢◌, ℕ, ◌≤◌, List, length, Bool, refl, sym, ap, subst, ◌∙◌}
 use Rattle.ckd_image.specs.declared.device.Device.{Device}
 use Rattle.ckd_image.specs.declared.head.Head.{Head}
 use Rattle.free_map.specs.declared.run.Run.{Run}

@@ -1,6 +1,5 @@
 -- The tracks and records of a volume that is loaded.
-use Rattle.std.proofs.Common.{◌≡◌, ◌↔◌, inl, inr, ℕ, ◌+◌, ◌<◌, ◌≤◌, ◌==◌, ◌&&◌, ◌||◌, not, nat_lt, List, [], ◌∷◌, length, map, take, All, Contains, Bool, true, false, refl, sym, ap, subst, ◌∙◌, arith}
-use Rattle.std.specs.Prelude.{IsTrue}
+use Rattle.std.proofs.Common.{◌≡◌, ℕ, ◌+◌, ◌≤◌, ◌==◌, ◌&&◌, ◌||◌, not, nat_lt, List, [], ◌∷◌, length, map, Contains, Bool, false, refl, sym, ap, subst, ◌∙◌, arith}
 use Rattle.std.specs.List.{flat_map, list_any}
 use Rattle.std.specs.List.Sorted.{IsPermutation}
 use Rattle.std.proofs.lemmas.List.Elements.{All-contains}
@@ -22,7 +21,7 @@ use Rattle.volume_model.specs.Sound.{Slots}
 use Rattle.volume_model.specs.Space.{end_of, has_track, overlap, run_of, is_free}
 use Rattle.vtoc_core.specs.declared.volume.Row.{Row}
 use Rattle.vtoc_core.specs.declared.volume.Volume.{Volume}
-use Rattle.vtoc_core.specs.Loaded.{row_in, field_of}
+use Rattle.vtoc_core.specs.Loaded.{row_in}
 use Rattle.vtoc_layout.specs.Layout.{SetRecords, IsLayoutOf, AreExtentsApart, AreDistinct, layout_of, sets_of, row_by, name_of, extents_in_set}
 use Rattle.vtoc_layout.proofs.Apart.{map_flat}
 use Rattle.vtoc_layout.proofs.Distinct.{at_first, in_later, in_flat, from_flat}

@@ -1,5 +1,5 @@
 -- A unit on which head and label pass is online, or offline for what its VTOC breaks.
-use Rattle.std.proofs.Common.{◌≡◌, ◌⊎◌, inl, inr, ℕ, ◌≤◌, List, [], length, Bool, false, refl, sym, ap, subst, ◌∙◌, arith}
+use Rattle.std.proofs.Common.{◌≡◌, ◌⊎◌, inl, inr, ℕ, ◌≤◌, List, [], length, false, refl, sym, subst, ◌∙◌, arith}
 use Rattle.std.proofs.lemmas.Bool.{false≢true}
 use Rattle.ckd_image.specs.declared.device.Device.{Device}
 use Rattle.ckd_image.specs.declared.device.Device.TheVariants.{D3390, D3380}
@@ -25,7 +25,6 @@ use Rattle.volume_model.specs.Sound.{Slots, IsVtoc, IsCheckFault}
 use Rattle.volume_model.specs.Unit.{OnlineVolume, UnitModel, online, offline}
 use Rattle.vtoc_rewrite.proofs.Addresses.{one_text_anywhere}
 use Rattle.unit_change.specs.Described.{AreShort, own_place}
-use Rattle.unit_change.proofs.FormatFour.{home_of}
 use Rattle.unit_change.proofs.OneVtoc.{none_told, one_check}
 
 -- ---- heads

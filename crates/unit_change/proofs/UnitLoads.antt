@@ -8,11 +8,10 @@ use Rattle.ckd_image.specs.Device.{slot_of}
 use Rattle.free_map.specs.declared.run.Run.{Run}
 use Rattle.vol_label.specs.declared.label.Label.{Label}
 use Rattle.vol_label.specs.Label.{IsLabel}
-use Rattle.volume_model.specs.declared.place.Vtoc.{Vtoc}
 use Rattle.volume_model.specs.Reads.{HasImage, IsFirstText, HasLabelOf}
 use Rattle.volume_model.specs.Sound.{Slots}
 use Rattle.volume_model.specs.Unit.{OnlineVolume}
-use Rattle.vtoc_check.specs.Slots.{AreSlotsOf, slot_in}
+use Rattle.vtoc_check.specs.Slots.{AreSlotsOf}
 use Rattle.vtoc_core.specs.declared.volume.Volume.{Volume}
 use Rattle.vtoc_load.specs.LoadedVtoc.{IsLoadedVtoc}
 use Rattle.render_laws.specs.Rendered.{WasLoaded}

@@ -1,8 +1,7 @@
 -- A loaded volume, and the unit that it was loaded from.
-use Rattle.std.specs.Prelude.{◌≡◌, ℕ, ◌≤◌, ◌<◌, ◌+◌, false, List, [], ◌∷◌, length, map}
+use Rattle.std.specs.Prelude.{◌≡◌, ℕ, ◌≤◌, ◌<◌, false, List, [], ◌∷◌, length, map}
 use Rattle.ckd_image.specs.declared.head.Head.{Head}
-use Rattle.ckd_image.specs.Device.{heads_of, slot_of}
-use Rattle.free_map.specs.declared.run.Run.{Run}
+use Rattle.ckd_image.specs.Device.{heads_of}
 use Rattle.free_map.specs.Runs.{InRuns}
 use Rattle.vol_label.specs.declared.label.Label.{Label}
 use Rattle.volume_model.specs.declared.why.Why.TheVariants as whys

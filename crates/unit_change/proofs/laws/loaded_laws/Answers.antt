@@ -1,4 +1,3 @@
-use Rattle.unit_change.specs.Described.{LoadedUnitsAreOnline, RefusedUnitsAreOffline, FreeTracksAreUnused}
 use Rattle.unit_change.proofs.LoadedUnits.{loaded_online, refused_offline}
 use Rattle.unit_change.proofs.laws.loaded_laws.Goals as goal
 
