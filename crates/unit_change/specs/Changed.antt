@@ -17,7 +17,8 @@ use Rattle.vtoc_rewrite.specs.Rewrite.{AreSlotsAfter}
 use Rattle.volume_change.specs.declared.change.Change.{Change}
 use Rattle.volume_change.specs.declared.change.Change.TheVariants.{Repair, Put, Swap, Remove, Mark}
 use Rattle.vtoc_render.specs.declared.change.Rendered.{Rendered}
-use Rattle.vtoc_render.specs.Loads.{LoadsFrom}
+use Rattle.vtoc_render.specs.Change.{IsChangeWritten}
+use Rattle.vtoc_render.specs.Loads.{LoadsFrom, OfEachVtoc}
 use Rattle.vtoc_render.specs.Next.{MayChange, IsNext}
 use Rattle.vtoc_render.specs.Render.{LoadsAfter}
 use Rattle.unit_change.specs.Described.{own_place, AreShort, Describes}
@@ -88,7 +89,7 @@ RenderedUnitsStand =
     (head : List ℕ) (blocks : ℕ) (old new : Slots) (image : Head) (label : Label) (before : OnlineVolume) (loaded : Volume) (vtoc_slots : List ℕ) (change : Change) (rendered : Rendered)
     (texts : List Text)
     → IsUnitOf head blocks old image label before loaded vtoc_slots → MayChange loaded change → change ≢ Mark → IsNext loaded change rendered.next
-    → LoadsAfter loaded vtoc_slots change rendered → AreSlotsAfter loaded.vtoc rendered.blocks old new → AreShort blocks new
-    → AreTextsPut (heads_of loaded.device) old change texts
+    → LoadsAfter loaded vtoc_slots change rendered → OfEachVtoc loaded vtoc_slots (IsChangeWritten loaded vtoc_slots change rendered)
+    → AreSlotsAfter loaded.vtoc rendered.blocks old new → AreShort blocks new → AreTextsPut (heads_of loaded.device) old change texts
     → (after : OnlineVolume) × (gone : List DataSet) × IsOnline false own_place head blocks new after × Describes rendered.next after
     × ChangesSets before after gone (sets_put (heads_of loaded.device) change texts) × AreGone change gone
