@@ -1,6 +1,7 @@
 //! What is known of a unit in a file.
 
-ghost use Rattle.std.specs.Prelude.{◌≤◌};
+ghost use Rattle.std.specs.Prelude.{◌≡◌, ◌≤◌};
+ghost use Rattle.dasd_pool.specs.Calls.{size_in};
 
 /// What never changes of a unit: its head, and the size and number of its blocks.
 #[derive(Debug, Drop)]
@@ -9,4 +10,5 @@ pub struct FileUnit {
     pub size: u32,
     pub count: u32,
     ghost fits: { size ≤ 65536 },
+    ghost said: { size ≡ size_in head },
 }

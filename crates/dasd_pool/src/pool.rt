@@ -1,6 +1,7 @@
 //! A pool of blocks: what its calls do to its contents, and what a stop may leave.
 
 ghost use Rattle.std.specs.Prelude.{◌≡◌, ◌<◌, ◌≤◌, ℕ, length, OnOk, OnErr};
+ghost use Rattle.dasd_pool.specs.Calls.{size_in};
 ghost use Rattle.dasd_pool.specs.Count.{HasCause};
 ghost use Rattle.dasd_pool.specs.Disk.{Shape, Disk, Runs, none, is_at, IsSynced};
 
@@ -32,11 +33,12 @@ pub trait Pool {
         requires { unit < (shape self.now).units }
         ensures { result ≡ (shape self.now).head unit };
 
-    /// The bytes of each block of a unit.
+    /// The bytes of each block of a unit, which its head says.
     fn block_size(&self, unit: u32) -> u32
         requires { unit < (shape self.now).units }
         ensures value { result ≡ (shape self.now).block_size unit }
-        ensures fits { result ≤ 65536 };
+        ensures fits { result ≤ 65536 }
+        ensures said { result ≡ size_in ((shape self.now).head unit) };
 
     fn blocks(&self, unit: u32) -> u32
         requires { unit < (shape self.now).units }

@@ -1,6 +1,7 @@
 //! The journal of a pool, between two commits.
 
 ghost use Rattle.std.specs.Prelude.{◌≡◌, ◌≢◌, ◌≤◌, ◌<◌, ℕ, All, AllPairs, length, false, IfOk, IfErr, OnOk};
+ghost use Rattle.dasd_pool.specs.Calls.{size_in};
 ghost use Rattle.dasd_pool.specs.Count.{Rose, HasCause};
 ghost use Rattle.dasd_pool.specs.Disk.{Image, LeavesOnly, Runs, IsSynced, none, is_at};
 ghost use Rattle.redo_core.specs.declared.control.Control.TheVariants.{Idle};
@@ -193,11 +194,12 @@ impl<P: Pool> Journal<P> {
         self.pool.head(unit)
     }
 
-    /// The bytes of each block of a volume.
+    /// The bytes of each block of a volume, which its head says.
     pub fn block_size(&self, unit: u32) -> u32
         requires { unit < journal_of (P.shape self.now.pool) }
         ensures value { result ≡ (P.shape self.now.pool).block_size unit }
         ensures fits { result ≤ 65536 }
+        ensures said { result ≡ size_in ((P.shape self.now.pool).head unit) }
     {
         self.pool.block_size(unit)
     }

@@ -36,3 +36,8 @@ loop-entry-preserved g c =
           (take_more entries i entry c.loop-entry-test.true ∙ ap (λ (e : Entry). take i entries ++ e ∷ []) (sym c.entry-item.is))
           (inv.images told);
     }
+
+pub returns-in_err-put_block-clause-runs : goal.returns-in_err-put_block-clause-runs
+returns-in_err-put_block-clause-runs g c = λ told.
+    runs_then (of_body c.args.journal) (of_body c.args.journal) (is_at c.args.journal c.loop-entry.next) _ (g.P.Pool.disk c.loop-entry.pool) _
+    (λ u b apart. apart) (λ u b apart. body_within c.args.journal c.loop-entry.next u b (omega (arith, c.loop-entry.invariant.next)) apart) (c.loop-entry.invariant.runs told) (c.put_block.ensures.runs told)
