@@ -1,0 +1,46 @@
+-- The run of a VTOC on a unit whose head passes.
+use Rattle.std.proofs.Common.{◌≡◌, ℕ, ◌+◌, ◌*◌, ◌≤◌, List, true, ap, refl, arith}
+use Rattle.std.specs.Prelude.{◌==◌, ◌||◌, nat_le, nat_lt, if◌then◌else◌}
+use Rattle.std.proofs.lemmas.Bool.{and_parts, leb-true, ltb-true}
+use Rattle.std.proofs.Math.Nat.{min-le_right}
+use Rattle.ckd_image.specs.declared.device.Device.{Device}
+use Rattle.ckd_image.specs.declared.device.Device.TheVariants.{D3390, D3380}
+use Rattle.ckd_image.specs.declared.head.Head.{Head}
+use Rattle.ckd_image.specs.declared.track.Cchhr.{Cchhr}
+use Rattle.ckd_image.specs.declared.track.TrackAt.{TrackAt}
+use Rattle.ckd_image.specs.Device.{heads_of, slot_of}
+use Rattle.ckd_image.specs.Head.{HasSlot}
+use Rattle.dasd_pool.specs.Calls.{size_in}
+use Rattle.free_map.specs.declared.run.Run.{Run}
+use Rattle.free_map.specs.Runs.{Holds}
+use Rattle.volume_model.specs.Sound.{Slots, limit_of}
+use Rattle.volume_model.specs.Space.{track_at, end_of, has_track}
+use Rattle.vtoc_check.specs.Front.{IsVtocRun}
+use Rattle.vtoc_check.proofs.VtocRead.{run_within, holds_pointer}
+
+pub track_is : (device : Device) (at : TrackAt) → at.cylinder * 15 + at.head ≡ track_at (heads_of device) at
+track_is D3390 at = refl
+track_is D3380 at = refl
+
+abbrev size_said : ℕ → ℕ
+size_said said = if (said == 56832) || (said == 47616) || (said == 19456) || (said == 65536) then said else 0
+
+-- the size that a head says which passes is that of its device
+pub said_slot : (head : List ℕ) (device : Device) → HasSlot device head → size_in head ≡ slot_of device
+said_slot head D3390 said = ap size_said said
+said_slot head D3380 said = ap size_said said
+
+-- its tracks are the unit's
+pub run_blocks : (head : Head) (slots : Slots) (pointer : Cchhr) (run : Run) (blocks : ℕ) → head.tracks ≡ blocks → IsVtocRun head slots pointer run → run.first + run.len ≤ blocks
+run_blocks head slots pointer run blocks tracks is =
+    let within : end_of run ≤ limit_of head is.bytes = run_within head slots pointer run is in
+    let most : limit_of head is.bytes ≤ head.tracks = min-le_right _ head.tracks in
+    omega (arith, within, most, tracks)
+
+track_in : (track : ℕ) (run : Run) → has_track track run ≡ true → Holds run track
+track_in track run has =
+    let parts = and_parts (nat_le run.first track) (nat_lt track (end_of run)) has in
+    (leb-true run.first track parts.0, ltb-true track (end_of run) parts.1)
+
+pub run_holds : (head : Head) (slots : Slots) (pointer : Cchhr) (run : Run) → IsVtocRun head slots pointer run → Holds run (track_at (heads_of head.device) pointer.at)
+run_holds head slots pointer run is = track_in (track_at (heads_of head.device) pointer.at) run (holds_pointer head slots pointer run is)

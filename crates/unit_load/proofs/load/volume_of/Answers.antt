@@ -1,0 +1,99 @@
+use Rattle.std.proofs.Common.{◌≡◌, ℕ, ◌+◌, ◌*◌, ◌<◌, ◌≤◌, List, length, sym, ap, ◌∙◌, refl, subst}
+use Rattle.std.proofs.lemmas.Result.{err_from_is_err_and, IfOk-weaker, IfErr-weaker}
+use Rattle.ckd_image.specs.Device.{heads_of, slot_of}
+use Rattle.dasd_pool.specs.Disk.{Shape, State}
+use Rattle.volume_model.specs.Sound.{Slots}
+use Rattle.volume_model.specs.Space.{track_at}
+use Rattle.vtoc_check.specs.Front.{IsVtocRun}
+use Rattle.vtoc_check.specs.Slots.{slot_in, AreSlotsOf}
+use Rattle.unit_load.proofs.Reading.{reads_then}
+use Rattle.unit_load.proofs.Runs.{track_is, said_slot, run_blocks, run_holds}
+use Rattle.unit_load.proofs.load.volume_of.Goals as goal
+
+pub returns-in_err-run-clause-stop : goal.returns-in_err-run-clause-stop
+returns-in_err-run-clause-stop g c = λ told.
+    let contents : Slots = (g.P.Pool.disk c.args.journal.now.pool).state.contents c.args.unit in
+    let at = c.args.label.now.vtoc.at in
+    let track : track_at (heads_of c.args.head.device) at ≡ c.track_number-track.result = sym (c.track_number-track.ensures ∙ track_is c.args.head.device at) in
+    let here : contents (track_at (heads_of c.args.head.device) at) ≡ c.deref.result.now = ap contents track ∙ (sym (c.in_ok-slot.ensures.slot told) ∙ sym c.deref.ensures.value) in
+    let p = err_from_is_err_and c.from_residual-in_err-run.result c.from_residual-in_err-run.ensures.1 in
+    rw (p.1, p.2) (c.in_err-run.ensures.stop contents here)
+
+pub read_run-requires-clause-within : goal.read_run-requires-clause-within
+read_run-requires-clause-within g c =
+    let unit = c.args.unit in
+    let is : IsVtocRun c.args.head (λ _. c.deref.result.now) c.args.label.now.vtoc c.in_ok-run.run' = c.in_ok-run.ensures.run (λ _. c.deref.result.now) refl in
+    let blocks : c.args.head.tracks ≡ (g.P.Pool.shape c.read_slot.new.journal.pool).blocks unit = c.requires.head.tracks_are ∙ ap (λ (s : Shape). s.blocks unit) (sym c.read_slot.ensures.reads.shape) in
+    run_blocks c.args.head (λ _. c.deref.result.now) c.args.label.now.vtoc c.in_ok-run.run' _ blocks is
+
+pub returns-in_err-slots-clause-reads : goal.returns-in_err-slots-clause-reads
+returns-in_err-slots-clause-reads g c = reads_then g.P.Pool _ _ _ c.read_slot.ensures.reads c.read_run.ensures.reads
+
+pub volume_in-requires-clause-whole : goal.volume_in-requires-clause-whole
+volume_in-requires-clause-whole g c =
+    let unit = c.args.unit in
+    let size : (g.P.Pool.shape c.args.journal.now.pool).block_size unit ≡ slot_of c.args.head.device =
+    sym c.in_ok-slot.ensures.long ∙ (c.in_ok-slot.ensures.said ∙ said_slot ((g.P.Pool.shape c.args.journal.now.pool).head c.args.unit) c.args.head.device c.requires.head.stands.slot) in
+    let later : (g.P.Pool.shape c.read_slot.new.journal.pool).block_size unit ≡ slot_of c.args.head.device = ap (λ (s : Shape). s.block_size unit) c.read_slot.ensures.reads.shape ∙ size in
+    ap length c.deref-3.ensures.value ∙ (c.in_ok-slots.ensures.long ∙ ap (λ (n : ℕ). c.in_ok-run.run'.len * n) later)
+
+pub volume_in-requires-clause-run : goal.volume_in-requires-clause-run
+volume_in-requires-clause-run g c =
+    let unit = c.args.unit in
+    let pointer = c.args.label.now.vtoc in
+    let run = c.in_ok-run.run' in
+    let first : IsVtocRun c.args.head (λ _. c.deref.result.now) pointer run = c.in_ok-run.ensures.run (λ _. c.deref.result.now) refl in
+    let size : (g.P.Pool.shape c.args.journal.now.pool).block_size unit ≡ slot_of c.args.head.device =
+    sym c.in_ok-slot.ensures.long ∙ (c.in_ok-slot.ensures.said ∙ said_slot ((g.P.Pool.shape c.args.journal.now.pool).head c.args.unit) c.args.head.device c.requires.head.stands.slot) in
+    let later : (g.P.Pool.shape c.read_slot.new.journal.pool).block_size unit ≡ slot_of c.args.head.device = ap (λ (s : Shape). s.block_size unit) c.read_slot.ensures.reads.shape ∙ size in
+    let track : track_at (heads_of c.args.head.device) pointer.at ≡ c.track_number-track.result = sym (c.track_number-track.ensures ∙ track_is c.args.head.device pointer.at) in
+    let hand : slot_in run ((g.P.Pool.shape c.read_slot.new.journal.pool).block_size unit) c.in_ok-slots.slots.items c.track_number-track.result ≡ c.deref-2.result.now =
+    c.in_ok-slots.ensures.at_hand (subst (λ (n : ℕ). (run.first ≤ n) × (n < run.first + run.len)) track (run_holds c.args.head (λ _. c.deref.result.now) pointer run first)) in
+    let here : slot_in run (slot_of c.args.head.device) c.deref-3.result.now (track_at (heads_of c.args.head.device) pointer.at) ≡ c.deref.result.now =
+    ap (slot_in run (slot_of c.args.head.device) c.deref-3.result.now) track
+    ∙ (ap (λ (l : List ℕ). slot_in run (slot_of c.args.head.device) l c.track_number-track.result) c.deref-3.ensures.value
+    ∙ (ap (λ (n : ℕ). slot_in run n c.in_ok-slots.slots.items c.track_number-track.result) (sym later) ∙ (hand ∙ (c.deref-2.ensures.value ∙ sym c.deref.ensures.value)))) in
+    c.in_ok-run.ensures.run (slot_in run (slot_of c.args.head.device) c.deref-3.result.now) here
+
+pub returns-clause-reads : goal.returns-clause-reads
+returns-clause-reads g c = reads_then g.P.Pool _ _ _ c.read_slot.ensures.reads c.read_run.ensures.reads
+
+pub returns-clause-volume : goal.returns-clause-volume
+returns-clause-volume g c = λ told.
+    let unit = c.args.unit in
+    let run = c.in_ok-run.run' in
+    let contents : Slots = (g.P.Pool.disk c.args.journal.now.pool).state.contents unit in
+    let now : Slots = (g.P.Pool.disk c.read_slot.new.journal.pool).state.contents unit in
+    let same : now ≡ contents = ap (λ (s : State). s.contents unit) (c.read_slot.ensures.reads.same told) in
+    let hand : c.deref-2.result.now ≡ now c.track_number-track.result =
+    c.deref-2.ensures.value ∙ (c.in_ok-slot.ensures.slot told ∙ ap (λ (slots : Slots). slots c.track_number-track.result) (sym same)) in
+    let size : (g.P.Pool.shape c.args.journal.now.pool).block_size unit ≡ slot_of c.args.head.device =
+    sym c.in_ok-slot.ensures.long ∙ (c.in_ok-slot.ensures.said ∙ said_slot ((g.P.Pool.shape c.args.journal.now.pool).head c.args.unit) c.args.head.device c.requires.head.stands.slot) in
+    let later : (g.P.Pool.shape c.read_slot.new.journal.pool).block_size unit ≡ slot_of c.args.head.device = ap (λ (s : Shape). s.block_size unit) c.read_slot.ensures.reads.shape ∙ size in
+    let read : AreSlotsOf run ((g.P.Pool.shape c.read_slot.new.journal.pool).block_size unit) c.in_ok-slots.slots.items now = c.in_ok-slots.ensures.slots told hand in
+    let are : AreSlotsOf run (slot_of c.args.head.device) c.deref-3.result.now contents = λ k less.
+    ap (λ (slots : Slots). slots (run.first + k)) (sym same)
+    ∙ (read k less
+    ∙ (ap (λ (n : ℕ). slot_in run n c.in_ok-slots.slots.items (run.first + k)) later
+    ∙ ap (λ (l : List ℕ). slot_in run (slot_of c.args.head.device) l (run.first + k)) (sym c.deref-3.ensures.value))) in
+    IfOk-weaker c.volume_in.result _ _ (λ volume loaded. loaded contents are) c.volume_in.ensures.loaded
+
+pub returns-clause-stop : goal.returns-clause-stop
+returns-clause-stop g c = λ told.
+    let unit = c.args.unit in
+    let run = c.in_ok-run.run' in
+    let contents : Slots = (g.P.Pool.disk c.args.journal.now.pool).state.contents unit in
+    let now : Slots = (g.P.Pool.disk c.read_slot.new.journal.pool).state.contents unit in
+    let same : now ≡ contents = ap (λ (s : State). s.contents unit) (c.read_slot.ensures.reads.same told) in
+    let hand : c.deref-2.result.now ≡ now c.track_number-track.result =
+    c.deref-2.ensures.value ∙ (c.in_ok-slot.ensures.slot told ∙ ap (λ (slots : Slots). slots c.track_number-track.result) (sym same)) in
+    let size : (g.P.Pool.shape c.args.journal.now.pool).block_size unit ≡ slot_of c.args.head.device =
+    sym c.in_ok-slot.ensures.long ∙ (c.in_ok-slot.ensures.said ∙ said_slot ((g.P.Pool.shape c.args.journal.now.pool).head c.args.unit) c.args.head.device c.requires.head.stands.slot) in
+    let later : (g.P.Pool.shape c.read_slot.new.journal.pool).block_size unit ≡ slot_of c.args.head.device = ap (λ (s : Shape). s.block_size unit) c.read_slot.ensures.reads.shape ∙ size in
+    let read : AreSlotsOf run ((g.P.Pool.shape c.read_slot.new.journal.pool).block_size unit) c.in_ok-slots.slots.items now = c.in_ok-slots.ensures.slots told hand in
+    let are : AreSlotsOf run (slot_of c.args.head.device) c.deref-3.result.now contents = λ k less.
+    ap (λ (slots : Slots). slots (run.first + k)) (sym same)
+    ∙ (read k less
+    ∙ (ap (λ (n : ℕ). slot_in run n c.in_ok-slots.slots.items (run.first + k)) later
+    ∙ ap (λ (l : List ℕ). slot_in run (slot_of c.args.head.device) l (run.first + k)) (sym c.deref-3.ensures.value))) in
+    IfErr-weaker c.volume_in.result _ _ (λ stop stopped. stopped contents are) c.volume_in.ensures.stop
