@@ -1,0 +1,4 @@
+pub mod Bracket
+pub mod Content
+pub mod Operand
+pub mod Laws
