@@ -1,0 +1,4 @@
+pub mod Wrapping
+pub mod Samples
+pub mod Singles
+pub mod Contents
