@@ -5,3 +5,5 @@ pub mod Contents
 pub mod LongCriteria
 pub mod Unlimited
 pub mod Bracketed
+pub mod Inside
+pub mod Operands

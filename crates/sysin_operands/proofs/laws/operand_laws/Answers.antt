@@ -1,9 +1,10 @@
 use Rattle.std.proofs.Common.{inl, inr, true, false}
 use Rattle.sysin_operands.proofs.Bracketed.{one, none_behind}
+use Rattle.sysin_operands.proofs.Operands.{exact}
 use Rattle.sysin_operands.proofs.laws.operand_laws.Goals as goal
 
 pub returns-clause-exact : goal.returns-clause-exact
-returns-clause-exact c = ?
+returns-clause-exact c verb = let e = exact verb in ?
 
 pub returns-clause-one : goal.returns-clause-one
 returns-clause-one c = one
