@@ -1,5 +1,5 @@
 -- What the tokens of an operand are.
-use Rattle.std.proofs.Common.{◌≡◌, ◌⊎◌, inl, inr, ℕ, List, [], ◌∷◌, ◌++◌, refl, sym, ap, subst, ◌∙◌, Bool, true, false, Some, None, append_assoc, append-nil}
+use Rattle.std.proofs.Common.{◌≡◌, ◌⊎◌, inl, inr, ℕ, List, [], ◌∷◌, ◌++◌, refl, sym, ap, subst, ◌∙◌, Bool, true, false, Some, append_assoc}
 use Rattle.std.proofs.lemmas.List.{append_cancel_right}
 use Rattle.sysin_text.specs.declared.token.Token.{Token}
 use Rattle.sysin_text.specs.declared.token.Token.TheVariants.{Open, Close, Word}
@@ -98,13 +98,18 @@ pub goes_out : (verb : Verb) (limited : Bool) (word : List ℕ) (keyword : Keywo
 goes_out verb limited word keyword bracket front k b (rest, operand, s) = (
   rest ++ Close ∷ [],
   operand,
-  inr (keyword, bracket, b, record {
-    word = word;
-    content = front ++ rest;
-    tokens = ap (λ (t : List Token). Word word ∷ Open ∷ t) (sym (append_assoc front rest (Close ∷ [])));
-    spelled = k;
-    inside = s;
-  }),
+  inr (
+    keyword,
+    bracket,
+    b,
+    record {
+      word = word;
+      content = front ++ rest;
+      tokens = ap (λ (t : List Token). Word word ∷ Open ∷ t) (sym (append_assoc front rest (Close ∷ [])));
+      spelled = k;
+      inside = s;
+    },
+  ),
 )
 
 -- and the other way round, but for the last bracket
@@ -145,6 +150,7 @@ none_behind verb limited operand text token (inr (keyword, bracket, b, r)) (rest
     inside_ends : (limited : Bool) → ¬ CanGoOn (IsContent bracket) limited (r.content ++ Close ∷ [])
     inside_ends true g = contents.ends bracket operand r.content r.inside (inl g)
     inside_ends false g = unlimited.ends bracket operand r.content r.inside g
+
     by_place : (content : List Token) → IsContent bracket limited other content → ((Close ≡ Close) × (token ∷ rest ≡ []) × (r.content ≡ content)) ⊎ ((more : List Token) × (content ≡ r.content ++ Close ∷ more)) → ⊥
     by_place content s (inl l) = let none = l.1 in cc
     by_place content s (inr m) =

@@ -1,5 +1,5 @@
 -- What stands in brackets is read exactly.
-use Rattle.std.proofs.Common.{◌≡◌, ◌≢◌, ℕ, List, [], ◌∷◌, refl, sym, ap, subst, ◌∙◌, Bool, true, false}
+use Rattle.std.proofs.Common.{◌≡◌, ◌≢◌, ℕ, List, refl, sym, ap}
 use Rattle.dump_fmt.specs.declared.dd.DdName.{DdName}
 use Rattle.dsn_filter.specs.declared.rename.Rename.{Rename}
 use Rattle.by_rules.specs.declared.criterion.Criterion.{Criterion}
@@ -7,7 +7,6 @@ use Rattle.by_rules.specs.Reading.{Machine, start as criteria_start}
 use Rattle.sysin_text.specs.declared.token.Token.{Token}
 use Rattle.sysin_forms.specs.declared.operand.Operand.{Operand}
 use Rattle.sysin_forms.specs.declared.operand.Operand.TheVariants as operands
-use Rattle.sysin_values.specs.declared.fault.ValueFault.{ValueFault}
 use Rattle.sysin_values.specs.declared.place.WaitPlace.{WaitPlace}
 use Rattle.sysin_values.specs.declared.place.WaitPlace.TheVariants as waits
 use Rattle.sysin_values.specs.Values.{SaysDdName, SaysPattern, IsPatterns, IsOutputs, IsCriteria, IsRename, most_entries, most_outputs}

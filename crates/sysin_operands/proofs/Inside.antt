@@ -1,11 +1,11 @@
 -- What it means that values with lists in brackets are read exactly: a comma behind a full list is right, as it is where the list stands alone.
-use Rattle.std.proofs.Common.{◌≡◌, ◌⊎◌, inl, inr, List, [], ◌∷◌, ◌++◌, sym, ap, subst, Bool, true, false, append-nil}
+use Rattle.std.proofs.Common.{◌≡◌, ◌⊎◌, inl, inr, List, [], ◌∷◌, ◌++◌, sym, subst, Bool, true, false, append-nil}
 use Rattle.std.proofs.lemmas.List.{same_from_push}
 use Rattle.sysin_text.specs.declared.token.Token.{Token}
 use Rattle.sysin_text.specs.declared.token.Token.TheVariants.{Comma}
 use Rattle.sysin_values.specs.declared.fault.ValueFault.{ValueFault}
 use Rattle.sysin_values.specs.declared.fault.ValueFault.TheVariants as faults
-use Rattle.sysin_values.specs.Begun.{CanGoOn, Begin, EndWithComma}
+use Rattle.sysin_values.specs.Begun.{CanGoOn, Begin}
 use Rattle.sysin_values.specs.Exact.{IsExact}
 
 -- tokens that can go on, and a comma behind them with which a longer list does

@@ -1,5 +1,5 @@
 -- A token that is wrong among criteria is so whatever number of them there may be, but for a bracket where they are full.
-use Rattle.std.proofs.Common.{◌≡◌, ◌⊎◌, inl, inr, ℕ, zero, suc, ◌+◌, ◌<◌, ◌≤◌, List, [], ◌∷◌, ◌++◌, length, refl, sym, ap, subst, ◌∙◌, Bool, true, false, arith, Option, Some, None, append_assoc, append-nil}
+use Rattle.std.proofs.Common.{◌≡◌, ◌⊎◌, inl, inr, ℕ, zero, suc, ◌+◌, ◌<◌, List, [], ◌∷◌, ◌++◌, length, refl, sym, ap, subst, ◌∙◌, true, false, arith, Some, None, append_assoc, append-nil}
 use Rattle.std.specs.Prelude.{◌==◌, map}
 use Rattle.std.specs.Option.{option_and_then}
 use Rattle.std.proofs.lemmas.Bool.Decides.{nat_tests}
@@ -14,7 +14,6 @@ use Rattle.by_rules.specs.Reading.{Machine, start, next, run}
 use Rattle.by_rules.proofs.Complete.{at, run_then, complete}
 use Rattle.by_rules.proofs.Refusing as refusing
 use Rattle.sysin_text.specs.declared.token.Token.{Token}
-use Rattle.sysin_text.specs.declared.token.Token.TheVariants as tokens
 use Rattle.sysin_values.specs.declared.fault.ValueFault.{ValueFault}
 use Rattle.sysin_values.specs.declared.fault.ValueFault.TheVariants as faults
 use Rattle.sysin_values.specs.Values.{IsCriteria, rule_of}
@@ -184,10 +183,10 @@ only_full machine front token rest list r none s =
     elim (cases_lt most_criteria (length list)) [
       | inl long ↦ by_cut (cut 254 list (front ++ token ∷ rest) (omega (arith, long)) s)
       | inr few ↦ absurd (refusing.wrong machine front token r none (inl (record {
-          criteria = list;
-          rest = rest;
-          spelled = record { sequence = subst (λ (t : List Symbol). IsSequence list t) (sym (append_assoc front (token ∷ []) rest)) s; few = few };
-        })))
+        criteria = list;
+        rest = rest;
+        spelled = record { sequence = subst (λ (t : List Symbol). IsSequence list t) (sym (append_assoc front (token ∷ []) rest)) s; few = few };
+      })))
     ]
   where
     by_cut : IsCut (254 + 1) (front ++ token ∷ rest) → IsFull machine token
@@ -195,8 +194,10 @@ only_full machine front token rest list r none s =
       where
         full : length k.whole ≡ most_criteria
         full = k.length_is
+
         ran : run start k.front ≡ Some (After k.whole)
         ran = complete k.front k.whole (record { sequence = k.first; few = omega (arith, full) })
+
         by_join : (front ++ token ∷ rest ≡ k.front ++ k.back) ⊎ (front ++ token ∷ rest ≡ k.front ++ rules.Comma ∷ k.back) → IsFull machine token
         by_join (inl j) =
             let o = opened k.others k.back k.second in

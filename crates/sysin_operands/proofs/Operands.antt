@@ -1,5 +1,5 @@
 -- Operands are read exactly.
-use Rattle.std.proofs.Common.{◌≡◌, ◌⊎◌, inl, inr, ℕ, List, [], ◌∷◌, ◌++◌, refl, sym, ap, subst, ◌∙◌, Bool, true, false, Some, None, append_assoc, append-nil}
+use Rattle.std.proofs.Common.{◌≡◌, ◌⊎◌, inl, inr, List, [], ◌∷◌, ◌++◌, refl, sym, ap, subst, ◌∙◌, Bool, true, false, None, append-nil}
 use Rattle.std.specs.Prelude.{codes}
 use Rattle.std.proofs.lemmas.List.{same_from_push}
 use Rattle.sysin_text.specs.declared.token.Token.{Token}
@@ -7,7 +7,6 @@ use Rattle.sysin_text.specs.declared.token.Token.TheVariants.{Comma, Open, Close
 use Rattle.sysin_words.specs.declared.keyword.Keyword.{Keyword}
 use Rattle.sysin_words.specs.declared.keyword.Keyword.TheVariants as keywords
 use Rattle.sysin_words.specs.declared.lead.Verb.{Verb}
-use Rattle.sysin_words.specs.Keyword.{keyword_of}
 use Rattle.sysin_forms.specs.declared.operand.Operand.{Operand}
 use Rattle.sysin_forms.specs.declared.operand.Operand.TheVariants as operands
 use Rattle.sysin_values.specs.declared.fault.ValueFault.{ValueFault}
@@ -24,7 +23,7 @@ use Rattle.sysin_operands.specs.Operand.{IsKeyword, OperandGoes, OperandStops, O
 use Rattle.sysin_operands.proofs.Inside.{FullWithComma, BeginInside, IsExactInside}
 use Rattle.sysin_operands.proofs.Contents as inner
 use Rattle.sysin_operands.proofs.Unlimited as unlimited
-use Rattle.sysin_operands.proofs.Bracketed.{one, none_behind, next_opens, inside_of, goes_in, goes_out, only_word}
+use Rattle.sysin_operands.proofs.Bracketed.{one, none_behind, next_opens, inside_of, goes_in, goes_out}
 
 put : (text known : List Token) (token sign : Token) → text ≡ known → token ≡ sign → text ++ token ∷ [] ≡ known ++ sign ∷ []
 put text known token sign e f = ap (λ (t : List Token). t ++ token ∷ []) e ∙ ap (λ (s : Token). known ++ s ∷ []) f
@@ -37,13 +36,18 @@ goes verb places.Start new text token r (keyword, (word, sign, k), inr (bracket,
 goes verb (places.Named bracket) new text token (word, keyword, e, k, b) (sign, is) =
     subst (λ (p : OperandPlace). OperandReads verb p (text ++ token ∷ [])) (sym is) (word, keyword, [], put text (Word word ∷ []) token Open e sign, k, b, (inner.exact bracket).begins)
 goes verb (places.Inside bracket content) new text token (word, keyword, front, e, k, b, r) (inl (operand, sign, ended, gives, is)) =
-    subst (λ (p : OperandPlace). OperandReads verb p (text ++ token ∷ [])) (sym is) (inr (keyword, bracket, b, record {
-      word = word;
-      content = front;
-      tokens = put text (Word word ∷ Open ∷ front) token Close e sign;
-      spelled = k;
-      inside = (inner.exact bracket).spelled content front operand r gives;
-    }))
+    subst (λ (p : OperandPlace). OperandReads verb p (text ++ token ∷ [])) (sym is) (inr (
+      keyword,
+      bracket,
+      b,
+      record {
+        word = word;
+        content = front;
+        tokens = put text (Word word ∷ Open ∷ front) token Close e sign;
+        spelled = k;
+        inside = (inner.exact bracket).spelled content front operand r gives;
+      },
+    ))
 goes verb (places.Inside bracket content) new text token (word, keyword, front, e, k, b, r) (inr (more, open', g, is)) =
     subst (λ (p : OperandPlace). OperandReads verb p (text ++ token ∷ [])) (sym is)
     (word, keyword, front ++ token ∷ [], ap (λ (t : List Token). t ++ token ∷ []) e, k, b, (inner.exact bracket).goes content more front token r g)

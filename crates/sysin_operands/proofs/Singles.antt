@@ -15,7 +15,7 @@ use Rattle.sysin_operands.specs.declared.bracket.Bracket.TheVariants as brackets
 use Rattle.sysin_operands.specs.declared.content.Content.{Content}
 use Rattle.sysin_operands.specs.declared.content.Content.TheVariants as contents
 use Rattle.sysin_operands.specs.Bracket.{SaysSingle, IsContent}
-use Rattle.sysin_operands.specs.Content.{start_of, ContentGoes, ContentStops, ContentGives, ContentReads}
+use Rattle.sysin_operands.specs.Content.{ContentGoes, ContentStops, ContentGives, ContentReads}
 use Rattle.sysin_operands.proofs.Samples.{sample}
 
 -- a word says one operand at most

@@ -1,5 +1,5 @@
 -- A comma or a last bracket that is wrong in brackets is so even where lists have no limit.
-use Rattle.std.proofs.Common.{◌≡◌, ◌⊎◌, inl, inr, List, [], ◌∷◌, ◌++◌, refl, ap, Bool, true, false, None}
+use Rattle.std.proofs.Common.{◌≡◌, ◌⊎◌, inl, inr, List, [], ◌∷◌, ◌++◌, refl, ap, true, false, None}
 use Rattle.std.specs.Option.{option_and_then}
 use Rattle.by_rules.specs.Token as rules
 use Rattle.by_rules.specs.declared.state.State.{State}

@@ -4,7 +4,7 @@ use Rattle.sysin_text.specs.declared.token.Token.{Token}
 use Rattle.sysin_text.specs.declared.token.Token.TheVariants.{Close}
 use Rattle.sysin_values.specs.declared.fault.ValueFault.{ValueFault}
 use Rattle.sysin_values.specs.declared.fault.ValueFault.TheVariants as faults
-use Rattle.sysin_values.specs.Begun.{CanGoOn, Begin, EndWithComma}
+use Rattle.sysin_values.specs.Begun.{CanGoOn, Begin}
 use Rattle.sysin_values.specs.Exact.{IsExact, OneValue, EndsAtClose, MayStand, IsWhy, TellsWhy}
 
 -- the same tokens spell a value, and what is made of it

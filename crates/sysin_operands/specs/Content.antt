@@ -1,5 +1,5 @@
 -- What is read in brackets so far.
-use Rattle.std.specs.Prelude.{◌≡◌, ◌⊎◌, ℕ, true, false, List, [], ◌∷◌}
+use Rattle.std.specs.Prelude.{◌≡◌, ℕ, false, List, [], ◌∷◌}
 use Rattle.dump_fmt.specs.declared.dd.DdName.{DdName}
 use Rattle.by_rules.specs.Reading.{Machine, start as criteria_start, HasEnded}
 use Rattle.sysin_text.specs.declared.token.Token.{Token}

@@ -1,5 +1,5 @@
 -- What is read of an operand so far.
-use Rattle.std.specs.Prelude.{◌≡◌, ◌⊎◌, ℕ, true, List, [], ◌∷◌, ◌++◌, Some, None}
+use Rattle.std.specs.Prelude.{◌≡◌, ◌⊎◌, ℕ, true, List, [], ◌∷◌, Some, None}
 use Rattle.sysin_text.specs.declared.token.Token.{Token}
 use Rattle.sysin_text.specs.declared.token.Token.TheVariants as tokens
 use Rattle.sysin_words.specs.declared.keyword.Keyword.{Keyword}

@@ -1,7 +1,6 @@
 use Rattle.std.proofs.Common.{rules, sym, subst}
 use Rattle.std.specs.Prelude.{IfErr}
 use Rattle.sysin_operands.specs.declared.operand.OperandPlace.{OperandPlace}
-use Rattle.sysin_operands.specs.declared.operand.OperandPlace.TheVariants as places
 use Rattle.sysin_operands.specs.Operand.{OperandStops}
 use Rattle.sysin_operands.proofs.operand.OperandReading.take.Goals as goal
 
