@@ -2,8 +2,6 @@ pub mod Wrapping
 pub mod Samples
 pub mod Singles
 pub mod Contents
-pub mod LongCriteria
 pub mod Unlimited
 pub mod Bracketed
-pub mod Inside
 pub mod Operands

@@ -12,6 +12,7 @@ use Rattle.sysin_forms.specs.declared.operand.Operand.TheVariants as operands
 use Rattle.sysin_values.specs.declared.fault.ValueFault.{ValueFault}
 use Rattle.sysin_values.specs.declared.fault.ValueFault.TheVariants as faults
 use Rattle.sysin_values.specs.Begun.{CanGoOn, Begin}
+use Rattle.sysin_values.specs.Exact.{IsExact}
 use Rattle.sysin_operands.specs.declared.bracket.Bracket.{Bracket}
 use Rattle.sysin_operands.specs.declared.content.Content.{Content}
 use Rattle.sysin_operands.specs.declared.content.Content.TheVariants as contents
@@ -20,7 +21,6 @@ use Rattle.sysin_operands.specs.declared.operand.OperandPlace.TheVariants as pla
 use Rattle.sysin_operands.specs.Bracket.{alone_of, bracket_of, IsContent, IsPlainOperand}
 use Rattle.sysin_operands.specs.Content.{start_of, CanEnd, ContentStops, ContentGives, ContentReads}
 use Rattle.sysin_operands.specs.Operand.{IsKeyword, OperandGoes, OperandStops, OperandGives, OperandReads}
-use Rattle.sysin_operands.proofs.Inside.{FullWithComma, BeginInside, IsExactInside}
 use Rattle.sysin_operands.proofs.Contents as inner
 use Rattle.sysin_operands.proofs.Unlimited as unlimited
 use Rattle.sysin_operands.proofs.Bracketed.{one, none_behind, next_opens, inside_of, goes_in, goes_out}
@@ -89,10 +89,10 @@ begin_nothing bracket (inr e) = absurd (no_comma e.front e.comma)
     no_comma [] e = cc
     no_comma (sign ∷ front) e = cc
 
-moved : (verb : Verb) (text same : List Token) → text ≡ same → BeginInside (IsPlainOperand verb) same → BeginInside (IsPlainOperand verb) text
-moved verb text same e b = subst (λ (t : List Token). BeginInside (IsPlainOperand verb) t) (sym e) b
+moved : (verb : Verb) (text same : List Token) → text ≡ same → Begin (IsPlainOperand verb) same → Begin (IsPlainOperand verb) text
+moved verb text same e b = subst (λ (t : List Token). Begin (IsPlainOperand verb) t) (sym e) b
 
-right : (verb : Verb) (place : OperandPlace) (text : List Token) → OperandReads verb place text → BeginInside (IsPlainOperand verb) text
+right : (verb : Verb) (place : OperandPlace) (text : List Token) → OperandReads verb place text → Begin (IsPlainOperand verb) text
 right verb places.Start text r =
     moved verb text [] r (inl (Word (codes "VTOC") ∷ [], operands.Vtoc, inl (keywords.Vtoc, refl, (codes "VTOC", refl, refl))))
 right verb (places.Named bracket) text (word, keyword, e, k, b) =
@@ -101,12 +101,12 @@ right verb (places.Named bracket) text (word, keyword, e, k, b) =
 right verb (places.Inside bracket content) text (word, keyword, front, e, k, b, r) =
     moved verb text (Word word ∷ Open ∷ front) e (by_content ((inner.exact bracket).right content front r))
   where
-    by_content : Begin (IsContent bracket) front → BeginInside (IsPlainOperand verb) (Word word ∷ Open ∷ front)
+    by_content : Begin (IsContent bracket) front → Begin (IsPlainOperand verb) (Word word ∷ Open ∷ front)
     by_content (inl g) = inl (goes_out verb true word keyword bracket front k b g)
     by_content (inr c) = inr (record {
       front = Word word ∷ Open ∷ c.front;
       comma = ap (λ (t : List Token). Word word ∷ Open ∷ t) c.comma;
-      before = goes_out verb true word keyword bracket c.front k b ([], c.value, subst (λ (t : List Token). IsContent bracket true c.value t) (sym (append-nil c.front)) c.spelled);
+      before = goes_out verb true word keyword bracket c.front k b c.before;
       longer = goes_out verb false word keyword bracket front k b c.longer;
     })
 right verb (places.Ended operand) text r = inl ([], operand, subst (λ (t : List Token). IsPlainOperand verb true operand t) (sym (append-nil text)) r)
@@ -154,12 +154,12 @@ no_more verb (places.Inside bracket content) text token fault limited bound (wor
 no_more verb (places.Ended operand) text token fault limited bound r stop real g = none_behind verb limited operand text token r g
 
 wrong : (verb : Verb) (place : OperandPlace) (text : List Token) (token : Token) (fault : ValueFault) → OperandReads verb place text → OperandStops verb place token fault → ¬ (fault ≡ faults.NoMemory)
-    → ¬ BeginInside (IsPlainOperand verb) (text ++ token ∷ [])
+    → ¬ Begin (IsPlainOperand verb) (text ++ token ∷ [])
 wrong verb place text token fault r stop real (inl g) = no_more verb place text token fault true (inl refl) r stop real g
 wrong verb place text token fault r stop real (inr e) =
     no_more verb place text token fault false (inr (same_from_push text e.front token Comma e.comma).1) r stop real e.longer
 
-pub exact : (verb : Verb) → IsExactInside (IsPlainOperand verb) places.Start (OperandGoes verb) (OperandStops verb) OperandGives (OperandReads verb)
+pub exact : (verb : Verb) → IsExact (IsPlainOperand verb) places.Start (OperandGoes verb) (OperandStops verb) OperandGives (OperandReads verb)
 exact verb = record {
   begins = refl;
   goes = goes verb;

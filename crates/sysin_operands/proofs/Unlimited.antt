@@ -19,6 +19,7 @@ use Rattle.sysin_values.specs.Pairs.{pair_start}
 use Rattle.sysin_values.specs.Names.{NameProgress, NamesStop, NamesRead}
 use Rattle.sysin_values.specs.Begun.{CanGoOn}
 use Rattle.sysin_values.specs.Exact.{IsWhy}
+use Rattle.sysin_values.proofs.LongCriteria as long
 use Rattle.sysin_values.proofs.Waits.{waiting_is}
 use Rattle.sysin_operands.specs.declared.bracket.Bracket.{Bracket}
 use Rattle.sysin_operands.specs.declared.bracket.Bracket.TheVariants as brackets
@@ -28,7 +29,6 @@ use Rattle.sysin_operands.specs.Bracket.{IsContent}
 use Rattle.sysin_operands.specs.Content.{ContentStops, ContentReads}
 use Rattle.sysin_operands.proofs.Wrapping.{goes_in}
 use Rattle.sysin_operands.proofs.Contents.{tells_why, by_made}
-use Rattle.sysin_operands.proofs.LongCriteria as long
 
 abbrev pub IsMark : Token → Type 0
 IsMark token = (token ≡ Comma) ⊎ (token ≡ Close)

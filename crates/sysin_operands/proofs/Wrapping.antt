@@ -24,13 +24,12 @@ goes_out Spells Other made limited text (rest, x, s) = (rest, made.wrap x, made.
 pub begin_in : {X Y : Type 0} (Spells : Bool → X → List Token → Type 0) (Other : Bool → Y → List Token → Type 0) → IsMadeOf Spells Other → (text : List Token) → Begin Other text → Begin Spells text
 begin_in Spells Other made text (inl g) = inl (goes_in Spells Other made true text g)
 begin_in Spells Other made text (inr e) =
-    let i = made.inner true e.value e.front e.spelled in
-    inr (record { front = e.front; value = i.0; comma = e.comma; spelled = i.1; longer = goes_in Spells Other made false text e.longer })
+    inr (record { front = e.front; comma = e.comma; before = goes_in Spells Other made true e.front e.before; longer = goes_in Spells Other made false text e.longer })
 
 pub begin_out : {X Y : Type 0} (Spells : Bool → X → List Token → Type 0) (Other : Bool → Y → List Token → Type 0) → IsMadeOf Spells Other → (text : List Token) → Begin Spells text → Begin Other text
 begin_out Spells Other made text (inl g) = inl (goes_out Spells Other made true text g)
 begin_out Spells Other made text (inr e) =
-    inr (record { front = e.front; value = made.wrap e.value; comma = e.comma; spelled = made.outer true e.value e.front e.spelled; longer = goes_out Spells Other made false text e.longer })
+    inr (record { front = e.front; comma = e.comma; before = goes_out Spells Other made true e.front e.before; longer = goes_out Spells Other made false text e.longer })
 
 stands_in : {X Y : Type 0} (Spells : Bool → X → List Token → Type 0) (Other : Bool → Y → List Token → Type 0) → IsMadeOf Spells Other → (limited : Bool) (text : List Token) (token : Token)
     → MayStand Other limited text token → MayStand Spells limited text token

@@ -1,8 +1,8 @@
 -- Criteria are read exactly.
-use Rattle.std.proofs.Common.{◌≡◌, inl, inr, List, [], ◌∷◌, ◌++◌, refl, sym, ap, subst, ◌∙◌, true, false, None, append_assoc}
+use Rattle.std.proofs.Common.{◌≡◌, inl, inr, List, [], ◌∷◌, ◌++◌, refl, sym, ap, subst, ◌∙◌, true, false, append_assoc, append-nil}
 use Rattle.std.specs.Prelude.{codes, map}
 use Rattle.std.specs.Option.{option_and_then}
-use Rattle.std.proofs.lemmas.List.{map_push, map-append}
+use Rattle.std.proofs.lemmas.List.{map_push, map-append, same_from_push}
 use Rattle.by_rules.specs.declared.criterion.Criterion.{Criterion}
 use Rattle.by_rules.specs.declared.criterion.Key.TheVariants as keys
 use Rattle.by_rules.specs.declared.criterion.Op.TheVariants as ops
@@ -10,7 +10,7 @@ use Rattle.by_rules.specs.declared.criterion.Value.TheVariants as values
 use Rattle.by_rules.specs.Token as rules
 use Rattle.by_rules.specs.Token.{Symbol}
 use Rattle.by_rules.specs.Grammar.{IsCriterion, IsSequence, Spell}
-use Rattle.by_rules.specs.Reading.{Machine, start, next, run, HasEnded}
+use Rattle.by_rules.specs.Reading.{Machine, start, run, HasEnded}
 use Rattle.by_rules.specs.Refusal as refusal
 use Rattle.by_rules.proofs.Complete.{run_then}
 use Rattle.by_rules.proofs.Reader.{read_is_spelled, spelled_is_read}
@@ -20,9 +20,10 @@ use Rattle.sysin_text.specs.declared.token.Token.TheVariants as tokens
 use Rattle.sysin_values.specs.declared.fault.ValueFault.{ValueFault}
 use Rattle.sysin_values.specs.declared.fault.ValueFault.TheVariants as faults
 use Rattle.sysin_values.specs.Values.{IsCriteria, rule_of}
-use Rattle.sysin_values.specs.Begun.{Begin}
+use Rattle.sysin_values.specs.Begun.{CanGoOn, Begin}
 use Rattle.sysin_values.specs.Exact.{IsExact}
 use Rattle.sysin_values.specs.Criteria.{CriteriaGo, CriteriaStop, CriteriaReads, CriteriaGive}
+use Rattle.sysin_values.proofs.LongCriteria.{no_next, stopped}
 
 abbrev rules_of : List Token → List Symbol
 rules_of text = map rule_of text
@@ -137,29 +138,23 @@ right_by text (inr e) =
     (sequence_more e.criteria e.front sample sample_text sp.sequence sample_spelled) in
     inr (record {
       front = s.before;
-      value = e.criteria;
       comma = s.whole;
-      spelled = (subst (λ (t : List Symbol). IsSequence e.criteria t) (sym s.same) sp.sequence, λ _. sp.few);
+      before = ([], e.criteria, (subst (λ (t : List Symbol). IsSequence e.criteria t) (sym s.same ∙ sym (ap rules_of (append-nil s.before))) sp.sequence, λ _. sp.few));
       longer = (map token_for sample_text, e.criteria ++ sample ∷ [], (subst (λ (t : List Symbol). IsSequence (e.criteria ++ sample ∷ []) t) (sym (behind text sample_text)) more, λ free. cc));
     })
 
-begins : (text : List Token) → Begin IsCriteria text → refusal.Begin (rules_of text)
-begins text (inl (rest, criteria, (sequence, few))) =
+-- tokens of criteria of which there may be so many are right
+begins : (text : List Token) → CanGoOn IsCriteria true text → refusal.Begin (rules_of text)
+begins text (rest, criteria, (sequence, few)) =
     inl (record { criteria = criteria; rest = rules_of rest; spelled = record { sequence = subst (λ (t : List Symbol). IsSequence criteria t) (map-append rule_of text rest) sequence; few = few refl } })
-begins text (inr e) =
-    let few = e.spelled.1 refl in
-    inr (record { criteria = e.value; front = rules_of e.front; comma = ap rules_of e.comma ∙ pushed e.front tokens.Comma; spelled = record { sequence = e.spelled.0; few = few } })
-
-no_next : (old : Machine) (token : Token) (fault : ValueFault) → CriteriaStop old token fault → ¬ (fault ≡ faults.NoMemory) → next old (rule_of token) ≡ None
-no_next old token faults.Count stop real = stop.0
-no_next old token faults.Value stop real = stop.0
-no_next old token faults.Word stop real = stop.0
-no_next old token faults.NoMemory stop real = absurd (real refl)
 
 wrong : (machine : Machine) (text : List Token) (token : Token) (fault : ValueFault) → CriteriaReads machine text → CriteriaStop machine token fault → ¬ (fault ≡ faults.NoMemory) → ¬ Begin IsCriteria (text ++ token ∷ [])
-wrong machine text token fault r stop real b =
-    let begun = subst (λ (t : List Symbol). refusal.Begin t) (pushed text token) (begins (text ++ token ∷ []) b) in
+wrong machine text token fault r stop real (inl g) =
+    let begun = subst (λ (t : List Symbol). refusal.Begin t) (pushed text token) (begins (text ++ token ∷ []) g) in
     refusing.wrong machine (rules_of text) (rule_of token) r (no_next machine token fault stop real) begun
+wrong machine text token fault r stop real (inr e) =
+    let sign : token ≡ tokens.Comma = (same_from_push text e.front token tokens.Comma e.comma).1 in
+    stopped machine text token fault r stop real (λ open'. let comma : rule_of token ≡ rules.Comma = ap rule_of sign in cc) e.longer
 
 pub exact : IsExact IsCriteria start CriteriaGo CriteriaStop CriteriaGive CriteriaReads
 exact = record {

@@ -3,6 +3,7 @@ pub mod WordLists
 pub mod PairLists
 pub mod Naming
 pub mod Waits
+pub mod LongCriteria
 pub mod CriteriaLists
 pub mod Said
 pub mod OneValues

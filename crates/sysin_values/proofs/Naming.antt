@@ -118,7 +118,7 @@ right progress text (inr (none, r)) = by_begin (pairs.exact.right progress.pairs
   where
     by_begin : Begin IsPairs text → Begin IsRename text
     by_begin (inl g) = inl (of_pairs true text g)
-    by_begin (inr e) = inr (record { front = e.front; value = renames.Listed e.value; comma = e.comma; spelled = e.spelled; longer = of_pairs false text e.longer })
+    by_begin (inr e) = inr (record { front = e.front; comma = e.comma; before = of_pairs true e.front e.before; longer = of_pairs false text e.longer })
 
 -- with a token that stops nothing goes on
 nowhere : (progress : NameProgress) (text : List Token) (token : Token) (fault : ValueFault) → NamesRead progress text → NamesStop progress token fault → ¬ (fault ≡ faults.NoMemory)

@@ -270,7 +270,7 @@ before_or_full list text p (inl full) = by_front p.before
     by_front (inl none) = let empty : length list ≡ 0 = ap length none.0 in absurd (omega arith)
     by_front (inr some) =
         let same : text ≡ some.0 ++ Comma ∷ [] = p.whole ∙ ap (λ (u : List Token). p.front ++ u) p.place_is ∙ append-nil p.front ∙ some.1 in
-        inr (refl, omega arith, record { front = some.0; value = list; comma = same; spelled = (some.2, λ _. omega arith); longer = ended_pair places.Before false list text p (λ free. cc) })
+        inr (refl, omega arith, record { front = some.0; comma = same; before = whole true list some.0 some.2 (omega arith); longer = ended_pair places.Before false list text p (λ free. cc) })
 
 pub can_go_on : (place : PairPlace) (list : List (Dsn × Dsn)) (text : List Token) → HasRoom place list → IsAt place list text → CanGoOn IsPairs true text ⊎ IsFull place list text
 can_go_on place list text room (inl (behind, l)) = inl (whole true list text l (subst (λ (p : PairPlace). HasRoom p list) behind room))

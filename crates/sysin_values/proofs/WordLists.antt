@@ -133,9 +133,8 @@ can_go_on {X} Says most said progress text (few, inr (wanted, b)) = by_length b 
       omega arith,
       record {
         front = some.0;
-        value = progress.list;
         comma = some.1;
-        spelled = (some.2, λ _. few);
+        before = whole Says most true progress.list some.0 some.2 few;
         longer = one_more Says most said false progress.list text (inr some) (λ free. cc);
       },
     )

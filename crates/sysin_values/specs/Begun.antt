@@ -7,12 +7,11 @@ use Rattle.sysin_text.specs.declared.token.Token.TheVariants as tokens
 abbrev pub CanGoOn : {X : Type 0} → (Bool → X → List Token → Type 0) → Bool → List Token → Type 0
 CanGoOn {X} Spells limited text = (rest : List Token) × (value : X) × Spells limited value (text ++ rest)
 
--- a value and a comma behind it, as where its list is full: a longer list goes on, and not the comma is wrong
+-- tokens that can go on and a comma behind them, as where a list is full: a longer list goes on, and not the comma is wrong
 pub record EndWithComma {X : Type 0} (Spells : Bool → X → List Token → Type 0) (text : List Token) : Type 0 where
   pub front : List Token
-  pub value : X
   pub comma : text ≡ front ++ tokens.Comma ∷ []
-  pub spelled : Spells true value front
+  pub before : CanGoOn Spells true front
   pub longer : CanGoOn Spells false text
 
 -- no token of these is wrong

@@ -4,7 +4,7 @@ use Rattle.sysin_operands.proofs.Operands.{exact}
 use Rattle.sysin_operands.proofs.laws.operand_laws.Goals as goal
 
 pub returns-clause-exact : goal.returns-clause-exact
-returns-clause-exact c verb = let inside = exact verb in ?
+returns-clause-exact c = exact
 
 pub returns-clause-one : goal.returns-clause-one
 returns-clause-one c = one

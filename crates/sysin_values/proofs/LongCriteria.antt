@@ -206,7 +206,7 @@ only_full machine front token rest list r none s =
             let o = opened k.others k.back k.second in
             full_behind machine front token rest (rules.Comma ∷ k.back) o.0 k.whole k.front r none ran full (inr (ap (λ (t : List Symbol). rules.Comma ∷ t) o.1)) (overlap front (token ∷ rest) k.front (rules.Comma ∷ k.back) j)
 
-no_next : (machine : Machine) (token : Token) (fault : ValueFault) → CriteriaStop machine token fault → ¬ (fault ≡ faults.NoMemory) → next machine (rule_of token) ≡ None
+pub no_next : (machine : Machine) (token : Token) (fault : ValueFault) → CriteriaStop machine token fault → ¬ (fault ≡ faults.NoMemory) → next machine (rule_of token) ≡ None
 no_next machine token faults.Count stop real = stop.0
 no_next machine token faults.Value stop real = stop.0
 no_next machine token faults.Word stop real = stop.0
