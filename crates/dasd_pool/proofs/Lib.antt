@@ -6,3 +6,4 @@ pub mod Reading
 pub mod Marking
 pub mod Effects
 pub mod Ordered
+pub mod Whole

@@ -33,12 +33,13 @@ pub trait Pool {
         requires { unit < (shape self.now).units }
         ensures { result ≡ (shape self.now).head unit };
 
-    /// The bytes of each block of a unit, which its head says.
+    /// The bytes of each block of a unit, which its head says. What is told of a block has so many.
     fn block_size(&self, unit: u32) -> u32
         requires { unit < (shape self.now).units }
         ensures value { result ≡ (shape self.now).block_size unit }
         ensures fits { result ≤ 65536 }
-        ensures said { result ≡ size_in ((shape self.now).head unit) };
+        ensures said { result ≡ size_in ((shape self.now).head unit) }
+        ensures whole { tells → (b : ℕ) → b < (shape self.now).blocks unit → length ((disk self.now).state.contents unit b) ≡ result };
 
     fn blocks(&self, unit: u32) -> u32
         requires { unit < (shape self.now).units }

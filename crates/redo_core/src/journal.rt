@@ -194,12 +194,13 @@ impl<P: Pool> Journal<P> {
         self.pool.head(unit)
     }
 
-    /// The bytes of each block of a volume, which its head says.
+    /// The bytes of each block of a volume, which its head says. What is told of a block has so many.
     pub fn block_size(&self, unit: u32) -> u32
         requires { unit < journal_of (P.shape self.now.pool) }
         ensures value { result ≡ (P.shape self.now.pool).block_size unit }
         ensures fits { result ≤ 65536 }
         ensures said { result ≡ size_in ((P.shape self.now.pool).head unit) }
+        ensures whole { P.tells → (b : ℕ) → b < (P.shape self.now.pool).blocks unit → length ((P.disk self.now.pool).state.contents unit b) ≡ result }
     {
         self.pool.block_size(unit)
     }
