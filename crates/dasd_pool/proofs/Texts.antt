@@ -1,6 +1,6 @@
 -- The bytes of several units.
-use Rattle.std.proofs.Common.{◌≡◌, inl, inr, ℕ, zero, suc, ◌+◌, ◌*◌, ◌<◌, ◌≤◌, List, [], ◌∷◌, ◌++◌, length, take, map, get_or, Bool, Vec, refl, sym, ◌∙◌, ap, subst, arith}
-use Rattle.std.specs.Prelude.{◌==◌, ◌&&◌, if◌then◌else◌, slice_set}
+use Rattle.std.proofs.Common.{◌≡◌, inl, inr, ℕ, zero, suc, ◌+◌, ◌-◌, ◌*◌, ◌/◌, ◌^◌, ◌<◌, ◌≤◌, List, [], ◌∷◌, ◌++◌, length, take, map, get_or, Bool, Vec, refl, sym, ◌∙◌, ap, subst, arith}
+use Rattle.std.specs.Prelude.{◌==◌, ◌&&◌, if◌then◌else◌, slice_set, min}
 use Rattle.std.specs.declared.alloc.Global.{Global}
 use Rattle.std.proofs.lemmas.Bool.{cases_eq, eq-eqb, ne_eqb, and_left}
 use Rattle.std.proofs.lemmas.List.{take_more, length-map, map-append, get_or-set_same, get_or-set_other, get_or_push, get_or_append_left, get_or_past}
@@ -88,3 +88,34 @@ heads_more units new later i unit blocks less is more so_far =
     ap (λ (us : List UnitText). map (λ (t : UnitText). t.head) us) more ∙ map-append (λ (t : UnitText). t.head) new (added ∷ [])
     ∙ (λ j. so_far j ++ sym (map_read (λ (t : UnitText). t.head) units i unit [] less is) j ∷ [])
     ∙ sym (take_more (map (λ (t : UnitText). t.head) units) i [] (omega (arith, length-map units (λ (t : UnitText). t.head))))
+
+pub lengths_more : (units new later : List UnitText) (i : ℕ) (unit : UnitText) (blocks : List ℕ) → i < length units → unit ≡ get_or units i unit → later ≡ new ++ record { head = unit.head; blocks = blocks } ∷ []
+    → length blocks ≡ length unit.blocks → map (λ (t : UnitText). length t.blocks) new ≡ take i (map (λ (t : UnitText). length t.blocks) units)
+    → map (λ (t : UnitText). length t.blocks) later ≡ take (i + 1) (map (λ (t : UnitText). length t.blocks) units)
+lengths_more units new later i unit blocks less is more same so_far =
+    let added : UnitText = record { head = unit.head; blocks = blocks } in
+    ap (λ (us : List UnitText). map (λ (t : UnitText). length t.blocks) us) more ∙ map-append (λ (t : UnitText). length t.blocks) new (added ∷ [])
+    ∙ (λ j. so_far j ++ (same ∙ sym (map_read (λ (t : UnitText). length t.blocks) units i unit 0 less is)) j ∷ [])
+    ∙ sym (take_more (map (λ (t : UnitText). length t.blocks) units) i 0 (omega (arith, length-map units (λ (t : UnitText). length t.blocks))))
+
+-- the length of a unit's bytes, of which there are none where it is not there
+text_length : (units : List UnitText) (u : ℕ) → length (get_or (texts_of units) u []) ≡ get_or (map (λ (t : UnitText). length t.blocks) units) u 0
+text_length [] zero = refl
+text_length [] (suc u) = refl
+text_length (unit ∷ units) zero = refl
+text_length (unit ∷ units) (suc u) = text_length units u
+
+-- units with these heads, and as many bytes each
+pub same_shape : (units new : List UnitText) → map (λ (t : UnitText). t.head) new ≡ map (λ (t : UnitText). t.head) units
+    → map (λ (t : UnitText). length t.blocks) new ≡ map (λ (t : UnitText). length t.blocks) units → shape_of new ≡ shape_of units
+same_shape units new heads lengths =
+    let count : length new ≡ length units =
+    sym (length-map new (λ (t : UnitText). t.head)) ∙ ap length heads ∙ length-map units (λ (t : UnitText). t.head) in
+    let long : (u : ℕ) → length (get_or (texts_of new) u []) ≡ length (get_or (texts_of units) u []) =
+    λ u. text_length new u ∙ ap (λ (ls : List ℕ). get_or ls u 0) lengths ∙ sym (text_length units u) in
+    λ j. record {
+      units = count j;
+      head = λ u. get_or (heads j) u [];
+      block_size = λ u. size_in (get_or (heads j) u []);
+      blocks = λ u. min (long u j / size_in (get_or (heads j) u [])) (2 ^ 32 - 1);
+    }

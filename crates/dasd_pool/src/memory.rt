@@ -80,6 +80,7 @@ impl MemoryPool {
     pub fn crash(&self, alloc: Global, calls: u64, tear: Tear) -> Result<MemoryPool, NoMemory>
         ensures torn { IfOk result (λ m. IsTornFrom tear self.now.units (take calls self.now.calls) m.units) }
         ensures fresh { IfOk result (λ m. (m.calls ≡ []) × (m.failing ≡ []) × (m.keep ≡ self.now.keep)) }
+        ensures shape { IfOk result (λ m. shape_of m.units ≡ shape_of self.now.units) }
         ensures whole { IfOk result (λ m. m ≡ fresh m.units [] self.now.keep) }
         ensures state { IfOk result (λ m. state_of m ≡ first_state m.units) }
         ensures first { IfOk result (λ m. self.now.keep ≡ 0 → (u b : ℕ) → u < length self.now.units → b < (shape_of self.now.units).blocks u
@@ -221,7 +222,8 @@ fn torn_unit(
     tear: Tear,
 ) -> Result<Bytes, NoMemory>
     requires { All (IsSized number (size_in unit.now.head)) calls.now }
-    ensures { IfOk result (λ text. (b : ℕ) → b < min (length unit.now.blocks / size_in unit.now.head) (2 ^ 32 - 1)
+    ensures long { IfOk result (λ text. length text ≡ length unit.now.blocks) }
+    ensures torn { IfOk result (λ text. (b : ℕ) → b < min (length unit.now.blocks / size_in unit.now.head) (2 ^ 32 - 1)
         → block_at (size_in unit.now.head) text b
         ≡ torn tear (trace_after number b (trace_first (block_at (size_in unit.now.head) unit.now.blocks b)) calls.now)) }
 {
@@ -255,6 +257,7 @@ fn torn_units(
     requires kept { All (IsKept first.now) calls.now }
     ensures torn { IfOk result (λ units. IsTornFrom tear first.now calls.now units.items) }
     ensures count { IfOk result (λ units. length units.items ≡ length first.now) }
+    ensures shape { IfOk result (λ units. shape_of units.items ≡ shape_of first.now) }
 {
     let mut units = Vec::new(alloc);
     let mut number = 0u32;
