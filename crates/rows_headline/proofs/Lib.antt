@@ -1,0 +1,4 @@
+pub mod Forms
+pub mod Frames
+pub mod Settling
+pub mod Stopping

@@ -1,0 +1,3 @@
+pub mod Again
+pub mod Made
+pub mod Stopped

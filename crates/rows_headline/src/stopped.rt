@@ -1,0 +1,125 @@
+//! A run over a pool in memory, and a stop of it.
+
+ghost use Rattle.std.specs.Prelude.{◌≢◌, take, IfOk};
+ghost use Rattle.dasd_pool.specs.Tears.{IsTornFrom};
+ghost use Rattle.adr_top.specs.Words.{FormatNamed, AreFormatWords};
+ghost use Rattle.move_core.specs.Runs.{IsRun, moves_of};
+ghost use Rattle.rows_headline.specs.Again.{shown_of, EachStopIsReady, EachRunsOn};
+ghost use Rattle.rows_headline.specs.Stopped.{EachStopStands};
+
+use adr_top::{Day, Step, batch};
+use ckd_image::{NoMemory, Word};
+use dasd_pool::{MemoryPool, Sink, Source, Tear};
+use std::alloc::Global;
+
+/// What a run leaves: the pool, the steps that were done, the step that was under way, and the status.
+#[derive(Drop)]
+pub struct Ran {
+    pub pool: MemoryPool,
+    pub steps: Vec<Step>,
+    pub pending: Option<Step>,
+    pub status: u8,
+}
+
+/// What a run leaves, and what a stop of it leaves.
+#[derive(Drop)]
+pub struct Stopped {
+    pub ran: Ran,
+    pub left: MemoryPool,
+}
+
+/// What two runs leave, the second on what a stop left of the first.
+#[derive(Drop)]
+pub struct Resumed {
+    pub steps: Vec<Step>,
+    pub pending: Option<Step>,
+    pub second: Ran,
+}
+
+/// Runs words and text over a pool, without outputs and inputs.
+pub fn run<S: Source, H: Source, O: Sink>(
+    alloc: Global,
+    words: &[Word],
+    sysin: &mut S,
+    held: &mut H,
+    out: &mut O,
+    pool: MemoryPool,
+    today: Day,
+) -> Ran
+    // The promise of a run, in full, where no journal is made: for any units for which the pool was settled, at whatever moment a stop
+    // comes, and where it ended.
+    ensures headline { ((named : FormatNamed) → ¬ AreFormatWords words.now named)
+        → IsRun (Unit {0}) (shown_of pool) (shown_of result.pool) (result.status ≢ 16) result.steps.items result.pending }
+{
+    let (outs, ins) = (Vec::new(alloc), Vec::new(alloc));
+    let ended = batch(
+        alloc, words, sysin, held, out, pool, outs, ins, today,
+    );
+    Ran {
+        pool: ended.pool,
+        steps: ended.steps,
+        pending: ended.pending,
+        status: ended.status,
+    }
+}
+
+/// Runs words and text over a pool that keeps its calls, and stops it after so many of them, each block that isn't synced torn.
+pub fn run_and_stop<S: Source, H: Source, O: Sink>(
+    alloc: Global,
+    words: &[Word],
+    sysin: &mut S,
+    held: &mut H,
+    out: &mut O,
+    pool: MemoryPool,
+    today: Day,
+    calls: u64,
+    tear: Tear,
+) -> Result<Stopped, NoMemory>
+    // What is left holds the image that the stop leaves.
+    ensures left { IfOk result (λ stopped. IsTornFrom tear stopped.ran.pool.units (take calls stopped.ran.pool.calls) stopped.left.units) }
+
+    // Where the pool was settled and no journal is made, that image stands for the units after a prefix of the run's steps and the one
+    // under way, and after all steps where the run had returned.
+    ensures stands { IfOk result (λ stopped. ((named : FormatNamed) → ¬ AreFormatWords words.now named)
+        → EachStopStands pool stopped.ran.steps.items stopped.ran.pending stopped.ran.pool calls tear) }
+
+    // So it has what this asks for in its turn: it is settled for those units.
+    ensures ready { IfOk result (λ stopped. ((named : FormatNamed) → ¬ AreFormatWords words.now named)
+        → EachStopIsReady pool stopped.ran.steps.items stopped.ran.pending calls stopped.left) }
+{
+    let ran = run(alloc, words, sysin, held, out, pool, today);
+    let left = ran.pool.crash(alloc, calls, tear)?;
+    Ok(Stopped { ran, left })
+}
+
+/// Runs words and text, stops the run after so many calls of its pool, and runs the words again, with another text, on what is left.
+pub fn run_again<S: Source, H: Source, O: Sink>(
+    alloc: Global,
+    words: &[Word],
+    first: &mut S,
+    second: &mut S,
+    held: &mut H,
+    out: &mut O,
+    pool: MemoryPool,
+    today: Day,
+    calls: u64,
+    tear: Tear,
+) -> Result<Resumed, NoMemory>
+    // Each premise of the second run is met by the first: there are units to which a prefix of the first run's steps leads, and from them
+    // the second goes on, whatever moment it is stopped at.
+    ensures on { IfOk result (λ resumed. ((named : FormatNamed) → ¬ AreFormatWords words.now named)
+        → EachRunsOn pool (moves_of resumed.steps.items resumed.pending) calls resumed.second.pool (resumed.second.status ≢ 16)
+        resumed.second.steps.items resumed.second.pending) }
+{
+    let stopped = run_and_stop(
+        alloc, words, first, held, out, pool, today, calls, tear,
+    )?;
+    let second = run(
+        alloc, words, second, held, out, stopped.left, today,
+    );
+    Ok(Resumed {
+        steps: stopped.ran.steps,
+        pending: stopped.ran.pending,
+        second,
+    })
+}
