@@ -1,0 +1,206 @@
+-- What is loaded of a unit describes what it is.
+use Rattle.std.proofs.Common.{◌≡◌, ◌⊎◌, inl, inr, ℕ, zero, suc, ◌<◌, ◌≤◌, List, [], ◌∷◌, length, Bool, false, Some, refl, sym, ap, subst, ◌∙◌, arith}
+use Rattle.std.specs.Prelude.{slice_get}
+use Rattle.std.proofs.lemmas.Bool.{false≢true}
+use Rattle.std.proofs.lemmas.Option.{slice_get_within}
+use Rattle.ckd_image.specs.declared.fault.CkdFault.TheVariants.{BadHead}
+use Rattle.ckd_image.specs.declared.head.Head.{Head}
+use Rattle.ckd_image.specs.declared.track.Track.{Track}
+use Rattle.ckd_image.specs.Address.{address_of}
+use Rattle.ckd_image.specs.Device.{heads_of}
+use Rattle.ckd_image.specs.Head.{IsHeadFault}
+use Rattle.dasd_pool.specs.Disk.{Image, Shape, State}
+use Rattle.vol_label.specs.declared.fault.LabelFault.TheVariants.{BadLabel}
+use Rattle.vol_label.specs.declared.label.Label.{Label}
+use Rattle.vol_label.specs.Label.{IsLabelFault}
+use Rattle.vol_label.proofs.OneLabel.{no_label}
+use Rattle.redo_core.specs.declared.control.Control.{Control}
+use Rattle.redo_core.specs.declared.control.Control.TheVariants.{Idle}
+use Rattle.redo_core.specs.Phases.{IsAtRest}
+use Rattle.redo_core.specs.Reading.{journal_of, fills_of, Reading}
+use Rattle.redo_core.proofs.Crash.{closed_overlay}
+use Rattle.redo_core.proofs.Heads.{one_device, no_head}
+use Rattle.volume_model.specs.declared.why.Why.{Why}
+use Rattle.volume_model.specs.declared.why.Why.TheVariants as whys
+use Rattle.volume_model.specs.Reads.{IsUnit, IsOnline, HasImage, IsFirstText, HasBadLabel, HasLabelOf}
+use Rattle.volume_model.specs.Sound.{Slots}
+use Rattle.volume_model.specs.Unit.{OnlineVolume, UnitModel, online, offline}
+use Rattle.vtoc_rewrite.proofs.Addresses.{one_text_anywhere}
+use Rattle.move_core.specs.Facts.{Facts}
+use Rattle.move_core.specs.Stands.{IsAfterSlide, Means, IsSettled}
+use Rattle.move_core.proofs.OneFault.{one_head_fault, one_label_fault}
+use Rattle.move_core.proofs.Replacing.{units_are, unit_alone}
+use Rattle.unit_change.specs.Described.{AreShort, Describes, own_place}
+use Rattle.unit_change.proofs.LoadedUnits.{loaded_online, refused_offline}
+use Rattle.unit_load.specs.declared.state.UnitState.{UnitState}
+use Rattle.unit_load.specs.declared.state.UnitState.TheVariants as states
+use Rattle.unit_load.specs.State.{IsStateOf}
+use Rattle.unit_session.specs.Loaded.{HaveStates, AreLoaded, IsModel, AreModels}
+use Rattle.unit_session.specs.Sessions.{IsFree}
+
+-- ---- one unit
+
+module _ (head : List ℕ) (blocks : ℕ) (slots : Slots) where
+  heads_same : (a b : Head) → HasImage head blocks a → HasImage head blocks b → a ≡ b
+  heads_same a b one other =
+      let device : a.device ≡ b.device = one_device head a.device b.device one.stands.named other.stands.named in
+      let tracks : a.tracks ≡ b.tracks = one.tracks_are ∙ sym other.tracks_are in
+      (λ i. record { device = device i; tracks = tracks i })
+
+  -- ---- the head fails
+
+  no_image : (why : ℕ) (image : Head) → IsHeadFault head blocks (BadHead why) → HasImage head blocks image → ⊥
+  no_image why image fault has = no_head head blocks (BadHead why) fault image.device has.stands
+
+  image_of : (volume : OnlineVolume) → IsOnline false own_place head blocks slots volume → (image : Head) × HasImage head blocks image
+  image_of volume is = (is.stands.image, record { stands = is.stands.head_stands; tracks_are = is.stands.tracks_are })
+
+  bad_head : (why : ℕ) → IsHeadFault head blocks (BadHead why) → (model : UnitModel) → IsUnit false false own_place head blocks slots model
+      → (kept : List (List ℕ)) × (model ≡ offline (whys.Head why) kept)
+  bad_head why fault (online volume) is = let has = image_of volume is.1 in absurd (no_image why has.0 fault has.1)
+  bad_head why fault (offline (whys.Head other) kept) is =
+      let same : other ≡ why = one_head_fault head blocks other why is.0 fault in
+      (kept, λ i. offline (whys.Head (same i)) kept)
+  bad_head why fault (offline whys.Filling kept) is = absurd (false≢true is.0)
+  bad_head why fault (offline (whys.Label other) kept) is = absurd (no_image why is.1.image fault is.1.head_stands)
+  bad_head why fault (offline (whys.Vtoc track number other) kept) is = absurd (no_image why is.1.image fault is.1.labelled.head_stands)
+
+  -- ---- the label fails
+
+  -- what fails of a label
+  abbrev LabelFails : ℕ → Head → Type 0
+  LabelFails why image =
+      (((text : Track) → ¬ IsFirstText image slots text) × (why ≡ 1)) ⊎ ((text : Track) × IsFirstText image slots text × IsLabelFault image text.recs (BadLabel why))
+
+  module _ (short : AreShort blocks slots) where
+    first_short : (image : Head) → HasImage head blocks image → length (slots 0) ≤ 65536
+    first_short image has = short 0 (omega (arith, has.stands.cylinders.0))
+
+    first_same : (image : Head) → HasImage head blocks image → (a b : Track) → IsFirstText image slots a → IsFirstText image slots b → a ≡ b
+    first_same image has a b one other = one_text_anywhere (address_of (heads_of image.device) 0) (slots 0) a b (first_short image has) one other
+
+    fails_as : (why : ℕ) (bad : HasBadLabel head blocks slots why) (image : Head) → HasImage head blocks image → LabelFails why image
+    fails_as why bad image has = subst (LabelFails why) (heads_same bad.image image bad.head_stands has) bad.fault
+
+    no_labelled : (why : ℕ) (image : Head) (label : Label) → HasBadLabel head blocks slots why → HasLabelOf head blocks slots image label → ⊥
+    no_labelled why image label bad stands = elim (fails_as why bad image stands.head_stands) [
+      | inl none ↦ none.0 stands.text stands.text_stands
+      | inr broken ↦
+          no_label image stands.text.recs (BadLabel why)
+          (subst (λ (t : Track). IsLabelFault image t.recs (BadLabel why)) (first_same image stands.head_stands broken.0 stands.text broken.1 stands.text_stands) broken.2)
+          label stands.stands
+    ]
+
+    one_why : (image : Head) → HasImage head blocks image → (a b : ℕ) → LabelFails a image → LabelFails b image → a ≡ b
+    one_why image has a b (inl none) (inl neither) = none.1 ∙ sym neither.1
+    one_why image has a b (inl none) (inr broken) = absurd (none.0 broken.0 broken.1)
+    one_why image has a b (inr broken) (inl none) = absurd (none.0 broken.0 broken.1)
+    one_why image has a b (inr p) (inr q) =
+        one_label_fault image p.0.recs a b p.2
+        (subst (λ (t : Track). IsLabelFault image t.recs (BadLabel b)) (first_same image has q.0 p.0 q.1 p.1) q.2)
+
+    labelled_of : (volume : OnlineVolume) (is : IsOnline false own_place head blocks slots volume) → HasLabelOf head blocks slots is.stands.image is.found.label
+    labelled_of volume is = record {
+      head_stands = record { stands = is.stands.head_stands; tracks_are = is.stands.tracks_are };
+      text = is.stands.track_0;
+      text_stands = is.stands.track_0_stands;
+      stands = is.stands.label_stands;
+    }
+
+    bad_label : (why : ℕ) → HasBadLabel head blocks slots why → (model : UnitModel) → IsUnit false false own_place head blocks slots model
+        → (kept : List (List ℕ)) × (model ≡ offline (whys.Label why) kept)
+    bad_label why bad (online volume) is = absurd (no_labelled why is.1.stands.image is.1.found.label bad (labelled_of volume is.1))
+    bad_label why bad (offline (whys.Head other) kept) is = absurd (no_image other bad.image is.0 bad.head_stands)
+    bad_label why bad (offline whys.Filling kept) is = absurd (false≢true is.0)
+    bad_label why bad (offline (whys.Label other) kept) is =
+        let same : other ≡ why = one_why bad.image bad.head_stands other why (fails_as other is.1 bad.image bad.head_stands) bad.fault in
+        (kept, λ i. offline (whys.Label (same i)) kept)
+    bad_label why bad (offline (whys.Vtoc track number other) kept) is = absurd (no_labelled why is.1.image is.1.label bad is.1.labelled)
+
+    -- ---- whatever was found
+
+    few : (image : Head) → HasImage head blocks image → image.tracks ≤ 65535
+    few image has = omega (arith, has.tracks_are, has.stands.cylinders.1)
+
+    pub state_model : (state : UnitState) → IsStateOf head blocks slots state → (model : UnitModel) → IsUnit false false own_place head blocks slots model → IsModel state model
+    state_model (states.Online loaded) (image, label, labelled, is) model stands =
+        let got = loaded_online head blocks slots image label loaded model (few image labelled.head_stands) short labelled is stands in
+        (got.0, got.1, got.3)
+    state_model (states.Offline (whys.Head why)) fault model stands = bad_head why fault model stands
+    state_model (states.Offline (whys.Label why)) bad model stands = bad_label why bad model stands
+    state_model (states.Offline (whys.Vtoc track number why)) bad model stands =
+        let got = refused_offline head blocks slots bad.image bad.label bad.told model (few bad.image bad.labelled.head_stands) short bad.labelled bad.fault stands in
+        (got.0, got.1 ∙ (λ i. offline (whys.Vtoc (sym bad.track_is i) (sym bad.number_is i) (sym bad.why_is i)) got.0))
+    state_model (states.Offline whys.Filling) fault model stands = absurd fault
+
+-- ---- lists of them
+
+all_models : (units : List UnitState) (models : List UnitModel) → length units ≡ length models
+    → ((u : ℕ) (found : UnitState) (model : UnitModel) → slice_get units u ≡ Some found → slice_get models u ≡ Some model → IsModel found model) → AreModels units models
+all_models [] [] long each = tt
+all_models [] (model ∷ models) long each = absurd (omega (arith, long))
+all_models (found ∷ units) [] long each = absurd (omega (arith, long))
+all_models (found ∷ units) (model ∷ models) long each =
+    (each 0 found model refl refl, all_models units models (omega (arith, long)) (λ u f m there at. each (suc u) f m there at))
+
+-- ---- all units of an idle pool
+
+module _ (facts : Facts) (state : State) (room : ℕ) (control : Control) (fills : List Bool) (models : List UnitModel) (rest : IsAtRest facts.shape state room control fills)
+    (idle : IsFree facts.shape control fills) (settled : IsSettled facts state models) where
+  abbrev shape : Shape
+  shape = facts.shape
+
+  abbrev reading : Reading
+  reading = settled.stands.reading
+
+  abbrev means : Means shape reading models
+  means = settled.stands.means
+
+  reading_idle : reading.control ≡ Idle
+  reading_idle = settled.stands.reads.obeys.control_is ∙ sym rest.reads.obeys.control_is ∙ idle.idle
+
+  reading_closed : (u : ℕ) → u < journal_of shape → reading.fills u ≡ false
+  reading_closed u less = settled.stands.reads.obeys.fills_are u less ∙ sym (rest.reads.obeys.fills_are u less) ∙ idle.closed u less
+
+  own_slots : (u : ℕ) → u < journal_of shape → reading.volumes u ≡ state.contents u
+  own_slots u less =
+      λ i b. (settled.stands.reads.volumes_are u b less ∙ closed_overlay shape.block_size (journal_of shape) state.contents rest.closed u b) i
+
+  models_are : models ≡ means.found
+  models_are = subst (λ (c : Control). IsAfterSlide reading.room c means.found models) reading_idle means.after
+
+  -- each is what its own blocks say, with nothing under way
+  own_unit : (u : ℕ) (model : UnitModel) → u < journal_of shape → slice_get models u ≡ Some model
+      → IsUnit false false own_place (shape.head u) (shape.blocks u) (state.contents u) model
+  own_unit u model less at =
+      subst (λ (slots : Slots). IsUnit false false own_place (shape.head u) (shape.blocks u) slots model) (own_slots u less)
+      (unit_alone shape reading reading_idle models means u (reading_closed u less) model
+      (subst (λ (list : List UnitModel). slice_get list u ≡ Some model) models_are at))
+
+  own_model : (units : List UnitState) → AreLoaded shape state.contents units → (u : ℕ) (found : UnitState) (model : UnitModel) → u < journal_of shape
+      → slice_get units u ≡ Some found → slice_get models u ≡ Some model → IsModel found model
+  own_model units loaded u found model less there at =
+      let own = loaded u found there in
+      state_model (shape.head u) (shape.blocks u) (state.contents u) own.1 found own.0 model (own_unit u model less at)
+
+  own_models : (units : List UnitState) → HaveStates shape units → AreLoaded shape state.contents units → AreModels units models
+  own_models units count loaded =
+      all_models units models (count ∙ sym (ap (λ (list : List UnitModel). length list) models_are ∙ means.found_are.count))
+      (λ u found model there at. own_model units loaded u found model (omega (arith, slice_get_within units u found there, count)) there at)
+
+-- under a shape that is that of the facts
+module _ {facts : Facts} {shape : Shape} {state : State} {room : ℕ} {control : Control} {fills : List Bool} {models : List UnitModel}
+    (same : facts.shape ≡ shape) (settled : IsSettled facts state models) where
+  pub model_at : (units : List UnitState) (u : ℕ) (found : UnitState) (model : UnitModel) → IsAtRest shape state room control fills → IsFree shape control fills
+      → AreLoaded shape state.contents units → u < journal_of shape → slice_get units u ≡ Some found → slice_get models u ≡ Some model → IsModel found model
+  model_at units u found model =
+      let P : Shape → Type 0 = λ s. IsAtRest s state room control fills → IsFree s control fills → AreLoaded s state.contents units → u < journal_of s
+      → slice_get units u ≡ Some found → slice_get models u ≡ Some model → IsModel found model in
+      subst P same (λ rest free loaded less there at. own_model facts state room control fills models rest free settled units loaded u found model less there at)
+
+  pub models_at : (units : List UnitState) → IsAtRest shape state room control fills → IsFree shape control fills → HaveStates shape units → AreLoaded shape state.contents units
+      → AreModels units models
+  models_at units =
+      let P : Shape → Type 0 = λ s. IsAtRest s state room control fills → IsFree s control fills → HaveStates s units → AreLoaded s state.contents units
+      → AreModels units models in
+      subst P same (λ rest free count loaded. own_models facts state room control fills models rest free settled units count loaded)

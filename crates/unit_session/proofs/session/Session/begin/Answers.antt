@@ -1,0 +1,71 @@
+use Rattle.std.proofs.Common.{List, length, refl, sym, ap, ◌∙◌}
+use Rattle.dasd_pool.specs.Count.{Rose}
+use Rattle.dasd_pool.specs.Disk.{Shape}
+use Rattle.vol_label.specs.declared.serial.Serial.{Serial}
+use Rattle.redo_core.specs.Reading.{journal_of}
+use Rattle.move_core.proofs.Running.{rose_since, run_less, run_opened, run_refused, run_still, run_then}
+use Rattle.unit_session.specs.Sessions.{IsFree}
+use Rattle.unit_session.proofs.Beginning.{pool_cause, opened_reads}
+use Rattle.unit_session.proofs.Loading.{still_free, still_rest, still_loaded}
+use Rattle.unit_session.proofs.Modelling.{models_at}
+use Rattle.unit_session.proofs.session.Session.begin.Goals as goal
+
+pub returns-in-Err-clause-run : goal.returns-in-Err-clause-run
+returns-in-Err-clause-run g c =
+    let stop = c.in-Err.stop in
+    let does = c.in-Err.ensures in
+    run_refused does.shape does.faults does.any_moment (pool_cause stop.cause (Rose (g.P.Pool.faults c.args.pool) (g.P.Pool.faults stop.pool)) does.cause)
+    (λ told end. (does.unwritten told end).touches)
+
+pub invariant_of-result : goal.invariant_of-result
+invariant_of-result g c =
+    let does = c.in-Ok.ensures in
+    let reads = c.loaded.ensures.reads in
+    let found = c.in-Ok-loaded.ensures in
+    let volumes = ap (λ (s : Shape). journal_of s) (sym reads.shape) in
+    let free : IsFree (g.P.Pool.shape c.args.pool) c.in-Ok.journal.control c.in-Ok.journal.fills = record { idle = does.idle.0; closed = does.idle.1 } in
+    (
+      still_free (reads.shape ∙ does.shape) reads.status.control reads.status.fills free,
+      ap (λ (l : List Serial). length l) found.names ∙ c.requires.each ∙ ap (λ (s : Shape). journal_of s) (sym does.shape) ∙ volumes,
+      found.count ∙ volumes,
+      λ told. still_loaded c.in-Ok-loaded.units.items reads.shape (reads.same told) (found.loaded told),
+    )
+
+pub returns-in-Ok-loaded-clause-run : goal.returns-in-Ok-loaded-clause-run
+returns-in-Ok-loaded-clause-run g c =
+    let does = c.in-Ok.ensures in
+    let reads = c.loaded.ensures.reads in
+    run_then (run_opened does.shape does.faults does.any_moment (tt {0}) does.opened) (tt {0}) (run_still reads.shape reads.later (λ not. absurd (not tt)) reads.runs)
+
+pub returns-in-Ok-loaded-clause-units : goal.returns-in-Ok-loaded-clause-units
+returns-in-Ok-loaded-clause-units g c told facts models same settled =
+    let does = c.in-Ok.ensures in
+    let reads = c.loaded.ensures.reads in
+    let found = c.in-Ok-loaded.ensures in
+    let units = c.in-Ok-loaded.units.items in
+    let free : IsFree (g.P.Pool.shape c.args.pool) c.in-Ok.journal.control c.in-Ok.journal.fills = record { idle = does.idle.0; closed = does.idle.1 } in
+    models_at same settled units
+    (still_rest reads.shape (reads.same told) (still_rest does.shape refl (does.rest told)))
+    (still_free (reads.shape ∙ does.shape) refl refl free)
+    (found.count ∙ ap (λ (s : Shape). journal_of s) (sym reads.shape))
+    (still_loaded units reads.shape (reads.same told) (found.loaded told))
+
+pub returns-in-Ok-loaded-clause-runs : goal.returns-in-Ok-loaded-clause-runs
+returns-in-Ok-loaded-clause-runs g c told = opened_reads (c.in-Ok.ensures.runs told) (c.loaded.ensures.reads.runs told)
+
+pub returns-in-Err-loaded-clause-run : goal.returns-in-Err-loaded-clause-run
+returns-in-Err-loaded-clause-run g c =
+    let does = c.in-Ok.ensures in
+    let reads = c.loaded.ensures.reads in
+    let cause = c.in-Err-loaded.cause in
+    let before = g.P.Pool.faults c.args.pool in
+    let mid = g.P.Pool.faults c.in-Ok.journal.pool in
+    let after = g.P.Pool.faults c.loaded.new.journal.pool in
+    let opens = run_opened does.shape does.faults does.any_moment (tt {0}) does.opened in
+    rw (c.into_pool.ensures)
+    (run_less (λ other. tt)
+    (pool_cause cause (Rose before after) (λ is. rose_since before mid after does.faults (c.in-Err-loaded.ensures.cause is)))
+    (run_then opens (tt {0}) (run_still reads.shape reads.later (λ not. absurd (not (tt {0}))) reads.runs)))
+
+pub returns-in-Err-loaded-clause-runs : goal.returns-in-Err-loaded-clause-runs
+returns-in-Err-loaded-clause-runs g c told = rw (c.into_pool.ensures) (opened_reads (c.in-Ok.ensures.runs told) (c.loaded.ensures.reads.runs told))

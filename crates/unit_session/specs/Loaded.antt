@@ -1,0 +1,28 @@
+-- What is loaded of the units of a pool, and what they are.
+use Rattle.std.specs.Prelude.{◌≡◌, ℕ, ◌<◌, List, [], ◌∷◌, length, Some, slice_get}
+use Rattle.dasd_pool.specs.Disk.{Image, Shape}
+use Rattle.redo_core.specs.Reading.{journal_of}
+use Rattle.volume_model.specs.Unit.{OnlineVolume, UnitModel, online, offline}
+use Rattle.unit_change.specs.Described.{AreShort, Describes}
+use Rattle.unit_load.specs.declared.state.UnitState.{UnitState}
+use Rattle.unit_load.specs.declared.state.UnitState.TheVariants as states
+use Rattle.unit_load.specs.State.{IsStateOf}
+
+-- each unit but the journal's has a state
+abbrev pub HaveStates : Shape → List UnitState → Type 0
+HaveStates shape units = length units ≡ journal_of shape
+
+-- each state is what the blocks of its unit say, and no block is longer than a slot can be
+abbrev pub AreLoaded : Shape → Image → List UnitState → Type 0
+AreLoaded shape contents units =
+    (u : ℕ) (state : UnitState) → slice_get units u ≡ Some state → IsStateOf (shape.head u) (shape.blocks u) (contents u) state × AreShort (shape.blocks u) (contents u)
+
+-- what is loaded describes a unit: the volume on it, or why it is offline
+abbrev pub IsModel : UnitState → UnitModel → Type 0
+IsModel (states.Online loaded) model = (volume : OnlineVolume) × (model ≡ online volume) × Describes loaded volume
+IsModel (states.Offline why) model = (kept : List (List ℕ)) × (model ≡ offline why kept)
+
+abbrev pub AreModels : List UnitState → List UnitModel → Type 0
+AreModels [] [] = Unit {0}
+AreModels (state ∷ states) (model ∷ models) = IsModel state model × AreModels states models
+AreModels _ _ = ⊥

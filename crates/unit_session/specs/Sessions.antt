@@ -1,0 +1,49 @@
+-- What callers see of a session, and what its calls hand on.
+use Rattle.std.specs.Prelude.{◌≡◌, ℕ, ◌<◌, List, Bool, false, Result, Ok, Err}
+use Rattle.dasd_pool.specs.Disk.{Shape}
+use Rattle.dasd_pool.specs.declared.pool.Pool.{Ghosts}
+use Rattle.vol_label.specs.declared.serial.Serial.{Serial}
+use Rattle.redo_core.specs.declared.control.Control.{Control}
+use Rattle.redo_core.specs.declared.control.Control.TheVariants.{Idle}
+use Rattle.redo_core.specs.declared.fault.JournalFault.{JournalFault}
+use Rattle.redo_core.specs.declared.fault.JournalFault.TheVariants.{Pool, NoMemory}
+use Rattle.redo_core.specs.declared.journal.JournalStop.{JournalStop}
+use Rattle.redo_core.specs.Reading.{journal_of, fills_of}
+use Rattle.unit_load.specs.declared.state.UnitState.{UnitState}
+
+-- the pool, how many blocks a commit may have, the registered serials, and the units as they were loaded
+pub record SessionView (P : Type 0) : Type 0 where
+  pub pool : P
+  pub room : ℕ
+  pub names : List Serial
+  pub units : List UnitState
+
+-- nothing is under way
+pub record IsFree (shape : Shape) (control : Control) (fills : List Bool) : Type 0 where
+  pub idle : control ≡ Idle
+  pub closed : (u : ℕ) → u < journal_of shape → fills_of fills u ≡ false
+
+-- all but the pool's clock and count is the same
+pub record IsSameSession {P : Type 0} (pools : Ghosts P) (old new : SessionView P) : Type 0 where
+  pub shape : pools.shape new.pool ≡ pools.shape old.pool
+  pub state : pools.tells → (pools.disk new.pool).state ≡ (pools.disk old.pool).state
+  pub room : new.room ≡ old.room
+  pub names : new.names ≡ old.names
+  pub units : new.units ≡ old.units
+
+-- ---- the pool that a call hands on
+
+abbrev pub begun : {P : Type 0} → Result (SessionView P) (JournalStop P) → P
+begun (Ok session) = session.pool
+begun (Err stop) = stop.pool
+
+-- the pool didn't fail
+abbrev pub HasBegun : {P V : Type 0} → Result V (JournalStop P) → Type 0
+HasBegun (Ok value) = Unit {0}
+HasBegun (Err stop) = stop.cause ≡ Pool → ⊥
+
+-- something stands against the opening: neither did the pool fail, nor did memory run out
+abbrev pub IsRefusal : JournalFault → Type 0
+IsRefusal Pool = ⊥
+IsRefusal NoMemory = ⊥
+IsRefusal _ = Unit {0}

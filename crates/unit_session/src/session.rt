@@ -1,0 +1,193 @@
+//! Volumes over an open journal.
+
+ghost use Rattle.std.specs.Prelude.{◌≡◌, ◌≤◌, ◌<◌, [], None, Some, List, length, slice_get, IfOk, IfErr, OnOk, IsErr};
+ghost use Rattle.ckd_image.specs.Head.{IsHead, IsHeadFault};
+ghost use Rattle.dasd_pool.specs.Count.{Rose};
+ghost use Rattle.dasd_pool.specs.Disk.{Runs, none};
+ghost use Rattle.redo_core.specs.Faults.{IsOpenFault, MayOpen};
+ghost use Rattle.redo_core.specs.Opening.{AreNames, of_opening};
+ghost use Rattle.redo_core.specs.Reading.{journal_of};
+ghost use Rattle.volume_model.specs.Unit.{UnitModel};
+ghost use Rattle.move_core.specs.Facts.{Facts, shown};
+ghost use Rattle.move_core.specs.Runs.{IsRun};
+ghost use Rattle.move_core.specs.Stands.{IsSettled};
+ghost use Rattle.unit_load.specs.Reads.{OnlyReads};
+ghost use Rattle.unit_session.specs.Loaded.{AreLoaded, HaveStates, AreModels, IsModel};
+ghost use Rattle.unit_session.specs.Sessions.{begun, HasBegun, IsRefusal, IsSameSession};
+
+use crate::load::load_units;
+use ckd_image::{CkdFault, Head};
+use dasd_pool::{Pool, PoolFault};
+use redo_core::{Journal, JournalFault, JournalStop};
+use std::alloc::{AllocError, Global};
+use std::marker::Model;
+use unit_load::{UnitFault, UnitState};
+use vol_label::Serial;
+
+/// The volumes of a pool between two steps: its open journal, in which nothing is under way, the registered serials, and each unit as it was loaded.
+#[derive(Drop)]
+pub struct Session<P: Pool> {
+    journal: Journal<P>,
+    names: Vec<Serial>,
+    units: Vec<UnitState>,
+}
+
+impl<P: Pool> Model for Session<P> {
+    ghost use Rattle.std.specs.Prelude.{◌≡◌, length};
+    ghost use Rattle.redo_core.specs.Reading.{journal_of};
+    ghost use Rattle.unit_session.specs.Loaded.{AreLoaded, HaveStates};
+    ghost use Rattle.unit_session.specs.Sessions.{SessionView, IsFree};
+
+    ghost Value = { SessionView P };
+
+    ghost view = { λ s. record { pool = s.journal.pool; room = s.journal.room; names = s.names.items; units = s.units.items } };
+
+    ghost invariant = { λ s. IsFree (P.shape s.journal.pool) s.journal.control s.journal.fills
+        × (length s.names.items ≡ journal_of (P.shape s.journal.pool))
+        × HaveStates (P.shape s.journal.pool) s.units.items
+        × (P.tells → AreLoaded (P.shape s.journal.pool) (P.disk s.journal.pool).state.contents s.units.items) };
+}
+
+/// Copies of serials.
+fn copied(alloc: Global, names: &[Serial]) -> Result<Vec<Serial>, AllocError>
+    ensures { IfOk result (λ copies. copies.items ≡ names.now) }
+{
+    let mut copies = Vec::new(alloc);
+    copies.extend_from_slice(names)?;
+    Ok(copies)
+}
+
+/// What a journal answers where a unit was not read.
+fn cause_of(fault: UnitFault) -> JournalFault
+    ensures pool { result ≡ JournalFault.Pool → fault ≡ UnitFault.Pool }
+    ensures no_refusal { ¬ IsRefusal result }
+{
+    match fault {
+        UnitFault::Pool => JournalFault::Pool,
+        UnitFault::NoMemory => JournalFault::NoMemory,
+    }
+}
+
+/// The registered serials and the units of an open journal.
+fn loaded<P: Pool>(
+    alloc: Global,
+    journal: &mut Journal<P>,
+    names: &[Serial],
+) -> Result<(Vec<Serial>, Vec<UnitState>), JournalFault>
+    ensures reads { OnlyReads P.Pool journal.old journal.new }
+    ensures names { IfOk result (λ found. found.0.items ≡ names.now) }
+    ensures count { IfOk result (λ found. HaveStates (P.shape journal.old.pool) found.1.items) }
+    ensures loaded { P.tells → IfOk result (λ found. AreLoaded (P.shape journal.old.pool) (P.disk journal.old.pool).state.contents found.1.items) }
+    ensures cause { IfErr result (λ cause. cause ≡ JournalFault.Pool → Rose (P.faults journal.old.pool) (P.faults journal.new.pool)) }
+    ensures no_refusal { IfErr result (λ cause. ¬ IsRefusal cause) }
+{
+    let Ok(names) = copied(alloc, names) else {
+        return Err(JournalFault::NoMemory);
+    };
+    match load_units(alloc, journal) {
+        Ok(units) => Ok((names, units)),
+        Err(fault) => Err(cause_of(fault)),
+    }
+}
+
+impl<P: Pool> Session<P> {
+    /// Opens the journal of a pool that a stop may have left, under these serials, and loads each unit. It is refused as the opening is, or because
+    /// a unit was not read.
+    pub fn begin(alloc: Global, pool: P, names: &[Serial]) -> Result<Session<P>, JournalStop<P>>
+        requires { AreNames (P.shape pool) names.now }
+        ensures run { IsRun P.tells (shown P.Pool pool) (shown P.Pool (begun result)) (HasBegun result) [] None }
+
+        // The units are those that the pool stands for.
+        ensures units { P.tells → IfOk result (λ session. (facts : Facts) (models : List UnitModel) → facts.shape ≡ P.shape session.pool
+            → IsSettled facts (P.disk session.pool).state models → AreModels session.units models) }
+        ensures names { IfOk result (λ session. session.names ≡ names.now) }
+        ensures room { IfOk result (λ session. 3 ≤ session.room) }
+
+        // A refusal names the first cause that stands against the opening, and at no moment was anything written.
+        ensures allowed { P.tells → OnOk result (MayOpen (P.shape pool) (P.disk pool).state.contents names.now) }
+        ensures refused { P.tells → IfErr result (λ stop. IsOpenFault (P.shape pool) (P.disk pool).state.contents names.now stop.cause) }
+        ensures unwritten { P.tells → IfErr result (λ stop. IsRefusal stop.cause → Runs none (P.disk pool) (P.disk stop.pool)) }
+        ensures runs { P.tells → Runs (of_opening (journal_of (P.shape pool)) (P.disk pool).state.contents) (P.disk pool) (P.disk (begun result)) }
+    {
+        let mut journal = match Journal::open_units(alloc, pool, names) {
+            Ok(journal) => journal,
+            Err(stop) => return Err(stop),
+        };
+        match loaded(alloc, &mut journal, names) {
+            Ok((names, units)) => Ok(Session {
+                journal,
+                names,
+                units,
+            }),
+            Err(cause) => Err(JournalStop {
+                pool: journal.into_pool(),
+                cause,
+            }),
+        }
+    }
+
+    /// How many units there are, the journal's not counted.
+    pub fn units(&self) -> u32
+        ensures { result ≡ journal_of (P.shape self.now.pool) }
+    {
+        self.journal.units()
+    }
+
+    /// The registered serial of a unit.
+    pub fn name(&self, unit: u32) -> Serial
+        requires { unit < journal_of (P.shape self.now.pool) }
+        ensures { slice_get self.now.names unit ≡ Some result }
+    {
+        self.names[unit as usize]
+    }
+
+    /// How many blocks a commit may have.
+    pub fn room(&self) -> u32
+        ensures value { result ≡ self.now.room }
+        ensures least { 3 ≤ result }
+    {
+        self.journal.room()
+    }
+
+    /// The head of a unit.
+    pub fn head(&self, unit: u32) -> Result<Head, CkdFault>
+        requires { unit < journal_of (P.shape self.now.pool) }
+        ensures read { IfOk result (λ found. IsHead ((P.shape self.now.pool).head unit) ((P.shape self.now.pool).blocks unit) found.device
+            × (found.tracks ≡ (P.shape self.now.pool).blocks unit)) }
+        ensures refused { IfErr result (IsHeadFault ((P.shape self.now.pool).head unit) ((P.shape self.now.pool).blocks unit)) }
+    {
+        Head::read(&self.journal.head(unit), self.journal.blocks(unit))
+    }
+
+    /// A unit, as it was loaded: what the pool stands for.
+    pub fn unit(&self, unit: u32) -> &UnitState
+        requires { unit < journal_of (P.shape self.now.pool) }
+        ensures value { slice_get self.now.units unit ≡ Some result.now }
+        ensures model { P.tells → (facts : Facts) (models : List UnitModel) (model : UnitModel) → facts.shape ≡ P.shape self.now.pool
+            → IsSettled facts (P.disk self.now.pool).state models → slice_get models unit ≡ Some model → IsModel result.now model }
+    {
+        let _control = self.journal.control();
+        &self.units[unit as usize]
+    }
+
+    /// Reads the slot of a track.
+    pub fn read_slot(&mut self, unit: u32, track: u32, buf: &mut [u8]) -> Result<(), PoolFault>
+        requires unit { unit < journal_of (P.shape self.old.pool) }
+        requires track { track < (P.shape self.old.pool).blocks unit }
+        requires size { length buf.old ≡ (P.shape self.old.pool).block_size unit }
+        ensures bytes { P.tells → OnOk result (buf.new ≡ (P.disk self.old.pool).state.contents unit track) }
+        ensures run { IsRun P.tells (shown P.Pool self.old.pool) (shown P.Pool self.new.pool) (Unit {0}) [] None }
+        ensures cause { IsErr result → Rose (P.faults self.old.pool) (P.faults self.new.pool) }
+        ensures same { IsSameSession P.Pool self.old self.new }
+    {
+        self.journal.read(unit, track, buf)
+    }
+
+    /// The pool alone.
+    pub fn into_pool(self) -> P
+        ensures { result ≡ self.pool }
+    {
+        let Session { journal, .. } = self;
+        journal.into_pool()
+    }
+}
