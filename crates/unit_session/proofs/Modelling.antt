@@ -1,5 +1,5 @@
 -- What is loaded of a unit describes what it is.
-use Rattle.std.proofs.Common.{◌≡◌, ◌⊎◌, inl, inr, ℕ, zero, suc, ◌<◌, ◌≤◌, List, [], ◌∷◌, length, Bool, false, Some, refl, sym, ap, subst, ◌∙◌, arith}
+use Rattle.std.proofs.Common.{◌≡◌, ◌⊎◌, inl, inr, ℕ, suc, ◌<◌, ◌≤◌, List, [], ◌∷◌, length, Bool, false, Some, refl, sym, ap, subst, ◌∙◌, arith}
 use Rattle.std.specs.Prelude.{slice_get}
 use Rattle.std.proofs.lemmas.Bool.{false≢true}
 use Rattle.std.proofs.lemmas.Option.{slice_get_within}
@@ -9,7 +9,7 @@ use Rattle.ckd_image.specs.declared.track.Track.{Track}
 use Rattle.ckd_image.specs.Address.{address_of}
 use Rattle.ckd_image.specs.Device.{heads_of}
 use Rattle.ckd_image.specs.Head.{IsHeadFault}
-use Rattle.dasd_pool.specs.Disk.{Image, Shape, State}
+use Rattle.dasd_pool.specs.Disk.{Shape, State}
 use Rattle.vol_label.specs.declared.fault.LabelFault.TheVariants.{BadLabel}
 use Rattle.vol_label.specs.declared.label.Label.{Label}
 use Rattle.vol_label.specs.Label.{IsLabelFault}
@@ -17,10 +17,9 @@ use Rattle.vol_label.proofs.OneLabel.{no_label}
 use Rattle.redo_core.specs.declared.control.Control.{Control}
 use Rattle.redo_core.specs.declared.control.Control.TheVariants.{Idle}
 use Rattle.redo_core.specs.Phases.{IsAtRest}
-use Rattle.redo_core.specs.Reading.{journal_of, fills_of, Reading}
+use Rattle.redo_core.specs.Reading.{journal_of, Reading}
 use Rattle.redo_core.proofs.Crash.{closed_overlay}
 use Rattle.redo_core.proofs.Heads.{one_device, no_head}
-use Rattle.volume_model.specs.declared.why.Why.{Why}
 use Rattle.volume_model.specs.declared.why.Why.TheVariants as whys
 use Rattle.volume_model.specs.Reads.{IsUnit, IsOnline, HasImage, IsFirstText, HasBadLabel, HasLabelOf}
 use Rattle.volume_model.specs.Sound.{Slots}
@@ -29,8 +28,8 @@ use Rattle.vtoc_rewrite.proofs.Addresses.{one_text_anywhere}
 use Rattle.move_core.specs.Facts.{Facts}
 use Rattle.move_core.specs.Stands.{IsAfterSlide, Means, IsSettled}
 use Rattle.move_core.proofs.OneFault.{one_head_fault, one_label_fault}
-use Rattle.move_core.proofs.Replacing.{units_are, unit_alone}
-use Rattle.unit_change.specs.Described.{AreShort, Describes, own_place}
+use Rattle.move_core.proofs.Replacing.{unit_alone}
+use Rattle.unit_change.specs.Described.{AreShort, own_place}
 use Rattle.unit_change.proofs.LoadedUnits.{loaded_online, refused_offline}
 use Rattle.unit_load.specs.declared.state.UnitState.{UnitState}
 use Rattle.unit_load.specs.declared.state.UnitState.TheVariants as states

@@ -1,5 +1,5 @@
 -- What is loaded of the units of a pool, and what they are.
-use Rattle.std.specs.Prelude.{◌≡◌, ℕ, ◌<◌, List, [], ◌∷◌, length, Some, slice_get}
+use Rattle.std.specs.Prelude.{◌≡◌, ℕ, List, [], ◌∷◌, length, Some, slice_get}
 use Rattle.dasd_pool.specs.Disk.{Image, Shape}
 use Rattle.redo_core.specs.Reading.{journal_of}
 use Rattle.volume_model.specs.Unit.{OnlineVolume, UnitModel, online, offline}

@@ -1,4 +1,4 @@
-use Rattle.std.proofs.Common.{ℕ, ◌≡◌, length}
+use Rattle.std.proofs.Common.{◌≡◌, length}
 use Rattle.unit_load.specs.Reads.{OnlyReads}
 use Rattle.unit_session.specs.Loaded.{AreLoaded}
 use Rattle.unit_session.proofs.load.load_units.Given as goal

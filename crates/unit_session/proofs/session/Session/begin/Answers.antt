@@ -23,8 +23,7 @@ invariant_of-result g c =
     let reads = c.loaded.ensures.reads in
     let found = c.in-Ok-loaded.ensures in
     let volumes = ap (λ (s : Shape). journal_of s) (sym reads.shape) in
-    let free : IsFree (g.P.Pool.shape c.args.pool) c.in-Ok.journal.control c.in-Ok.journal.fills = record { idle = does.idle.0; closed = does.idle.1 } in
-    (
+    let free : IsFree (g.P.Pool.shape c.args.pool) c.in-Ok.journal.control c.in-Ok.journal.fills = record { idle = does.idle.0; closed = does.idle.1 } in (
       still_free (reads.shape ∙ does.shape) reads.status.control reads.status.fills free,
       ap (λ (l : List Serial). length l) found.names ∙ c.requires.each ∙ ap (λ (s : Shape). journal_of s) (sym does.shape) ∙ volumes,
       found.count ∙ volumes,

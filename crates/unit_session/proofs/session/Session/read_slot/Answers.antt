@@ -9,8 +9,7 @@ pub invariant_of-self : goal.invariant_of-self
 invariant_of-self g c =
     let does = c.read.ensures in
     let was = c.self.invariant in
-    let volumes = ap (λ (s : Shape). journal_of s) (sym does.shape) in
-    (
+    let volumes = ap (λ (s : Shape). journal_of s) (sym does.shape) in (
       still_free does.shape does.status.control does.status.fills was.0,
       was.1 ∙ volumes,
       was.2 ∙ volumes,
