@@ -91,23 +91,25 @@ online_there head blocks slots found is told =
       dscbs = length (records_of is.vtoc);
       fives = length (fives_of is.vtoc);
       tail = blocks_from slots found.usable (blocks - found.usable);
-    } in
-    (volume, record {
-      found = found;
-      stands = is;
-      serial_is = refl;
-      device_is = refl;
-      usable_is = refl;
-      vtoc_is = refl;
-      first_is = refl;
-      four_is = refl;
-      sets_are = sets.1;
-      repair_is = refl;
-      indexed_is = refl;
-      dscbs_are = refl;
-      fives_are = refl;
-      tail_is = refl;
-    })
+    } in (
+      volume,
+      record {
+        found = found;
+        stands = is;
+        serial_is = refl;
+        device_is = refl;
+        usable_is = refl;
+        vtoc_is = refl;
+        first_is = refl;
+        four_is = refl;
+        sets_are = sets.1;
+        repair_is = refl;
+        indexed_is = refl;
+        dscbs_are = refl;
+        fives_are = refl;
+        tail_is = refl;
+      },
+    )
 
 -- ---- the pool
 

@@ -43,9 +43,7 @@ fn make<S: Source, H: Source, O: Sink, P: Pool + Drop>(
         return None;
     }
     let (outs, ins) = (Vec::new(alloc), Vec::new(alloc));
-    let ended = batch(
-        alloc, words, sysin, held, out, pool, outs, ins, TODAY,
-    );
+    let ended = batch(alloc, words, sysin, held, out, pool, outs, ins, TODAY);
     if ended.status != 0 {
         return None;
     }
@@ -69,9 +67,7 @@ fn list<S: Source, H: Source, O: Sink, P: Pool + Drop>(
         return None;
     }
     let (outs, ins) = (Vec::new(alloc), Vec::new(alloc));
-    let ended = batch(
-        alloc, words, sysin, held, out, pool, outs, ins, TODAY,
-    );
+    let ended = batch(alloc, words, sysin, held, out, pool, outs, ins, TODAY);
     if ended.status != 0 || !ended.steps.is_empty() {
         return None;
     }

@@ -52,9 +52,7 @@ pub fn run<S: Source, H: Source, O: Sink>(
         → IsRun (Unit {0}) (shown_of pool) (shown_of result.pool) (result.status ≢ 16) result.steps.items result.pending }
 {
     let (outs, ins) = (Vec::new(alloc), Vec::new(alloc));
-    let ended = batch(
-        alloc, words, sysin, held, out, pool, outs, ins, today,
-    );
+    let ended = batch(alloc, words, sysin, held, out, pool, outs, ins, today);
     Ran {
         pool: ended.pool,
         steps: ended.steps,
@@ -111,12 +109,8 @@ pub fn run_again<S: Source, H: Source, O: Sink>(
         → EachRunsOn pool (moves_of resumed.steps.items resumed.pending) calls resumed.second.pool (resumed.second.status ≢ 16)
         resumed.second.steps.items resumed.second.pending) }
 {
-    let stopped = run_and_stop(
-        alloc, words, first, held, out, pool, today, calls, tear,
-    )?;
-    let second = run(
-        alloc, words, second, held, out, stopped.left, today,
-    );
+    let stopped = run_and_stop(alloc, words, first, held, out, pool, today, calls, tear)?;
+    let second = run(alloc, words, second, held, out, stopped.left, today);
     Ok(Resumed {
         steps: stopped.ran.steps,
         pending: stopped.ran.pending,

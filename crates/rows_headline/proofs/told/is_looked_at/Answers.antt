@@ -13,11 +13,14 @@ returns c = λ yes. elim c.match-parse_track.branch [
       let P : TrackAt → Type 0 = λ at. IsTrackText at c.args.slot.now w.in-Ok.field-0 in
       (good w.in-Ok.field-0, subst P c.of.ensures w.in-Ok.ensures.read)
   | in-Err w ↦ (
-      bad c.args.slot.now,
-      (refl, λ text stands.
-      let P : TrackAt → Type 0 = λ at. IsTrackText at c.args.slot.now text in
-      let memory : w.is_memory.result ≡ true = w.is_memory.ensures.1 (w.in-Err.ensures.only text (subst P (sym c.of.ensures) stands)) in
-      let no : c.match-parse_track.result ≡ false = w.result-is ∙ ap not memory in
-      both_ways c.match-parse_track.result no yes),
-    )
+    bad c.args.slot.now,
+    (
+      refl,
+      λ text stands.
+          let P : TrackAt → Type 0 = λ at. IsTrackText at c.args.slot.now text in
+          let memory : w.is_memory.result ≡ true = w.is_memory.ensures.1 (w.in-Err.ensures.only text (subst P (sym c.of.ensures) stands)) in
+          let no : c.match-parse_track.result ≡ false = w.result-is ∙ ap not memory in
+          both_ways c.match-parse_track.result no yes,
+    ),
+  )
 ]
