@@ -1,6 +1,6 @@
 -- A volume that is listed is what its blocks mean, once each of its tracks was looked at.
 use Rattle.std.proofs.Common.{◌≡◌, inl, inr, ℕ, zero, suc, ◌-◌, ◌<◌, ◌≤◌, List, [], ◌∷◌, map, take, length, All, Option, Some, None, false, refl, sym, ap, subst, ◌∙◌, arith}
-use Rattle.std.specs.Prelude.{min, not, slice_get, IfSome}
+use Rattle.std.specs.Prelude.{not, slice_get, IfSome}
 use Rattle.std.specs.List.{AllByRecursion}
 use Rattle.std.proofs.lemmas.List.Elements.{recursion_from_All}
 use Rattle.std.proofs.lemmas.Option.{slice_get_within}
@@ -9,22 +9,21 @@ use Rattle.ckd_image.specs.Device.{heads_of}
 use Rattle.dasd_pool.specs.Disk.{Image, Shape, State}
 use Rattle.free_map.specs.Runs.{InRuns}
 use Rattle.redo_core.specs.declared.control.Control.TheVariants.{Idle}
-use Rattle.redo_core.specs.Reading.{journal_of, overlay, Reading}
+use Rattle.redo_core.specs.Reading.{journal_of}
 use Rattle.vol_label.specs.declared.serial.Serial.{Serial}
 use Rattle.volume_model.specs.declared.extent.ExtentField.{ExtentField}
 use Rattle.volume_model.specs.Check.{records_of}
 use Rattle.volume_model.specs.Directory.{DirectoryRow}
 use Rattle.volume_model.specs.Reads.{AreTexts, IsDataSet, AreDataSets, extent_in, fields_of_1, fields_of_4, has_index, blocks_from, IsOnline, IsUnit}
 use Rattle.volume_model.specs.Check.{fives_of}
-use Rattle.volume_model.specs.Sound.{Slots, Volume, IsVolume, limit_of}
+use Rattle.volume_model.specs.Sound.{Slots, Volume, IsVolume}
 use Rattle.volume_model.specs.Unit.{Text, Extent, DataSet, OnlineVolume, UnitModel, online, run_in, tracks_of}
 use Rattle.move_core.specs.Facts.{Facts}
 use Rattle.move_core.specs.Resuming.{new_reading}
-use Rattle.move_core.specs.Stands.{is_sliding, place_in, Means, IsSettled}
+use Rattle.move_core.specs.Stands.{is_sliding, place_in, Means}
 use Rattle.move_core.proofs.Below.{IsRunBelow, RowHasRuns, run_below, sound_rows}
 use Rattle.move_core.proofs.Frames.{tracks_all}
 use Rattle.move_core.proofs.Resuming.{formatted_settled}
-use Rattle.adr_top.specs.Form.{IsPlainUnit, HasPlainUnit}
 use Rattle.rows_headline.specs.Made.{IsSettledVolume, AreTold, IsMade, HasListed, StaysSettled}
 
 -- ---- its data sets

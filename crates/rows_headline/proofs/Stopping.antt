@@ -6,7 +6,7 @@ use Rattle.dasd_pool.specs.declared.calls.Call.{Call}
 use Rattle.dasd_pool.specs.declared.calls.Tear.{Tear}
 use Rattle.dasd_pool.specs.declared.units.UnitText.{UnitText}
 use Rattle.dasd_pool.specs.Disk.{Image, Shape, State, Disk, MayLeave}
-use Rattle.dasd_pool.specs.Calls.{shape_of, texts_of, block_at, first_state, after, disk_after, LeftSince}
+use Rattle.dasd_pool.specs.Calls.{shape_of, texts_of, block_at, first_state, disk_after}
 use Rattle.dasd_pool.specs.Memory.{MemoryView, fresh, disk_now, disk_by, disk_of, state_of, marked_state}
 use Rattle.dasd_pool.specs.Tears.{torn_image, IsTornFrom}
 use Rattle.dasd_pool.proofs.Tearing.{torn_left, torn_may_leave}
@@ -17,7 +17,7 @@ use Rattle.move_core.specs.Runs.{IsRun, KeepsUnits, moves_of, StandsAfterMost}
 use Rattle.move_core.proofs.Running.{run_stops}
 use Rattle.move_core.specs.Stands.{Stands, IsSettled}
 use Rattle.move_core.proofs.Resuming.{synced_settled}
-use Rattle.rows_headline.specs.Stopped.{StopStands, EachStopStands}
+use Rattle.rows_headline.specs.Stopped.{StopStands}
 use Rattle.rows_headline.specs.Again.{shown_of, IsReady, EachStopIsReady, RunsOn}
 use Rattle.rows_headline.proofs.Frames.{stands_there}
 

@@ -1,4 +1,4 @@
-use Rattle.std.proofs.Common.{◌≡◌, ℕ, ◌<◌}
+use Rattle.std.proofs.Common.{◌≡◌}
 use Rattle.rows_headline.specs.Made.{AreTold}
 use Rattle.rows_headline.proofs.told.are_told.Given as goal
 
