@@ -60,6 +60,7 @@ fn copied(alloc: Global, names: &[Serial]) -> Result<Vec<Serial>, AllocError>
 /// What a journal answers where a unit was not read.
 fn cause_of(fault: UnitFault) -> JournalFault
     ensures pool { result ≡ JournalFault.Pool → fault ≡ UnitFault.Pool }
+    ensures told { fault ≡ UnitFault.Pool → result ≡ JournalFault.Pool }
     ensures no_refusal { ¬ IsRefusal result }
 {
     match fault {
