@@ -2,6 +2,7 @@
 
 ghost use Rattle.std.specs.Prelude.{◌≡◌, ◌≤◌, ◌<◌, [], None, Some, List, length, slice_get, IfOk, IfErr, OnOk, IsErr};
 ghost use Rattle.ckd_image.specs.Head.{IsHead, IsHeadFault};
+ghost use Rattle.dasd_pool.specs.Calls.{size_in};
 ghost use Rattle.dasd_pool.specs.Count.{Rose};
 ghost use Rattle.dasd_pool.specs.Disk.{Runs, none};
 ghost use Rattle.redo_core.specs.Faults.{IsOpenFault, MayOpen};
@@ -158,6 +159,24 @@ impl<P: Pool> Session<P> {
         ensures refused { IfErr result (IsHeadFault ((P.shape self.now.pool).head unit) ((P.shape self.now.pool).blocks unit)) }
     {
         Head::read(&self.journal.head(unit), self.journal.blocks(unit))
+    }
+
+    /// How many tracks a unit has.
+    pub fn blocks(&self, unit: u32) -> u32
+        requires { unit < journal_of (P.shape self.now.pool) }
+        ensures { result ≡ (P.shape self.now.pool).blocks unit }
+    {
+        self.journal.blocks(unit)
+    }
+
+    /// The bytes of each slot of a unit.
+    pub fn block_size(&self, unit: u32) -> u32
+        requires { unit < journal_of (P.shape self.now.pool) }
+        ensures value { result ≡ (P.shape self.now.pool).block_size unit }
+        ensures fits { result ≤ 65536 }
+        ensures said { result ≡ size_in ((P.shape self.now.pool).head unit) }
+    {
+        self.journal.block_size(unit)
     }
 
     /// A unit, as it was loaded: what the pool stands for.
