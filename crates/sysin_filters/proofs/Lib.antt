@@ -1,0 +1,4 @@
+pub mod Series
+pub mod Once
+pub mod Shorter
+pub mod Parts

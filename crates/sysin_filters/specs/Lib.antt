@@ -1,0 +1,3 @@
+pub mod Filter
+pub mod Progress
+pub mod Laws
