@@ -2,3 +2,5 @@ pub mod Series
 pub mod Once
 pub mod Shorter
 pub mod Parts
+pub mod Following
+pub mod Begun

@@ -143,6 +143,80 @@ part_has_brackets keywords.Optimize e = cc
 pub one_keyword : (keyword other : Keyword) (bracket : Bracket) → part_of keyword ≡ Some bracket → part_of other ≡ Some bracket → keyword ≡ other
 one_keyword keyword other bracket p q = at_home keyword bracket p ∙ sym (at_home other bracket q)
 
+no_output : (verb : Verb) (bracket : Bracket) → IsPartBracket bracket → bracket_of verb keywords.Output ≡ Some bracket → ⊥
+no_output verbs.Print bracket (inl p) e = cc
+no_output verbs.Print bracket (inr (inl p)) e = cc
+no_output verbs.Print bracket (inr (inr p)) e = cc
+no_output verbs.Release bracket (inl p) e = cc
+no_output verbs.Release bracket (inr (inl p)) e = cc
+no_output verbs.Release bracket (inr (inr p)) e = cc
+no_output verbs.Consolidate bracket (inl p) e = cc
+no_output verbs.Consolidate bracket (inr (inl p)) e = cc
+no_output verbs.Consolidate bracket (inr (inr p)) e = cc
+no_output verbs.Defrag bracket (inl p) e = cc
+no_output verbs.Defrag bracket (inr (inl p)) e = cc
+no_output verbs.Defrag bracket (inr (inr p)) e = cc
+no_output verbs.Copy bracket (inl p) e = cc
+no_output verbs.Copy bracket (inr (inl p)) e = cc
+no_output verbs.Copy bracket (inr (inr p)) e = cc
+no_output verbs.Dump bracket (inl p) e = cc
+no_output verbs.Dump bracket (inr (inl p)) e = cc
+no_output verbs.Dump bracket (inr (inr p)) e = cc
+no_output verbs.Restore bracket (inl p) e = cc
+no_output verbs.Restore bracket (inr (inl p)) e = cc
+no_output verbs.Restore bracket (inr (inr p)) e = cc
+
+pub part_of_brackets : (verb : Verb) (keyword : Keyword) (bracket : Bracket) → IsPartBracket bracket → bracket_of verb keyword ≡ Some bracket → part_of keyword ≡ Some bracket
+part_of_brackets verb keywords.Vtoc bracket (inl p) e = cc
+part_of_brackets verb keywords.Vtoc bracket (inr (inl p)) e = cc
+part_of_brackets verb keywords.Vtoc bracket (inr (inr p)) e = cc
+part_of_brackets verb keywords.Full bracket (inl p) e = cc
+part_of_brackets verb keywords.Full bracket (inr (inl p)) e = cc
+part_of_brackets verb keywords.Full bracket (inr (inr p)) e = cc
+part_of_brackets verb keywords.Input bracket (inl p) e = cc
+part_of_brackets verb keywords.Input bracket (inr (inl p)) e = cc
+part_of_brackets verb keywords.Input bracket (inr (inr p)) e = cc
+part_of_brackets verb keywords.LogicalInput bracket (inl p) e = cc
+part_of_brackets verb keywords.LogicalInput bracket (inr (inl p)) e = cc
+part_of_brackets verb keywords.LogicalInput bracket (inr (inr p)) e = cc
+part_of_brackets verb keywords.Output bracket p e = absurd (no_output verb bracket p e)
+part_of_brackets verb keywords.Dataset bracket (inl p) e = cc
+part_of_brackets verb keywords.Dataset bracket (inr (inl p)) e = cc
+part_of_brackets verb keywords.Dataset bracket (inr (inr p)) e = cc
+part_of_brackets verb keywords.Include bracket p e = e
+part_of_brackets verb keywords.Exclude bracket p e = e
+part_of_brackets verb keywords.By bracket p e = e
+part_of_brackets verb keywords.Index bracket (inl p) e = cc
+part_of_brackets verb keywords.Index bracket (inr (inl p)) e = cc
+part_of_brackets verb keywords.Index bracket (inr (inr p)) e = cc
+part_of_brackets verb keywords.Limit bracket (inl p) e = cc
+part_of_brackets verb keywords.Limit bracket (inr (inl p)) e = cc
+part_of_brackets verb keywords.Limit bracket (inr (inr p)) e = cc
+part_of_brackets verb keywords.Delete bracket (inl p) e = cc
+part_of_brackets verb keywords.Delete bracket (inr (inl p)) e = cc
+part_of_brackets verb keywords.Delete bracket (inr (inr p)) e = cc
+part_of_brackets verb keywords.Purge bracket (inl p) e = cc
+part_of_brackets verb keywords.Purge bracket (inr (inl p)) e = cc
+part_of_brackets verb keywords.Purge bracket (inr (inr p)) e = cc
+part_of_brackets verb keywords.Reset bracket (inl p) e = cc
+part_of_brackets verb keywords.Reset bracket (inr (inl p)) e = cc
+part_of_brackets verb keywords.Reset bracket (inr (inr p)) e = cc
+part_of_brackets verb keywords.Replace bracket (inl p) e = cc
+part_of_brackets verb keywords.Replace bracket (inr (inl p)) e = cc
+part_of_brackets verb keywords.Replace bracket (inr (inr p)) e = cc
+part_of_brackets verb keywords.Rename bracket (inl p) e = cc
+part_of_brackets verb keywords.Rename bracket (inr (inl p)) e = cc
+part_of_brackets verb keywords.Rename bracket (inr (inr p)) e = cc
+part_of_brackets verb keywords.Tolerate bracket (inl p) e = cc
+part_of_brackets verb keywords.Tolerate bracket (inr (inl p)) e = cc
+part_of_brackets verb keywords.Tolerate bracket (inr (inr p)) e = cc
+part_of_brackets verb keywords.Wait bracket (inl p) e = cc
+part_of_brackets verb keywords.Wait bracket (inr (inl p)) e = cc
+part_of_brackets verb keywords.Wait bracket (inr (inr p)) e = cc
+part_of_brackets verb keywords.Optimize bracket (inl p) e = cc
+part_of_brackets verb keywords.Optimize bracket (inr (inl p)) e = cc
+part_of_brackets verb keywords.Optimize bracket (inr (inr p)) e = cc
+
 -- ---- contents
 
 content_name : (limited : Bool) (bracket : Bracket) (part : Operand) (text : List Token) → IsPartBracket bracket → IsContent bracket limited part text → name_of part ≡ home bracket
