@@ -80,7 +80,7 @@ begun_stands limited parts part text more b (keyword, bracket, p, r) =
     ap (may_stand parts) (part_name limited part (text ++ more) (keyword, bracket, p, r) ∙ keys) ∙ b.stands
 
 -- the same without a comma behind it
-begun_front : (parts : List Operand) (front : List Token) → IsBegun parts (front ++ Comma ∷ []) → IsBegun parts front
+pub begun_front : (parts : List Operand) (front : List Token) → IsBegun parts (front ++ Comma ∷ []) → IsBegun parts front
 begun_front parts [] b = let e = b.tokens in cc
 begun_front parts (sign ∷ front) b =
     let e = b.tokens in

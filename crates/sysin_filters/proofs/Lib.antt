@@ -4,3 +4,5 @@ pub mod Shorter
 pub mod Parts
 pub mod Following
 pub mod Begun
+pub mod Filters
+pub mod Taking
