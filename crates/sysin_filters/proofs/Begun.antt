@@ -1,5 +1,5 @@
 -- The first tokens of a part, as they are read.
-use Rattle.std.proofs.Common.{◌≡◌, ◌≢◌, ◌⊎◌, inl, inr, ℕ, List, [], ◌∷◌, ◌++◌, refl, sym, ap, subst, ◌∙◌, Bool, true, false, Some, append_assoc, append-nil}
+use Rattle.std.proofs.Common.{◌≡◌, ◌⊎◌, inl, inr, ℕ, List, [], ◌∷◌, ◌++◌, refl, sym, ap, subst, ◌∙◌, Bool, true, false, Some, append_assoc, append-nil}
 use Rattle.std.proofs.lemmas.List.{same_from_push}
 use Rattle.sysin_text.specs.declared.token.Token.{Token}
 use Rattle.sysin_text.specs.declared.token.Token.TheVariants.{Comma, Open, Close, Word}
@@ -8,14 +8,14 @@ use Rattle.sysin_words.specs.declared.lead.Verb.{Verb}
 use Rattle.sysin_words.specs.Keyword.{keyword_of}
 use Rattle.sysin_forms.specs.declared.operand.Operand.{Operand}
 use Rattle.sysin_forms.specs.Operand.{name_of}
-use Rattle.sysin_values.specs.Begun.{CanGoOn, Begin, EndWithComma}
+use Rattle.sysin_values.specs.Begun.{CanGoOn, Begin}
 use Rattle.sysin_operands.specs.declared.bracket.Bracket.{Bracket}
 use Rattle.sysin_operands.specs.declared.operand.OperandPlace.{OperandPlace}
 use Rattle.sysin_operands.specs.declared.operand.OperandPlace.TheVariants as places
 use Rattle.sysin_operands.specs.Bracket.{IsPlainOperand}
 use Rattle.sysin_operands.specs.Operand.{OperandReads}
 use Rattle.sysin_operands.proofs.Operands as operands
-use Rattle.sysin_filters.specs.Filter.{IsPart, IsSeriesOf, part_of}
+use Rattle.sysin_filters.specs.Filter.{IsPart, part_of}
 use Rattle.sysin_filters.specs.Progress.{may_stand, MayStandAt}
 use Rattle.sysin_filters.proofs.Series.{overlap, first_of_series}
 use Rattle.sysin_filters.proofs.Parts.{is_part_bracket, part_of_brackets, one_keyword, part_of_plain, plain_of_part, part_name, cut}

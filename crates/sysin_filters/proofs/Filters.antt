@@ -1,5 +1,5 @@
 -- Filters are read exactly.
-use Rattle.std.proofs.Common.{◌≡◌, ◌≢◌, ◌⊎◌, inl, inr, ℕ, List, [], ◌∷◌, ◌++◌, refl, sym, ap, subst, ◌∙◌, Bool, true, false, Some, append_assoc, append-nil}
+use Rattle.std.proofs.Common.{◌≡◌, ◌≢◌, ◌⊎◌, inl, inr, List, [], ◌∷◌, ◌++◌, refl, sym, ap, subst, ◌∙◌, Bool, true, false, append_assoc, append-nil}
 use Rattle.std.specs.Prelude.{◌||◌}
 use Rattle.std.proofs.lemmas.List.{same_from_push}
 use Rattle.sysin_text.specs.declared.token.Token.{Token}
@@ -9,7 +9,7 @@ use Rattle.sysin_words.specs.declared.keyword.Keyword.TheVariants as keywords
 use Rattle.sysin_words.specs.declared.lead.Verb.{Verb}
 use Rattle.sysin_lang.specs.declared.command.Filter.{Filter}
 use Rattle.sysin_forms.specs.declared.operand.Operand.{Operand}
-use Rattle.sysin_forms.specs.Operand.{name_of, is_part, StandOnce}
+use Rattle.sysin_forms.specs.Operand.{name_of, StandOnce}
 use Rattle.sysin_forms.specs.Made.{said, filter_made}
 use Rattle.sysin_values.specs.declared.fault.ValueFault.{ValueFault}
 use Rattle.sysin_values.specs.declared.fault.ValueFault.TheVariants as faults
@@ -24,11 +24,11 @@ use Rattle.sysin_filters.specs.declared.filter.FilterPlace.{FilterPlace}
 use Rattle.sysin_filters.specs.declared.filter.FilterPlace.TheVariants as places
 use Rattle.sysin_filters.specs.declared.filter.FilterReading.{FilterReading}
 use Rattle.sysin_filters.specs.Filter.{IsSeriesOf, IsPart, IsFilter}
-use Rattle.sysin_filters.specs.Progress.{may_stand, may_have_more, StartsPart, Behind, GoesFrom, FilterGoes, StartsNone, StopsFrom, FilterStops, EndsAt, FilterGives, AreParts, ComeBefore, MayStandAt, ReadsAt, FilterReads, FilterIsRead}
+use Rattle.sysin_filters.specs.Progress.{may_stand, may_have_more, StartsPart, Behind, GoesFrom, FilterGoes, StartsNone, StopsFrom, FilterStops, EndsAt, FilterGives, ComeBefore, MayStandAt, ReadsAt, FilterReads, FilterIsRead}
 use Rattle.sysin_filters.specs.Laws.{start_with}
 use Rattle.sysin_filters.proofs.Series.{StandBefore, series_more, series_map, first_of_series}
 use Rattle.sysin_filters.proofs.Once.{none_clashes, is_a_part, once_more}
-use Rattle.sysin_filters.proofs.Parts.{brackets_of_part, loosen, part_name, part_begins, plain_of_part, sample}
+use Rattle.sysin_filters.proofs.Parts.{brackets_of_part, loosen, part_name, plain_of_part, sample}
 use Rattle.sysin_filters.proofs.Following.{Follow, ComeBehind, follow_begins, all_follow, parts_behind, comma_behind, word_behind, one_series}
 use Rattle.sysin_filters.proofs.Begun.{IsBegun, begun, begun_front, begun_part, begun_stands, GoesOn, goes_on}
 
@@ -109,8 +109,8 @@ went_on old place next' text front rest token e come r m g = by_place (stays old
     by_place (inl n) = behind_stays old next' (text ++ token ∷ []) front (rest ++ token ∷ []) (put text front rest token e) come r' n
     by_place (inr (part, is)) =
         subst (λ (p : OperandPlace). FilterReads (Behind old p) (text ++ token ∷ [])) (sym is)
-            (behind_ended old part (text ++ token ∷ []) front rest (token ∷ []) (put text front rest token e) come (begun old.verb old.parts place rest r m)
-            (subst (λ (p : OperandPlace). OperandReads old.verb p (rest ++ token ∷ [])) is r'))
+        (behind_ended old part (text ++ token ∷ []) front rest (token ∷ []) (put text front rest token e) come (begun old.verb old.parts place rest r m)
+        (subst (λ (p : OperandPlace). OperandReads old.verb p (rest ++ token ∷ [])) is r'))
 
 goes_at : (place : FilterPlace) (old new : FilterReading) (text : List Token) (token : Token) → ReadsAt place old text → GoesFrom place old token new → FilterReads new (text ++ token ∷ [])
 goes_at places.First old new text token none s = started old new text token (inl none) s
@@ -181,8 +181,7 @@ goes_out : (limited : Bool) (verb : Verb) (parts : List Operand) (text front res
 goes_out limited verb parts text front rest e come b (more, part, s) =
     let p = begun_part verb limited parts part rest more b s in
     let w = with_part limited parts part front (rest ++ more) come p (begun_stands limited parts part rest more b p) in
-    let same : text ++ more ≡ front ++ (rest ++ more) = ap (λ (t : List Token). t ++ more) e ∙ append_assoc front rest more in
-    (
+    let same : text ++ more ≡ front ++ (rest ++ more) = ap (λ (t : List Token). t ++ more) e ∙ append_assoc front rest more in (
       more,
       filter_made (said (parts ++ part ∷ [])),
       (parts ++ part ∷ [], subst (λ (t : List Token). IsSeriesOf (IsPart limited) (parts ++ part ∷ []) t) (sym same) w.0, w.1, refl),

@@ -1,14 +1,13 @@
 -- What stands behind parts: one that may.
-use Rattle.std.proofs.Common.{◌≡◌, ◌≢◌, ◌⊎◌, inl, inr, ℕ, List, [], ◌∷◌, ◌++◌, refl, sym, ap, subst, ◌∙◌, Bool, true, false, append_assoc, append-nil}
-use Rattle.std.specs.Prelude.{map}
+use Rattle.std.proofs.Common.{◌≡◌, ◌≢◌, ◌⊎◌, inl, inr, ℕ, List, [], ◌∷◌, ◌++◌, refl, sym, ap, subst, ◌∙◌, Bool, true, append_assoc, append-nil}
 use Rattle.std.proofs.lemmas.List.{map-id}
 use Rattle.sysin_text.specs.declared.token.Token.{Token}
 use Rattle.sysin_text.specs.declared.token.Token.TheVariants.{Comma, Word}
 use Rattle.sysin_forms.specs.declared.operand.Operand.{Operand}
 use Rattle.sysin_forms.specs.Operand.{name_of, StandOnce}
 use Rattle.sysin_filters.specs.Filter.{IsSeriesOf, IsPart}
-use Rattle.sysin_filters.specs.Progress.{may_stand, AreParts, ComeBefore}
-use Rattle.sysin_filters.proofs.Series.{behind, first_of_series, series_begins, EndsOrGoes, IsBehind, BeginsWithWord}
+use Rattle.sysin_filters.specs.Progress.{may_stand, ComeBefore}
+use Rattle.sysin_filters.proofs.Series.{behind, first_of_series, series_begins, EndsOrGoes, BeginsWithWord}
 use Rattle.sysin_filters.proofs.Once.{may, by_names, behind_clashes}
 use Rattle.sysin_filters.proofs.Parts.{agree, agree_whole, name_is_part, part_begins}
 

@@ -1,5 +1,5 @@
 -- What the tokens of a part are.
-use Rattle.std.proofs.Common.{◌≡◌, ◌⊎◌, inl, inr, ℕ, List, [], ◌∷◌, ◌++◌, refl, sym, ap, subst, ◌∙◌, Bool, true, false, Some, None, append_assoc, append-nil}
+use Rattle.std.proofs.Common.{◌≡◌, ◌⊎◌, inl, inr, ℕ, List, [], ◌∷◌, ◌++◌, refl, sym, ap, subst, ◌∙◌, Bool, true, false, Some, append_assoc, append-nil}
 use Rattle.std.specs.Prelude.{codes}
 use Rattle.sysin_text.specs.declared.token.Token.{Token}
 use Rattle.sysin_text.specs.declared.token.Token.TheVariants.{Comma, Open, Close, Word}
@@ -13,7 +13,7 @@ use Rattle.sysin_forms.specs.Operand.{name_of, is_part}
 use Rattle.sysin_values.specs.Begun.{CanGoOn, Begin}
 use Rattle.sysin_operands.specs.declared.bracket.Bracket.{Bracket}
 use Rattle.sysin_operands.specs.declared.bracket.Bracket.TheVariants as brackets
-use Rattle.sysin_operands.specs.Bracket.{bracket_of, IsContent, IsBracketed, IsPlainOperand}
+use Rattle.sysin_operands.specs.Bracket.{bracket_of, IsContent, IsPlainOperand}
 use Rattle.sysin_operands.specs.Content.{start_of}
 use Rattle.sysin_operands.proofs.Contents as contents
 use Rattle.sysin_operands.proofs.Unlimited as unlimited
@@ -345,8 +345,7 @@ cut limited part other s t a b (keyword, bracket, p, r) (keyword', bracket', p',
     (subst (λ (z : Bracket). IsContent z limited other r'.content) inside r'.inside) tails in
     let f = c.0 in
     let e = r.tokens in
-    let e' = r'.tokens in
-    (
+    let e' = r'.tokens in (
       cc,
       c.1,
       part_name true part s (keyword, bracket, p, r) ∙ keys ∙ sym (part_name limited other t (keyword', bracket', p', r')),

@@ -1,7 +1,6 @@
 -- Where a last bracket stands within a part, no longer list ends before it.
-use Rattle.std.proofs.Common.{◌≡◌, ◌≢◌, ◌⊎◌, inl, inr, ℕ, ◌+◌, ◌<◌, ◌≤◌, List, [], ◌∷◌, ◌++◌, length, refl, sym, ap, subst, ◌∙◌, Bool, true, false, arith, Some, None, append_assoc, length-append}
+use Rattle.std.proofs.Common.{◌≡◌, ◌⊎◌, inl, inr, ℕ, ◌≤◌, List, [], ◌∷◌, ◌++◌, length, refl, sym, ap, subst, ◌∙◌, true, false, arith, None, append_assoc, length-append}
 use Rattle.std.specs.Prelude.{◌==◌, map}
-use Rattle.std.specs.Option.{option_and_then}
 use Rattle.std.proofs.lemmas.Bool.Decides.{nat_tests}
 use Rattle.std.proofs.lemmas.Bool.{cases_lt}
 use Rattle.std.proofs.lemmas.List.{map-append}
@@ -10,11 +9,11 @@ use Rattle.by_rules.specs.declared.state.State.TheVariants as states
 use Rattle.by_rules.specs.Token as rules
 use Rattle.by_rules.specs.Token.{Symbol}
 use Rattle.by_rules.specs.Grammar.{IsCriterion, IsSequence, most_criteria}
-use Rattle.by_rules.specs.Reading.{Machine, start, next, run}
+use Rattle.by_rules.specs.Reading.{start, run}
 use Rattle.by_rules.proofs.Complete.{at, run_then, complete}
 use Rattle.by_rules.proofs.Sound.{IsBefore}
 use Rattle.sysin_text.specs.declared.token.Token.{Token}
-use Rattle.sysin_text.specs.declared.token.Token.TheVariants.{Comma, Close}
+use Rattle.sysin_text.specs.declared.token.Token.TheVariants.{Close}
 use Rattle.sysin_values.specs.Values.{rule_of, IsWordOf, IsPatterns, IsCriteria, SaysPattern}
 use Rattle.sysin_values.proofs.Lists.{IsRest, behind_list}
 use Rattle.sysin_values.proofs.WordLists.{closed_word}

@@ -1,6 +1,6 @@
 -- What one more token leaves.
-use Rattle.std.proofs.Common.{◌≡◌, ◌⊎◌, inl, inr, ℕ, List, [], ◌∷◌, refl, sym, ap, subst, ◌∙◌, Bool, true, false, Some, None}
-use Rattle.std.specs.Prelude.{IfOk, IfErr, Result, Ok, Err}
+use Rattle.std.proofs.Common.{◌≡◌, inl, inr, List, refl, sym, subst, true}
+use Rattle.std.specs.Prelude.{IfOk, Result, Ok, Err}
 use Rattle.sysin_text.specs.declared.token.Token.{Token}
 use Rattle.sysin_text.specs.declared.token.Token.TheVariants.{Comma}
 use Rattle.sysin_words.specs.declared.keyword.Keyword.{Keyword}

@@ -1,5 +1,5 @@
 -- What holds of filters whatever reads them.
-use Rattle.std.specs.Prelude.{◌≡◌, Bool, List, [], ◌∷◌, ◌++◌}
+use Rattle.std.specs.Prelude.{◌≡◌, Bool, List, []}
 use Rattle.sysin_text.specs.declared.token.Token.{Token}
 use Rattle.sysin_words.specs.declared.lead.Verb.{Verb}
 use Rattle.sysin_forms.specs.declared.operand.Operand.{Operand}

@@ -81,11 +81,13 @@ impl FilterReading {
         let FilterReading { verb, parts, place } = self;
         match (place, token) {
             (FilterPlace::Inside(place), _) => inside(alloc, verb, parts, place, token),
-            (FilterPlace::Behind, Token::Comma) if has_room(parts.as_slice()) => Ok(FilterReading {
-                verb,
-                parts,
-                place: FilterPlace::Comma,
-            }),
+            (FilterPlace::Behind, Token::Comma) if has_room(parts.as_slice()) => Ok(
+                FilterReading {
+                    verb,
+                    parts,
+                    place: FilterPlace::Comma,
+                },
+            ),
             _ => started(alloc, verb, parts, token),
         }
     }

@@ -1,4 +1,4 @@
-use Rattle.std.proofs.Common.{rules, ◌≡◌, ◌∙◌, ap, sym}
+use Rattle.std.proofs.Common.{rules, ◌∙◌, ap, sym}
 use Rattle.sysin_filters.specs.Progress.{may_have_more}
 use Rattle.sysin_filters.proofs.Taking.{taken_is_read, started_goes, comma_is_read}
 use Rattle.sysin_filters.proofs.filter.FilterReading.take.Goals as goal
@@ -16,7 +16,7 @@ returns-in_default-clause-taken c = started_goes c.args.self c.args.token.now c.
   | in_default-via-in-Behind-Comma+else-has_room w ↦ let other = w.in-Behind-Comma.is-0 in cc
   | in_default-via-in-Behind+in_default w ↦ w.in_default.not-Inside-0 inside e
   | in_default-via-in_default w ↦ w.in_default.not-Inside-0 inside e
-  ]) c.started.ensures.taken
+]) c.started.ensures.taken
 
 pub returns-in_default-clause-read : goal.returns-in_default-clause-read
 returns-in_default-clause-read c = taken_is_read c.args.self c.args.token.now c.started.result c.requires (returns-in_default-clause-taken c)
