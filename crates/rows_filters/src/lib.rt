@@ -1,0 +1,5 @@
+//! Tests: the filters of SYSIN commands.
+#![tactic(auto)]
+
+#[cfg(test)]
+mod tests;
