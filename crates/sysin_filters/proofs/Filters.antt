@@ -14,7 +14,7 @@ use Rattle.sysin_forms.specs.Made.{said, filter_made}
 use Rattle.sysin_values.specs.declared.fault.ValueFault.{ValueFault}
 use Rattle.sysin_values.specs.declared.fault.ValueFault.TheVariants as faults
 use Rattle.sysin_values.specs.Begun.{CanGoOn, Begin}
-use Rattle.sysin_values.specs.Exact.{IsExact, EndsAtClose}
+use Rattle.sysin_values.specs.Exact.{IsExact}
 use Rattle.sysin_operands.specs.declared.operand.OperandPlace.{OperandPlace}
 use Rattle.sysin_operands.specs.declared.operand.OperandPlace.TheVariants as operand_places
 use Rattle.sysin_operands.specs.Bracket.{IsPlainOperand}
@@ -323,23 +323,3 @@ exact verb = record {
   right = λ reading text r. right_at reading.place reading text r.1;
   wrong = λ reading text token fault r stop real. wrong_at reading.place reading text token fault r.1 stop real;
 }
-
--- no bracket goes on with a filter
-no_close : (limited : Bool) (parts : List Operand) (text : List Token) → IsSeriesOf (IsPart true) parts text → ¬ CanGoOn IsFilter limited (text ++ Close ∷ [])
-no_close limited [] text s (more, value, (all, a, once, is)) =
-    let same : (text ++ Close ∷ []) ++ more ≡ Close ∷ more = ap (λ (t : List Token). (t ++ Close ∷ []) ++ more) s in
-    let f = all_follow limited all Close more (subst (λ (t : List Token). IsSeriesOf (IsPart limited) all t) same a) in
-    let w = follow_begins limited [] (Close ∷ more) f in
-    let e = w.2 in
-    cc
-no_close limited (part ∷ parts) text s (more, value, (all, a, once, is)) =
-    by_place (parts_behind limited (part ∷ parts) all text (Close ∷ more) (λ e. cc) s (subst (λ (t : List Token). IsSeriesOf (IsPart limited) all t) (append_assoc text (Close ∷ []) more) a) once)
-  where
-    by_place : ComeBehind limited (part ∷ parts) (Close ∷ more) → ⊥
-    by_place (inl none) = cc
-    by_place (inr (inl f)) = let w = follow_begins limited (part ∷ parts) (Close ∷ more) f in let e = w.2 in cc
-    by_place (inr (inr c)) = let e = c.comma in cc
-
-pub ends : EndsAtClose IsFilter
-ends value text (parts, s, once, is) (inl g) = no_close true parts text s g
-ends value text (parts, s, once, is) (inr c) = no_close false parts text s c.longer

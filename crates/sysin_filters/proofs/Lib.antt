@@ -6,3 +6,4 @@ pub mod Following
 pub mod Begun
 pub mod Filters
 pub mod Taking
+pub mod Closing

@@ -1,4 +1,5 @@
-use Rattle.sysin_filters.proofs.Filters.{exact, ends}
+use Rattle.sysin_filters.proofs.Closing.{ends}
+use Rattle.sysin_filters.proofs.Filters.{exact}
 use Rattle.sysin_filters.proofs.laws.filter_laws.Goals as goal
 
 pub returns-clause-exact : goal.returns-clause-exact
