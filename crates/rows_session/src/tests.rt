@@ -179,16 +179,13 @@ fn a_session_has_each_unit_as_it_was_loaded(rt: HostRuntime) -> Result<(), Fail>
     assert_eq!(rt; unit_seen(&session, 1), Seen::Offline(Why::Label(2)));
     assert_eq!(rt; unit_seen(&session, 2), Seen::Missing);
     let given = volume(rt.alloc(), WITH_SET)?;
-    let blocks = given.blocks.as_slice();
-    for track in 0..15 {
+    let mut track = 0u32;
+    for bytes in given.blocks.as_slice().chunks(SLOT) {
         let slot = slot_of(rt.alloc(), &mut session, 0, track)?;
-        let first = track as usize * SLOT;
-        assert_eq!(rt;
-            slot.as_slice() == &blocks[first..first + SLOT],
-            true,
-            "track {track}"
-        );
+        assert!(rt; slot.as_slice() == bytes, "track {track}");
+        track = track.saturating_add(1);
     }
+    assert_eq!(rt; track, 15);
     Ok(())
 }
 
@@ -232,7 +229,7 @@ fn calls_of(alloc: Global) -> Result<(u64, u64), RowsFault> {
 #[test]
 fn each_call_of_the_pool_that_fails_ends_the_beginning(rt: HostRuntime) -> Result<(), Fail> {
     let (first, end) = calls_of(rt.alloc())?;
-    assert!(rt; first + 3 < end, "{first} {end}");
+    assert!(rt; end.saturating_sub(first) > 3, "{first} {end}");
     for call in first..end {
         let pool = pool_of(rt.alloc(), WITH_SET, BROKEN, &[call])?;
         let refused = started(rt.alloc(), pool, &NAMES).err();
