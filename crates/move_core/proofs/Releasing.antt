@@ -33,7 +33,7 @@ use Rattle.move_core.specs.Laws.{WillStand}
 use Rattle.move_core.specs.Releasing.{vtoc_track, ShrinksTrack}
 use Rattle.move_core.specs.Shrinking.{AreShort}
 use Rattle.move_core.specs.Stands.{Means, IsSettled}
-use Rattle.volume_model.specs.Changed.{Changes}
+use Rattle.volume_model.specs.Changed.{ChangesSets}
 use Rattle.move_core.specs.Steps.{shrunk, IsStep}
 use Rattle.move_core.proofs.Frames.{vtoc_below, pointer_held}
 use Rattle.move_core.proofs.OneVtoc.{heads_15, one_vtoc}
@@ -79,7 +79,7 @@ pub record IsReleased (head : List ℕ) (blocks : ℕ) (name : Dsn) (keep : ℕ)
   pub set : DataSet
   pub name_is : IsNameOf name set.name
   pub fewer : keep < length (tracks_of set.extents)
-  pub changes : Changes old new set (shrunk keep set)
+  pub changes : ChangesSets old new (set ∷ []) (shrunk keep set ∷ [])
 
 -- ---- a volume with a plain VTOC
 
@@ -307,13 +307,15 @@ module _ (facts : Facts) (state : State) (units : List UnitModel) (room : ℕ) (
 
   step : IsStep facts (Shrink unit name keep) units later
   step = record {
-    old = old;
-    new = release.new;
-    unit_is = replaces shape reading reading_idle units means unit reading_quiet block slot old release.new old_at;
     set = release.set;
     name_is = release.name_is;
     fewer = release.fewer;
-    changes = release.changes;
+    change = record {
+      old = old;
+      new = release.new;
+      unit_is = replaces shape reading reading_idle units means unit reading_quiet block slot old release.new old_at;
+      changes = release.changes;
+    };
   }
 
   -- ---- the labels stay

@@ -1,6 +1,7 @@
 -- A VTOC that is shrunk for a data set makes its volume one with the data set's first tracks alone.
 use Rattle.std.proofs.Common.{◌≡◌, inl, inr, ℕ, zero, suc, ◌+◌, ◌<◌, ◌≤◌, List, [], ◌∷◌, ◌++◌, length, map, take, true, false, not, ◌&&◌, ◌||◌, ◌==◌, refl, sym, ap, subst, ◌∙◌, arith, append_assoc, append-nil, ◌-◌}
 use Rattle.std.specs.Prelude.{bit_and, slice_index, nat_le, if◌then◌else◌}
+use Rattle.std.proofs.lemmas.List.Elements.{All-nil, All-cons}
 use Rattle.std.proofs.lemmas.Bool.{cases_eq, cond-false, ne_eqb, lt-leb}
 use Rattle.std.proofs.lemmas.List.{length-map, length-append}
 use Rattle.ckd_image.specs.Address.{address_of}
@@ -18,7 +19,7 @@ use Rattle.volume_model.proofs.Blocks.{blocks_same}
 use Rattle.volume_model.specs.Reads.{AreTexts, fields_of_4, extent_in, IsDataSet, AreDataSets, has_index, IsOnline}
 use Rattle.vtoc_core.specs.Plain.{HasPlainVtoc}
 use Rattle.vtoc_core.specs.Shrink.{IsShrunkRow, ShrinksVtoc}
-use Rattle.volume_model.specs.Changed.{threes_for, HasRightFives, Changes}
+use Rattle.volume_model.specs.Changed.{threes_for, HasRightFives, IsPut, ChangesSets}
 use Rattle.move_core.specs.Steps.{cut, shrunk}
 use Rattle.move_core.proofs.Frames.{sets_move}
 use Rattle.move_core.proofs.OneVtoc.{heads_15}
@@ -237,15 +238,18 @@ module _ (head : List ℕ) (blocks : ℕ) (slots later : Slots) (old : OnlineVol
     fives_are = h.fives_are ∙ ap length before.plain.one_five ∙ few_fives (length s.runs.runs) s.runs.few;
   }
 
-  changes : Changes old new set (shrunk keep set)
+  put : IsPut (shrunk keep set)
+  put = record { few = omega (arith, ap length (cut_is (λ track. track) later row new_row set keep some set_is shrunk_row.1)); threes_are = refl }
+
+  changes : ChangesSets old new (set ∷ []) (shrunk keep set ∷ [])
   changes = record {
     front = front;
     back = back;
-    old_is = sets_are;
-    few = omega (arith, ap length (cut_is (λ track. track) later row new_row set keep some set_is shrunk_row.1));
-    new_is = refl;
+    sets_were = sets_are;
+    are_put = All-cons IsPut (shrunk keep set) [] put (All-nil IsPut);
+    after_is = refl;
     fives = new_fives;
   }
 
-  pub shrink_stands : (volume : OnlineVolume) × IsOnline false (λ track. track) head blocks later volume × Changes old volume set (shrunk keep set)
+  pub shrink_stands : (volume : OnlineVolume) × IsOnline false (λ track. track) head blocks later volume × ChangesSets old volume (set ∷ []) (shrunk keep set ∷ [])
   shrink_stands = (new, new_online, changes)

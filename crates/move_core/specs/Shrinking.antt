@@ -1,5 +1,5 @@
 -- A loaded volume is what its unit is, and a VTOC that is shrunk makes the unit another volume.
-use Rattle.std.specs.Prelude.{◌≡◌, ℕ, ◌≤◌, Bool, false, List, ◌∷◌, ◌++◌, length}
+use Rattle.std.specs.Prelude.{◌≡◌, ℕ, ◌≤◌, Bool, false, List, [], ◌∷◌, ◌++◌, length}
 use Rattle.ckd_image.specs.declared.head.Head.{Head}
 use Rattle.ckd_image.specs.declared.track.Cchhr.{Cchhr}
 use Rattle.ckd_image.specs.Address.{IsCchhr}
@@ -12,7 +12,7 @@ use Rattle.volume_model.specs.Unit.{DataSet, OnlineVolume, UnitModel, online}
 use Rattle.volume_model.specs.Reads.{IsOnline, IsUnit}
 use Rattle.vtoc_core.specs.Plain.{HasPlainVtoc}
 use Rattle.vtoc_core.specs.Shrink.{ShrinksVtoc}
-use Rattle.volume_model.specs.Changed.{Changes}
+use Rattle.volume_model.specs.Changed.{ChangesSets}
 use Rattle.move_core.specs.Steps.{shrunk}
 
 -- the slots of a run's tracks are no longer than a track's slot can be
@@ -46,4 +46,4 @@ ShrinkStands =
     → old.sets ≡ front ++ (set ∷ back)
     → h.found.rows ≡ rows_front ++ (row ∷ rows_back) → length rows_front ≡ length front
     → 1 ≤ keep
-    → (new : OnlineVolume) × IsOnline false (λ track. track) head blocks later new × Changes old new set (shrunk keep set)
+    → (new : OnlineVolume) × IsOnline false (λ track. track) head blocks later new × ChangesSets old new (set ∷ []) (shrunk keep set ∷ [])

@@ -1,5 +1,5 @@
 -- The units that a pool's blocks stand for.
-use Rattle.std.specs.Prelude.{◌≡◌, ℕ, ◌+◌, ◌-◌, ◌/◌, ◌<◌, ◌≤◌, Bool, false, ◌&&◌, ◌==◌, nat_le, nat_lt, if◌then◌else◌, List, ◌∷◌, ◌++◌, length, take, drop, All, Some, slice_get}
+use Rattle.std.specs.Prelude.{◌≡◌, ℕ, ◌+◌, ◌-◌, ◌/◌, ◌<◌, ◌≤◌, Bool, false, ◌&&◌, ◌==◌, nat_le, nat_lt, if◌then◌else◌, List, [], ◌∷◌, ◌++◌, length, take, drop, All, Some, slice_get}
 use Rattle.ckd_image.specs.Device.{heads_of}
 use Rattle.dasd_pool.specs.Disk.{Image, Shape, State}
 use Rattle.redo_core.specs.declared.control.Control.{Control}
@@ -10,7 +10,7 @@ use Rattle.redo_core.specs.Opening.{IsJournalSynced, IsSure}
 use Rattle.volume_model.specs.Unit.{Text, good, Extent, DataSet, OnlineVolume, UnitModel, online, tracks_of, IsFreeTrack}
 use Rattle.volume_model.specs.Reads.{IsUnit, IsVital}
 use Rattle.volume_model.specs.Pinned.{IsPinned}
-use Rattle.volume_model.specs.Changed.{threes_for, Changes, used_records}
+use Rattle.volume_model.specs.Changed.{threes_for, ChangesSets, used_records}
 use Rattle.move_core.specs.Facts.{Facts}
 use Rattle.move_core.specs.Steps.{Replaces}
 
@@ -57,7 +57,7 @@ pub record Slides (room from to len : ℕ) (before after : OnlineVolume) : Type 
   pub extents_are : extent.set.extents ≡ extent.front ++ (extent_from from len extent.kind ∷ extent.back)
   pub texts : All IsGood (take len (drop (length (tracks_of extent.front)) extent.set.texts))
   pub free : (track : ℕ) → to ≤ track → track < from → IsFreeTrack before track
-  pub changes : Changes before after extent.set (moved_to extent to len)
+  pub changes : ChangesSets before after (extent.set ∷ []) (moved_to extent to len ∷ [])
   pub fits : used_records after ≤ after.dscbs
 
 -- ---- the units of a reading

@@ -1,5 +1,5 @@
 -- What the format 1 and the extents of a data set say of it.
-use Rattle.std.specs.Prelude.{◌≡◌, ◌≢◌, ◌⊎◌, ℕ, ◌+◌, ◌/◌, not, ◌==◌, if◌then◌else◌, List, [], length, All, bit_and, slice_index}
+use Rattle.std.specs.Prelude.{◌≡◌, ◌⊎◌, ℕ, ◌+◌, ◌/◌, not, ◌==◌, if◌then◌else◌, List, length, bit_and, slice_index}
 use Rattle.by_rules.specs.declared.day.Day.{Day}
 use Rattle.by_rules.specs.declared.row.AllocKind.{AllocKind}
 use Rattle.by_rules.specs.declared.row.AllocKind.TheVariants as kinds
@@ -31,10 +31,6 @@ IsUnexpired fields today = IsNever (expiry_in fields) ⊎ IsEarlier today (expir
 -- how a data set asked for its space, by the top two bits of its secondary allocation
 abbrev pub kind_of_bits : ℕ → AllocKind
 kind_of_bits bits = if bits == 0 then kinds.Absolute else if bits == 1 then kinds.Blocks else if bits == 2 then kinds.Tracks else kinds.Cylinders
-
--- a data set is of cylinders where it has extents and all of them are on cylinder boundaries, by their types
-abbrev pub AreByCylinders : {X : Type 0} → (X → ℕ) → List X → Type 0
-AreByCylinders type_of extents = (extents ≢ []) × All (λ extent. type_of extent ≡ 0x81) extents
 
 -- ---- the facts that criteria speak of
 

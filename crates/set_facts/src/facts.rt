@@ -2,8 +2,9 @@
 
 ghost use Rattle.std.specs.Prelude.{◌≡◌, ◌≢◌, ◌↔◌, ◌+◌, ◌/◌, ◌≤◌, [], IsTrue, All};
 ghost use Rattle.volume_model.specs.Dscbs.{number_at as number_in};
+ghost use Rattle.volume_model.specs.Pinned.{AreByCylinders};
 ghost use Rattle.volume_model.specs.Reads.{fields_of_1};
-ghost use Rattle.set_facts.specs.Facts.{day_at as day_in, kind_of_bits as kind_in, facts_from, IsNever, IsUnexpired, AreByCylinders};
+ghost use Rattle.set_facts.specs.Facts.{day_at as day_in, kind_of_bits as kind_in, facts_from, IsNever, IsUnexpired};
 
 use by_rules::{AllocKind, Day, RowFacts};
 use dscb_rec::Extent;

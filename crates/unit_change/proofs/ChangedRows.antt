@@ -4,6 +4,7 @@ use Rattle.std.proofs.lemmas.List.{length-map}
 use Rattle.std.proofs.lemmas.List.Elements.{All-nil, All-cons, All-contains}
 use Rattle.free_map.specs.declared.run.Run.{Run}
 use Rattle.free_map.specs.Runs.{InRuns}
+use Rattle.volume_model.specs.Changed.{threes_for, IsPut}
 use Rattle.volume_model.specs.Directory.{DirectoryRow}
 use Rattle.volume_model.specs.Pinned.{IsNameOf}
 use Rattle.volume_model.specs.Reads.{extent_in, AreTexts, IsDataSet, AreDataSets}
@@ -128,17 +129,17 @@ put_are heads slots old new gone put texts (Swap name given) named is are =
 put_are heads slots old new gone put texts (Remove name) named is are = subst (AreOf heads slots []) (sym is.4) tt
 put_are heads slots old new gone put texts Mark named is are = absurd is
 
-few_in : (heads : ℕ) (row : Row) (texts : List Text) → length row.extents ≤ 16 → All (λ set. length set.extents ≤ 16) (set_put heads row texts ∷ [])
-few_in heads row texts few =
-    All-cons (λ (set : DataSet). length set.extents ≤ 16) (set_put heads row texts) [] (omega (arith, few, length-map row.extents (λ extent. extent_in heads (field_of extent))))
-    (All-nil (λ (set : DataSet). length set.extents ≤ 16))
+is_put : (heads : ℕ) (row : Row) (texts : List Text) → length row.extents ≤ 16 → All IsPut (set_put heads row texts ∷ [])
+is_put heads row texts few =
+    let long : length (extents_of heads row) ≡ length row.extents = length-map row.extents (λ extent. extent_in heads (field_of extent)) in
+    All-cons IsPut (set_put heads row texts) [] (record { few = omega (arith, few, long); threes_are = ap threes_for (sym long) }) (All-nil IsPut)
 
-pub few_put : (heads : ℕ) (volume : Volume) (texts : List Text) (change : Change) → MayChange volume change → All (λ set. length set.extents ≤ 16) (sets_put heads change texts)
-few_put heads volume texts Repair may = All-nil (λ (set : DataSet). length set.extents ≤ 16)
-few_put heads volume texts (Put row) may = few_in heads row texts may.0.few
-few_put heads volume texts (Swap name row) may = few_in heads row texts may.1.3.few
-few_put heads volume texts (Remove name) may = All-nil (λ (set : DataSet). length set.extents ≤ 16)
-few_put heads volume texts Mark may = All-nil (λ (set : DataSet). length set.extents ≤ 16)
+pub lawful_put : (heads : ℕ) (volume : Volume) (texts : List Text) (change : Change) → MayChange volume change → All IsPut (sets_put heads change texts)
+lawful_put heads volume texts Repair may = All-nil IsPut
+lawful_put heads volume texts (Put row) may = is_put heads row texts may.0.few
+lawful_put heads volume texts (Swap name row) may = is_put heads row texts may.1.3.few
+lawful_put heads volume texts (Remove name) may = All-nil IsPut
+lawful_put heads volume texts Mark may = All-nil IsPut
 
 -- the texts that stand on the tracks of what is put stay there where none of these tracks changes
 row_texts_kept : (heads : ℕ) (old new : Slots) (row : Row) (texts : List Text) → ((track : ℕ) → InRuns (runs_in heads row.extents) track → new track ≡ old track)

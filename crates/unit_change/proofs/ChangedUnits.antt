@@ -10,6 +10,7 @@ use Rattle.free_map.specs.declared.run.Run.{Run}
 use Rattle.free_map.specs.Free.{IsFree}
 use Rattle.free_map.specs.Runs.{Holds, InRuns, AreMaximalRuns}
 use Rattle.vol_label.specs.declared.label.Label.{Label}
+use Rattle.volume_model.specs.Changed.{ChangesSets}
 use Rattle.volume_model.specs.Check.{extents_in, usable_in}
 use Rattle.volume_model.specs.Directory.{DirectoryRow}
 use Rattle.volume_model.specs.Reads.{AreDataSets, IsOnline, fields_of_4, has_index, blocks_from}
@@ -28,7 +29,7 @@ use Rattle.vtoc_render.specs.declared.change.Rendered.{Rendered}
 use Rattle.vtoc_render.specs.Next.{MayChange, IsNext, IsChanged, runs_of_rows}
 use Rattle.vtoc_render.specs.Render.{LoadsAfter}
 use Rattle.unit_change.specs.Described.{own_place, AreShort, Describes}
-use Rattle.unit_change.specs.Changed.{ChangesSets, AreGone, AreTextsPut, sets_put, IsUnitOf}
+use Rattle.unit_change.specs.Changed.{AreGone, AreTextsPut, sets_put, IsUnitOf}
 use Rattle.unit_change.proofs.FormatFour.{run_inside, KeepsFormat4}
 use Rattle.unit_change.proofs.OneVtoc.{home_short}
 use Rattle.unit_change.proofs.LoadedTracks.{four, free_unused_by_rows, rows_off_vtoc, vtoc_usable, in_all_rows}
@@ -36,7 +37,7 @@ use Rattle.unit_change.proofs.Describing.{IsFoundLoaded, describes, sets_found, 
 use Rattle.unit_change.proofs.LoadedUnits.{found_loaded}
 use Rattle.unit_change.proofs.UnitLoads.{head_stands, first_text, label_stands, labelled, four_short, was_loaded}
 use Rattle.unit_change.proofs.Kept.{AreSetsOfTwo, of_two, both, sets_kept}
-use Rattle.unit_change.proofs.ChangedRows.{is_changed, AreParted, parted_rows, gone_is, put_are, few_put, OnPut, put_texts_kept}
+use Rattle.unit_change.proofs.ChangedRows.{is_changed, AreParted, parted_rows, gone_is, put_are, lawful_put, OnPut, put_texts_kept}
 
 on_put : (heads : ℕ) (change : Change) (P Q : ℕ → Type 0) → ((track : ℕ) → P track → Q track) → OnPut heads change P → OnPut heads change Q
 on_put heads Repair P Q f all = tt
@@ -213,7 +214,7 @@ module _ {head : List ℕ} {blocks : ℕ} {old : Slots} {image : Head} {label : 
       front = outer.front;
       back = inner.back;
       sets_were = outer.sets_are ∙ ap (λ (sets : List DataSet). outer.front ++ sets) inner.sets_are;
-      few = few_put (heads_of loaded.device) loaded texts change may;
+      are_put = lawful_put (heads_of loaded.device) loaded texts change may;
       after_is = refl;
       fives = record { runs = rendered.next.free.runs; runs_are = described_after.free_are; fives_are = changed.fives_are };
     }

@@ -29,13 +29,13 @@ use Rattle.unit_change.proofs.OneVtoc.{none_told, one_check}
 
 -- ---- heads
 
-one_device : (head : List ℕ) (one other : Device) → NamesDevice one head → NamesDevice other head → one ≡ other
+pub one_device : (head : List ℕ) (one other : Device) → NamesDevice one head → NamesDevice other head → one ≡ other
 one_device head D3390 D3390 a b = refl
 one_device head D3380 D3380 a b = refl
 one_device head D3390 D3380 a b = absurd (omega (arith, a, b))
 one_device head D3380 D3390 a b = absurd (omega (arith, a, b))
 
-no_head : (head : List ℕ) (blocks why : ℕ) → IsHeadFault head blocks (BadHead why) → (device : Device) → ¬ IsHead head blocks device
+pub no_head : (head : List ℕ) (blocks why : ℕ) → IsHeadFault head blocks (BadHead why) → (device : Device) → ¬ IsHead head blocks device
 no_head head blocks why (rules.Magic, number, broken) device is = broken.2 is.magic
 no_head head blocks why (rules.Device, number, broken) device is = broken.1 device is.named
 no_head head blocks why (rules.Heads, number, broken) device is =
@@ -73,7 +73,7 @@ module _ (head : List ℕ) (blocks : ℕ) (slots : Slots) (image : Head) (label 
   LabelFails why i =
       (((text : Track) → ¬ IsFirstText i slots text) × (why ≡ 1)) ⊎ ((text : Track) × IsFirstText i slots text × IsLabelFault i text.recs (BadLabel why))
 
-  no_bad_label : (why : ℕ) → ¬ HasBadLabel head blocks slots why
+  pub no_bad_label : (why : ℕ) → ¬ HasBadLabel head blocks slots why
   no_bad_label why bad =
       elim (subst (LabelFails why) (one_image head blocks bad.image image bad.head_stands labelled.head_stands) bad.fault) [
         | inl none ↦ none.0 labelled.text labelled.text_stands
@@ -82,7 +82,7 @@ module _ (head : List ℕ) (blocks : ℕ) (slots : Slots) (image : Head) (label 
             (subst (λ (t : Track). IsLabelFault image t.recs (BadLabel why)) (first_same broken.0 broken.1) broken.2) label labelled.stands
       ]
 
-  same_fault : (track number why : ℕ) (bad : HasBadVtoc false head blocks slots track number why) → IsCheckFault image slots label.vtoc false bad.told
+  pub same_fault : (track number why : ℕ) (bad : HasBadVtoc false head blocks slots track number why) → IsCheckFault image slots label.vtoc false bad.told
   same_fault track number why bad =
       let same = same_labelled bad.image bad.label bad.labelled in
       subst (λ (l : Label). IsCheckFault image slots l.vtoc false bad.told) same.1

@@ -1,9 +1,9 @@
 -- A unit after a change of its VTOC.
-use Rattle.std.specs.Prelude.{◌≡◌, ◌≢◌, ℕ, ◌≤◌, ◌*◌, false, List, [], ◌∷◌, ◌++◌, length, map, All}
+use Rattle.std.specs.Prelude.{◌≡◌, ◌≢◌, ℕ, ◌≤◌, ◌*◌, false, List, [], ◌∷◌, length, map}
 use Rattle.ckd_image.specs.declared.head.Head.{Head}
 use Rattle.ckd_image.specs.Device.{heads_of, slot_of}
 use Rattle.vol_label.specs.declared.label.Label.{Label}
-use Rattle.volume_model.specs.Changed.{threes_for, HasRightFives}
+use Rattle.volume_model.specs.Changed.{threes_for, ChangesSets}
 use Rattle.volume_model.specs.Pinned.{IsNameOf}
 use Rattle.volume_model.specs.Reads.{IsOnline, extent_in, fields_of_1, AreTexts}
 use Rattle.volume_model.specs.Sound.{Slots}
@@ -24,15 +24,6 @@ use Rattle.vtoc_render.specs.Render.{LoadsAfter}
 use Rattle.unit_change.specs.Described.{own_place, AreShort, Describes}
 
 -- ---- data sets that go and come
-
--- Some data sets of a volume go, and others come in their place. All else stays, but the free space is stated after each change.
-pub record ChangesSets (before after : OnlineVolume) (gone put : List DataSet) : Type 0 where
-  pub front : List DataSet
-  pub back : List DataSet
-  pub sets_were : before.sets ≡ front ++ (gone ++ back)
-  pub few : All (λ set. length set.extents ≤ 16) put
-  pub after_is : after ≡ record before { sets = front ++ (put ++ back); repair = false; fives = after.fives }
-  pub fives : HasRightFives after
 
 -- the extents of a row
 abbrev pub extents_of : ℕ → Row → List Extent

@@ -1,5 +1,5 @@
 -- What a change of a volume's data sets leaves, and whether the VTOC has room for it.
-use Rattle.std.specs.Prelude.{◌≡◌, ℕ, ◌+◌, ◌-◌, ◌<◌, ◌≤◌, false, nat_le, if◌then◌else◌, List, ◌∷◌, ◌++◌, length, map, sum}
+use Rattle.std.specs.Prelude.{◌≡◌, ℕ, ◌+◌, ◌-◌, ◌<◌, ◌≤◌, false, nat_le, if◌then◌else◌, List, ◌++◌, length, map, sum, All}
 use Rattle.free_map.specs.declared.run.Run.{Run}
 use Rattle.volume_model.specs.Unit.{DataSet, OnlineVolume, AreFreeRunsOf, fives_for}
 
@@ -13,13 +13,18 @@ pub record HasRightFives (volume : OnlineVolume) : Type 0 where
   pub runs_are : AreFreeRunsOf volume runs
   pub fives_are : volume.fives ≡ fives_for (length runs)
 
--- One data set becomes another. All else stays, but the free space is stated after each change.
-pub record Changes (before after : OnlineVolume) (old new : DataSet) : Type 0 where
+-- a data set as a change puts it
+pub record IsPut (set : DataSet) : Type 0 where
+  pub few : length set.extents ≤ 16
+  pub threes_are : set.threes ≡ threes_for (length set.extents)
+
+-- Some data sets of a volume go, and others come in their place. All else stays, but the free space is stated after each change.
+pub record ChangesSets (before after : OnlineVolume) (gone put : List DataSet) : Type 0 where
   pub front : List DataSet
   pub back : List DataSet
-  pub old_is : before.sets ≡ front ++ (old ∷ back)
-  pub few : length new.extents ≤ 16
-  pub new_is : after ≡ record before { sets = front ++ (new ∷ back); repair = false; fives = after.fives }
+  pub sets_were : before.sets ≡ front ++ (gone ++ back)
+  pub are_put : All IsPut put
+  pub after_is : after ≡ record before { sets = front ++ (put ++ back); repair = false; fives = after.fives }
   pub fives : HasRightFives after
 
 -- ---- room in the VTOC

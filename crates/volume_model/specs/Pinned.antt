@@ -1,5 +1,5 @@
 -- Which data sets stay where they are, and how much of one a release keeps.
-use Rattle.std.specs.Prelude.{◌≡◌, ◌≢◌, ◌⊎◌, ℕ, ◌+◌, ◌-◌, ◌*◌, ◌%◌, ◌<◌, ◌≤◌, min, ◌==◌, ◌&&◌, nat_le, if◌then◌else◌, List, [], ◌∷◌, length, Some, Contains, bit_and, slice_index}
+use Rattle.std.specs.Prelude.{◌≡◌, ◌≢◌, ◌⊎◌, ℕ, ◌+◌, ◌-◌, ◌*◌, ◌%◌, ◌<◌, ◌≤◌, min, ◌==◌, ◌&&◌, nat_le, if◌then◌else◌, List, [], ◌∷◌, length, All, Some, Contains, bit_and, slice_index}
 use Rattle.dsn_filter.specs.declared.dsn.Dsn.{Dsn}
 use Rattle.dsn_filter.specs.Dsn.{IsDsn}
 use Rattle.vol_label.specs.CodePage.{ascii_of}
@@ -34,6 +34,10 @@ IsOfTracks extent = extent.kind ≡ 0x01
 
 abbrev pub IsOfCylinders : ℕ → Extent → Type 0
 IsOfCylinders heads extent = (extent.kind ≡ 0x81) × (extent.run.first % heads ≡ 0) × (extent.run.len % heads ≡ 0)
+
+-- a data set is of cylinders where it has extents and all of them are on cylinder boundaries, by their types
+abbrev pub AreByCylinders : {X : Type 0} → (X → ℕ) → List X → Type 0
+AreByCylinders type_of extents = (extents ≢ []) × All (λ extent. type_of extent ≡ 0x81) extents
 
 -- an extent of another type, or of cylinders that aren't whole
 pub record HasOtherExtent (heads : ℕ) (set : DataSet) : Type 0 where
