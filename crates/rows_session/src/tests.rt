@@ -1,10 +1,7 @@
-ghost use Rattle.std.specs.Prelude.{IsTrue};
-ghost use Rattle.redo_core.specs.Opening.{AreNames};
-
-use ckd_image::Bytes;
-use dasd_pool::{MemoryPool, Pool, UnitText};
+use crate::ground::{Beside, NAMES, SECOND, are_names, begun, pool_of};
+use dasd_pool::{MemoryPool, Pool};
 use redo_core::*;
-use rows_base::{GIVEN, Given, RowsFault, SLOT, WITH_SET, journal, volume};
+use rows_base::{Given, RowsFault, SLOT, WITH_SET, volume};
 use std::alloc::Global;
 use std::test::*;
 use unit_load::UnitState;
@@ -13,44 +10,25 @@ use vol_label::Serial;
 use volume_model::Why;
 use vtoc_core::Volume;
 
-/// `VOL001` and `VOL002` in the code page.
-const NAMES: [Serial; 2] = [
-    Serial {
-        text: [0xe5, 0xd6, 0xd3, 0xf0, 0xf0, 0xf1],
-    },
-    Serial {
-        text: [0xe5, 0xd6, 0xd3, 0xf0, 0xf0, 0xf2],
-    },
-];
-
 /// The volume with A.B, of whose label the key has another first byte.
 const BROKEN: Given = Given {
     blocks: &[(221, 0)],
     ..WITH_SET
 };
 
-/// These two volumes, and seven blocks of zeros with the head of a journal.
-fn pool_of(
+/// Two volumes and a journal of zeros, of which these calls fail.
+fn pool(
     alloc: Global,
     first: Given,
     second: Given,
     failing: &[u64],
 ) -> Result<MemoryPool, RowsFault> {
-    let mut units = Vec::new(alloc);
-    units.push(volume(alloc, first)?)?;
-    units.push(volume(alloc, second)?)?;
-    units.push(journal(alloc, 7, &[])?)?;
-    Ok(MemoryPool::new(alloc, units, failing.to_vec(alloc)?, 0)?)
-}
-
-/// Whether there are two volumes for these names.
-fn are_names<P: Pool>(pool: &P, names: &[Serial]) -> bool
-    ensures { IsTrue result → AreNames (P.shape pool.now) names.now }
-{
-    if pool.units() != 3 || names.len() != 2 || !are_serials(names) {
-        return false;
-    }
-    !is_same(names[0], names[1])
+    let beside = Beside {
+        journal: &[],
+        failing,
+        keep: 0,
+    };
+    pool_of(alloc, first, second, beside)
 }
 
 /// Makes a journal of the names of the volumes, with room for three images.
@@ -59,21 +37,6 @@ fn made<P: Pool + Drop>(alloc: Global, pool: P) -> Option<P> {
         return None;
     }
     Journal::format(alloc, pool, &NAMES, 3).ok()
-}
-
-/// A session under these names, or why there is none. No names are not the registered ones.
-fn begun<P: Pool + Drop>(
-    alloc: Global,
-    pool: P,
-    names: &[Serial],
-) -> Result<Session<P>, JournalFault> {
-    if !are_names(&pool, names) {
-        return Err(JournalFault::BadJournal(0));
-    }
-    match Session::begin(alloc, pool, names) {
-        Ok(session) => Ok(session),
-        Err(stop) => Err(stop.cause),
-    }
 }
 
 /// What a volume is, in numbers: its usable tracks, its data sets, its free tracks, its records, those that are free, and its format 5s.
@@ -163,7 +126,7 @@ fn started<P: Pool + Drop>(
 
 #[test]
 fn a_session_has_each_unit_as_it_was_loaded(rt: HostRuntime) -> Result<(), Fail> {
-    let pool = pool_of(rt.alloc(), WITH_SET, BROKEN, &[])?;
+    let pool = pool(rt.alloc(), WITH_SET, BROKEN, &[])?;
     let Ok(mut session) = started(rt.alloc(), pool, &NAMES) else {
         assert!(rt; false, "no session");
         return Ok(());
@@ -189,22 +152,16 @@ fn a_session_has_each_unit_as_it_was_loaded(rt: HostRuntime) -> Result<(), Fail>
     Ok(())
 }
 
-/// The same volume under its own serial VOL002.
-const SECOND: Given = Given {
-    blocks: &[(234, 0xf2)],
-    ..GIVEN
-};
-
 #[test]
 fn a_session_begins_under_the_registered_names_alone(rt: HostRuntime) -> Result<(), Fail> {
     let names = [NAMES[1], NAMES[0]];
-    let pool = pool_of(rt.alloc(), WITH_SET, SECOND, &[])?;
+    let pool = pool(rt.alloc(), WITH_SET, SECOND, &[])?;
     let refused = started(rt.alloc(), pool, &names).err();
     assert_eq!(rt;
         refused,
         Some(JournalFault::WrongUnit(0, NAMES[0], NAMES[1]))
     );
-    let pool = pool_of(rt.alloc(), WITH_SET, SECOND, &[])?;
+    let pool = pool(rt.alloc(), WITH_SET, SECOND, &[])?;
     let Ok(session) = started(rt.alloc(), pool, &NAMES) else {
         assert!(rt; false, "no session");
         return Ok(());
@@ -216,7 +173,7 @@ fn a_session_begins_under_the_registered_names_alone(rt: HostRuntime) -> Result<
 
 /// The number of the pool's calls that make a journal, and of those that make it and begin a session.
 fn calls_of(alloc: Global) -> Result<(u64, u64), RowsFault> {
-    let Some(pool) = made(alloc, pool_of(alloc, WITH_SET, BROKEN, &[])?) else {
+    let Some(pool) = made(alloc, pool(alloc, WITH_SET, BROKEN, &[])?) else {
         return Ok((0, 0));
     };
     let making = pool.calls();
@@ -231,7 +188,7 @@ fn each_call_of_the_pool_that_fails_ends_the_beginning(rt: HostRuntime) -> Resul
     let (first, end) = calls_of(rt.alloc())?;
     assert!(rt; end.saturating_sub(first) > 3, "{first} {end}");
     for call in first..end {
-        let pool = pool_of(rt.alloc(), WITH_SET, BROKEN, &[call])?;
+        let pool = pool(rt.alloc(), WITH_SET, BROKEN, &[call])?;
         let refused = started(rt.alloc(), pool, &NAMES).err();
         assert_eq!(rt; refused, Some(JournalFault::Pool), "call {call}");
     }

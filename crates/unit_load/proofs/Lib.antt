@@ -4,3 +4,4 @@ pub mod Slotted
 pub mod Refusals
 pub mod Runs
 pub mod States
+pub mod Keeping

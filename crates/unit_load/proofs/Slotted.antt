@@ -20,7 +20,7 @@ pub slot_added : (size place : ℕ) (old slot : List ℕ) → length old ≡ pla
 slot_added size place old slot before long =
     ap (λ (n : ℕ). take size (drop n (old ++ slot))) (sym before) ∙ (ap (λ (l : List ℕ). take size l) (drop-append_seam old slot) ∙ take_all size slot (omega (arith, long)))
 
-more_places : (place other size : ℕ) → other < place → other * size + size ≤ place * size
+pub more_places : (place other size : ℕ) → other < place → other * size + size ≤ place * size
 more_places place other size less =
     let rest : place ≡ other + 1 + (place - other - 1) = omega (arith, less) in
     subst (λ (n : ℕ). other * size + size ≤ n * size) (sym rest) (grind arith)

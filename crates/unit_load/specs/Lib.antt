@@ -1,3 +1,4 @@
 pub mod Reads
+pub mod Kept
 pub mod State
 pub mod Stops

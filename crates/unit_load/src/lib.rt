@@ -8,5 +8,5 @@ mod state;
 mod stop;
 
 pub use load::load_unit;
-pub use state::UnitState;
+pub use state::{LoadedUnit, UnitState};
 pub use stop::UnitFault;

@@ -12,15 +12,16 @@ ghost use Rattle.vtoc_check.specs.Front.{IsVtocRun};
 ghost use Rattle.vtoc_check.specs.Slots.{slot_in, AreSlotsOf};
 ghost use Rattle.vtoc_load.specs.LoadedVtoc.{IsLoadedVtoc};
 ghost use Rattle.unit_load.specs.declared.state.UnitState.TheVariants as states;
+ghost use Rattle.unit_load.specs.Kept.{IsFromSlots, IsKept, AreKeptOf};
 ghost use Rattle.unit_load.specs.Reads.{OnlyReads, IsUnitFault};
 ghost use Rattle.unit_load.specs.State.{IsStateOf, IsStateStop};
 ghost use Rattle.unit_load.specs.Stops.{IsHeadStop, IsLabelIn, IsLabelStop, IsVtocStop, IsFaultOfCheck, IsMemory, StopsBy, stop_for};
 
 use crate::label::label_in;
 use crate::slots::{Hand, read_run, read_slot};
-use crate::state::UnitState;
+use crate::state::{LoadedUnit, UnitState};
 use crate::stop::{Stop, UnitFault};
-use ckd_image::{CkdFault, Head};
+use ckd_image::{Bytes, CkdFault, Head};
 use dasd_pool::Pool;
 use free_map::Run;
 use redo_core::Journal;
@@ -31,20 +32,29 @@ use vtoc_check::{VtocFault, vtoc_run};
 use vtoc_core::{Volume, track_number};
 use vtoc_load::load_vtoc;
 
-/// Reads a unit: the volume on it, or why it is offline. A restore that is under way on it is not looked at.
+/// Reads a unit: the volume on it and the slots of its VTOC, or why it is offline. A restore that is under way on it is not looked at.
 pub fn load_unit<P: Pool>(
     alloc: Global,
     journal: &mut Journal<P>,
     unit: u32,
-) -> Result<UnitState, UnitFault>
+) -> Result<LoadedUnit, UnitFault>
     requires { unit < journal_of (P.shape journal.old.pool) }
     ensures reads { OnlyReads P.Pool journal.old journal.new }
-    ensures state { P.tells → IfOk result (IsStateOf ((P.shape journal.old.pool).head unit) ((P.shape journal.old.pool).blocks unit) ((P.disk journal.old.pool).state.contents unit)) }
+    ensures state { P.tells → IfOk result (λ loaded. IsStateOf ((P.shape journal.old.pool).head unit) ((P.shape journal.old.pool).blocks unit)
+        ((P.disk journal.old.pool).state.contents unit) loaded.state) }
+    ensures slots { P.tells → IfOk result (λ loaded. AreKeptOf ((P.disk journal.old.pool).state.contents unit) loaded.state loaded.slots) }
+    ensures kept { IfOk result (λ loaded. IsKept ((P.shape journal.old.pool).head unit) ((P.shape journal.old.pool).blocks unit) loaded.state loaded.slots) }
     ensures fault { IfErr result (IsUnitFault (P.faults journal.old.pool) (P.faults journal.new.pool)) }
 {
     match find_volume(alloc, journal, unit) {
-        Ok(volume) => Ok(UnitState::Online(volume)),
-        Err(Stop::Offline(why)) => Ok(UnitState::Offline(why)),
+        Ok((volume, slots)) => Ok(LoadedUnit {
+            state: UnitState::Online(volume),
+            slots: Bytes::from_vec(slots),
+        }),
+        Err(Stop::Offline(why)) => Ok(LoadedUnit {
+            state: UnitState::Offline(why),
+            slots: Bytes::new(alloc),
+        }),
         Err(Stop::Fault(fault)) => Err(fault),
     }
 }
@@ -128,19 +138,21 @@ fn volume_in(
     }
 }
 
-/// The volume of a label, by the VTOC that it names.
+/// The volume of a label, by the VTOC that it names, and the slots of that VTOC.
 fn volume_of<P: Pool>(
     alloc: Global,
     journal: &mut Journal<P>,
     unit: u32,
     head: Head,
     label: &Label,
-) -> Result<Volume, Stop>
+) -> Result<(Volume, Vec<u8>), Stop>
     requires unit { unit < journal_of (P.shape journal.old.pool) }
     requires head { HasImage ((P.shape journal.old.pool).head unit) ((P.shape journal.old.pool).blocks unit) head }
     requires inside { IsInside head label.now.vtoc }
     ensures reads { OnlyReads P.Pool journal.old journal.new }
-    ensures volume { P.tells → IfOk result (IsLoadedVtoc head label.now ((P.disk journal.old.pool).state.contents unit) false) }
+    ensures volume { P.tells → IfOk result (λ found. IsLoadedVtoc head label.now ((P.disk journal.old.pool).state.contents unit) false found.0) }
+    ensures slots { P.tells → IfOk result (λ found. AreSlotsOf found.0.vtoc (slot_of found.0.device) found.1.items ((P.disk journal.old.pool).state.contents unit)) }
+    ensures kept { IfOk result (λ found. IsFromSlots ((P.shape journal.old.pool).head unit) ((P.shape journal.old.pool).blocks unit) found.0 found.1.items) }
     ensures stop { P.tells → IfErr result (IsVtocStop head ((P.disk journal.old.pool).state.contents unit) label.now) }
     ensures fault { IfErr result (StopsBy (IsUnitFault (P.faults journal.old.pool) (P.faults journal.new.pool))) }
 {
@@ -149,15 +161,22 @@ fn volume_of<P: Pool>(
     let run = run_of(alloc, head, label, &slot)?;
     let hand = Hand { track, slot: &slot };
     let slots = read_run(alloc, journal, unit, run, hand)?;
-    volume_in(alloc, head, label, run, &slots)
+    let volume = volume_in(alloc, head, label, run, &slots)?;
+    Ok((volume, slots))
 }
 
-/// The volume on a unit, by its head, its label and its VTOC.
-fn find_volume<P: Pool>(alloc: Global, journal: &mut Journal<P>, unit: u32) -> Result<Volume, Stop>
+/// The volume on a unit, by its head, its label and its VTOC, and the slots of that VTOC.
+fn find_volume<P: Pool>(
+    alloc: Global,
+    journal: &mut Journal<P>,
+    unit: u32,
+) -> Result<(Volume, Vec<u8>), Stop>
     requires { unit < journal_of (P.shape journal.old.pool) }
     ensures reads { OnlyReads P.Pool journal.old journal.new }
-    ensures volume { P.tells → IfOk result (λ volume. IsStateOf ((P.shape journal.old.pool).head unit) ((P.shape journal.old.pool).blocks unit)
-        ((P.disk journal.old.pool).state.contents unit) (states.Online volume)) }
+    ensures volume { P.tells → IfOk result (λ found. IsStateOf ((P.shape journal.old.pool).head unit) ((P.shape journal.old.pool).blocks unit)
+        ((P.disk journal.old.pool).state.contents unit) (states.Online found.0)) }
+    ensures slots { P.tells → IfOk result (λ found. AreSlotsOf found.0.vtoc (slot_of found.0.device) found.1.items ((P.disk journal.old.pool).state.contents unit)) }
+    ensures kept { IfOk result (λ found. IsFromSlots ((P.shape journal.old.pool).head unit) ((P.shape journal.old.pool).blocks unit) found.0 found.1.items) }
     ensures stop { P.tells → IfErr result (IsStateStop ((P.shape journal.old.pool).head unit) ((P.shape journal.old.pool).blocks unit) ((P.disk journal.old.pool).state.contents unit)) }
     ensures fault { IfErr result (StopsBy (IsUnitFault (P.faults journal.old.pool) (P.faults journal.new.pool))) }
 {

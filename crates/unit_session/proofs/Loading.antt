@@ -1,5 +1,5 @@
--- One unit more that is loaded.
-use Rattle.std.proofs.Common.{◌≡◌, ℕ, ◌<◌, Bool, zero, suc, List, [], ◌∷◌, ◌++◌, length, Some, sym, ap, subst, ◌∙◌}
+-- One unit more that is loaded, and the slots that are kept of it.
+use Rattle.std.proofs.Common.{◌≡◌, ℕ, ◌<◌, Bool, zero, suc, List, [], ◌∷◌, ◌++◌, length, Some, sym, ap, subst, ◌∙◌, arith}
 use Rattle.std.specs.Prelude.{slice_get}
 use Rattle.std.proofs.lemmas.Option.{same_Some, none-some}
 use Rattle.dasd_pool.specs.Disk.{Image, Shape, State}
@@ -8,8 +8,9 @@ use Rattle.redo_core.specs.Phases.{IsAtRest}
 use Rattle.redo_core.specs.Reading.{journal_of, fills_of}
 use Rattle.unit_change.specs.Described.{AreShort}
 use Rattle.unit_load.specs.declared.state.UnitState.{UnitState}
+use Rattle.unit_load.specs.Kept.{IsKept, AreKeptOf}
 use Rattle.unit_load.specs.State.{IsStateOf}
-use Rattle.unit_session.specs.Loaded.{AreLoaded}
+use Rattle.unit_steps.specs.Loaded.{AreLoaded, KeepVtocs, AreVtocsOf}
 use Rattle.unit_session.specs.Sessions.{IsFree}
 
 module _ {X : Type 0} where
@@ -21,6 +22,19 @@ module _ {X : Type 0} where
   get_more (z ∷ xs) x P each last zero y at = each 0 y at
   get_more (z ∷ xs) x P each last (suc u) y at =
       get_more xs x (λ v w. P (suc v) w) (λ v w there. each (suc v) w there) last u y at
+
+module _ {X Y : Type 0} where
+  -- what holds of the elements of two lists at the same places, and of one more behind each
+  get_both : (xs : List X) (ys : List Y) (x : X) (y : Y) (P : ℕ → X → Y → Type 0) → length xs ≡ length ys
+      → ((u : ℕ) (a : X) (b : Y) → slice_get xs u ≡ Some a → slice_get ys u ≡ Some b → P u a b) → P (length xs) x y
+      → (u : ℕ) (a : X) (b : Y) → slice_get (xs ++ (x ∷ [])) u ≡ Some a → slice_get (ys ++ (y ∷ [])) u ≡ Some b → P u a b
+  get_both [] [] x y P long each last zero a b at there = subst (P 0 a) (same_Some y b there) (subst (λ (z : X). P 0 z y) (same_Some x a at) last)
+  get_both [] [] x y P long each last (suc u) a b at there = absurd (none-some a at)
+  get_both [] (w ∷ ys) x y P long each last u a b at there = absurd (omega (arith, long))
+  get_both (z ∷ xs) [] x y P long each last u a b at there = absurd (omega (arith, long))
+  get_both (z ∷ xs) (w ∷ ys) x y P long each last zero a b at there = each 0 a b at there
+  get_both (z ∷ xs) (w ∷ ys) x y P long each last (suc u) a b at there =
+      get_both xs ys x y (λ v c d. P (suc v) c d) (omega (arith, long)) (λ v c d here also. each (suc v) c d here also) last u a b at there
 
 pub loaded_none : (shape : Shape) (contents : Image) (units : List UnitState) → units ≡ [] → AreLoaded shape contents units
 loaded_none shape contents units is u state at =
@@ -35,6 +49,35 @@ loaded_more shape now old new units later unit state same still long is loaded s
     let Q : Shape → State → Type 0 = λ s t. IsStateOf (s.head unit) (s.blocks unit) (t.contents unit) state × AreShort (s.blocks unit) (t.contents unit) in
     let here : P unit state = subst (λ (t : State). Q shape t) still (subst (λ (s : Shape). Q s new) same (stands, short)) in
     subst (AreLoaded shape old.contents) (sym is) (get_more units state P loaded (subst (λ (u : ℕ). P u state) (sym long) here))
+
+-- ---- the kept slots
+
+-- each unit's slots are kept
+abbrev pub KeepEach : Shape → List UnitState → List (List ℕ) → Type 0
+KeepEach shape units vtocs =
+    (u : ℕ) (state : UnitState) (slots : List ℕ) → slice_get units u ≡ Some state → slice_get vtocs u ≡ Some slots → IsKept (shape.head u) (shape.blocks u) state slots
+
+pub kept_none : (shape : Shape) (units : List UnitState) (vtocs : List (List ℕ)) → units ≡ [] → KeepEach shape units vtocs
+kept_none shape units vtocs is u state slots at there = absurd (none-some state (subst (λ (l : List UnitState). slice_get l u ≡ Some state) is at))
+
+pub vtocs_none : (contents : Image) (units : List UnitState) (vtocs : List (List ℕ)) → units ≡ [] → AreVtocsOf contents units vtocs
+vtocs_none contents units vtocs is u state slots at there = absurd (none-some state (subst (λ (l : List UnitState). slice_get l u ≡ Some state) is at))
+
+module _ (units later : List UnitState) (vtocs after : List (List ℕ)) (unit : ℕ) (state : UnitState) (slots : List ℕ) (long : length units ≡ unit) (whole : length vtocs ≡ unit)
+    (is : later ≡ units ++ (state ∷ [])) (are : after ≡ vtocs ++ (slots ∷ [])) where
+  both_more : (P : ℕ → UnitState → List ℕ → Type 0) → ((u : ℕ) (s : UnitState) (l : List ℕ) → slice_get units u ≡ Some s → slice_get vtocs u ≡ Some l → P u s l) → P unit state slots
+      → (u : ℕ) (s : UnitState) (l : List ℕ) → slice_get later u ≡ Some s → slice_get after u ≡ Some l → P u s l
+  both_more P each last u s l at there =
+      get_both units vtocs state slots P (long ∙ sym whole) each (subst (λ (v : ℕ). P v state slots) (sym long) last) u s l
+      (subst (λ (list : List UnitState). slice_get list u ≡ Some s) is at) (subst (λ (list : List (List ℕ)). slice_get list u ≡ Some l) are there)
+
+  pub kept_more : (shape now : Shape) → now ≡ shape → KeepEach shape units vtocs → IsKept (now.head unit) (now.blocks unit) state slots → KeepEach shape later after
+  kept_more shape now same kept stands =
+      both_more (λ u s l. IsKept (shape.head u) (shape.blocks u) s l) kept (subst (λ (s : Shape). IsKept (s.head unit) (s.blocks unit) state slots) same stands)
+
+  pub vtocs_more : (old new : State) → new ≡ old → AreVtocsOf old.contents units vtocs → AreKeptOf (new.contents unit) state slots → AreVtocsOf old.contents later after
+  vtocs_more old new still have stands =
+      both_more (λ u s l. AreKeptOf (old.contents u) s l) have (subst (λ (t : State). AreKeptOf (t.contents unit) state slots) still stands)
 
 -- ---- a pool that is as it was
 
@@ -54,3 +97,9 @@ still_rest {shape} {now} {old} {new} {room} {control} {fills} same still rest =
 pub still_loaded : {shape now : Shape} {old new : State} (units : List UnitState) → now ≡ shape → new ≡ old → AreLoaded shape old.contents units → AreLoaded now new.contents units
 still_loaded {shape} {now} {old} {new} units same still loaded =
     subst (λ (s : Shape). AreLoaded s new.contents units) (sym same) (subst (λ (t : State). AreLoaded shape t.contents units) (sym still) loaded)
+
+pub still_kept : {shape now : Shape} (units : List UnitState) (vtocs : List (List ℕ)) → now ≡ shape → KeepVtocs shape units vtocs → KeepVtocs now units vtocs
+still_kept {shape} {now} units vtocs same kept = subst (λ (s : Shape). KeepVtocs s units vtocs) (sym same) kept
+
+pub still_vtocs : {old new : State} (units : List UnitState) (vtocs : List (List ℕ)) → new ≡ old → AreVtocsOf old.contents units vtocs → AreVtocsOf new.contents units vtocs
+still_vtocs {old} {new} units vtocs still have = subst (λ (t : State). AreVtocsOf t.contents units vtocs) (sym still) have

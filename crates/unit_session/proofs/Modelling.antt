@@ -34,7 +34,7 @@ use Rattle.unit_change.proofs.LoadedUnits.{loaded_online, refused_offline}
 use Rattle.unit_load.specs.declared.state.UnitState.{UnitState}
 use Rattle.unit_load.specs.declared.state.UnitState.TheVariants as states
 use Rattle.unit_load.specs.State.{IsStateOf}
-use Rattle.unit_session.specs.Loaded.{HaveStates, AreLoaded, IsModel, AreModels}
+use Rattle.unit_steps.specs.Loaded.{HaveStates, AreLoaded, IsModel, AreModels}
 use Rattle.unit_session.specs.Sessions.{IsFree}
 
 -- ---- one unit

@@ -1,2 +1,3 @@
-pub mod Loaded
 pub mod Sessions
+pub mod Copies
+pub mod Planned

@@ -1,5 +1,5 @@
 -- What callers see of a session, and what its calls hand on.
-use Rattle.std.specs.Prelude.{◌≡◌, ℕ, ◌<◌, List, Bool, false, Result, Ok, Err}
+use Rattle.std.specs.Prelude.{◌≡◌, ℕ, ◌<◌, List, Bool, false, Option, Result, Ok, Err}
 use Rattle.dasd_pool.specs.Disk.{Shape}
 use Rattle.dasd_pool.specs.declared.pool.Pool.{Ghosts}
 use Rattle.vol_label.specs.declared.serial.Serial.{Serial}
@@ -10,13 +10,20 @@ use Rattle.redo_core.specs.declared.fault.JournalFault.TheVariants.{Pool, NoMemo
 use Rattle.redo_core.specs.declared.journal.JournalStop.{JournalStop}
 use Rattle.redo_core.specs.Reading.{journal_of, fills_of}
 use Rattle.unit_load.specs.declared.state.UnitState.{UnitState}
+use Rattle.move_core.specs.declared.steps.Step.{Step}
 
--- the pool, how many blocks a commit may have, the registered serials, and the units as they were loaded
+-- the pool, how many blocks a commit may have, the registered serials, the units as they were loaded, and the slots of their VTOCs
 pub record SessionView (P : Type 0) : Type 0 where
   pub pool : P
   pub room : ℕ
   pub names : List Serial
   pub units : List UnitState
+  pub vtocs : List (List ℕ)
+
+-- a pool that failed, and the step that was under way
+pub record BrokenView (P : Type 0) : Type 0 where
+  pub pool : P
+  pub pending : Option Step
 
 -- nothing is under way
 pub record IsFree (shape : Shape) (control : Control) (fills : List Bool) : Type 0 where
@@ -30,6 +37,7 @@ pub record IsSameSession {P : Type 0} (pools : Ghosts P) (old new : SessionView 
   pub room : new.room ≡ old.room
   pub names : new.names ≡ old.names
   pub units : new.units ≡ old.units
+  pub vtocs : new.vtocs ≡ old.vtocs
 
 -- ---- the pool that a call hands on
 

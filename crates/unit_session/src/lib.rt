@@ -1,7 +1,16 @@
-//! Sessions: the volumes over an open journal, as they were loaded.
+//! Sessions: the volumes over an open journal, as they were loaded, and the steps that change them.
 #![tactic(auto)]
 
+mod copies;
+mod copying;
+mod fault;
 mod load;
+mod patching;
+mod planned;
+mod rendering;
 mod session;
 
+pub use copies::{Copies, TextMove};
+pub use fault::{Broken, PlanFault, PlanStop};
+pub use planned::{Copied, Planned};
 pub use session::Session;

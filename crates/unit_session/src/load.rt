@@ -3,24 +3,29 @@
 ghost use Rattle.std.specs.Prelude.{◌≡◌, ◌<◌, IfOk, IfErr};
 ghost use Rattle.redo_core.specs.Reading.{journal_of};
 ghost use Rattle.unit_change.specs.Described.{AreShort};
+ghost use Rattle.unit_load.specs.Kept.{IsKept, AreKeptOf};
 ghost use Rattle.unit_load.specs.Reads.{OnlyReads, IsUnitFault};
 ghost use Rattle.unit_load.specs.State.{IsStateOf};
-ghost use Rattle.unit_session.specs.Loaded.{AreLoaded, HaveStates};
+ghost use Rattle.unit_steps.specs.Loaded.{AreLoaded, HaveStates, KeepVtocs, AreVtocsOf};
 
+use ckd_image::Bytes;
 use dasd_pool::Pool;
 use redo_core::Journal;
 use std::alloc::Global;
-use unit_load::{UnitFault, UnitState, load_unit};
+use unit_load::{LoadedUnit, UnitFault, UnitState, load_unit};
 
 /// Reads a unit. A pool that tells what it holds tells no slot that is longer than one can be.
 fn load_one<P: Pool>(
     alloc: Global,
     journal: &mut Journal<P>,
     unit: u32,
-) -> Result<UnitState, UnitFault>
+) -> Result<LoadedUnit, UnitFault>
     requires { unit < journal_of (P.shape journal.old.pool) }
     ensures reads { OnlyReads P.Pool journal.old journal.new }
-    ensures state { P.tells → IfOk result (IsStateOf ((P.shape journal.old.pool).head unit) ((P.shape journal.old.pool).blocks unit) ((P.disk journal.old.pool).state.contents unit)) }
+    ensures state { P.tells → IfOk result (λ loaded. IsStateOf ((P.shape journal.old.pool).head unit) ((P.shape journal.old.pool).blocks unit)
+        ((P.disk journal.old.pool).state.contents unit) loaded.state) }
+    ensures slots { P.tells → IfOk result (λ loaded. AreKeptOf ((P.disk journal.old.pool).state.contents unit) loaded.state loaded.slots) }
+    ensures kept { IfOk result (λ loaded. IsKept ((P.shape journal.old.pool).head unit) ((P.shape journal.old.pool).blocks unit) loaded.state loaded.slots) }
     ensures short { P.tells → AreShort ((P.shape journal.old.pool).blocks unit) ((P.disk journal.old.pool).state.contents unit) }
     ensures fault { IfErr result (IsUnitFault (P.faults journal.old.pool) (P.faults journal.new.pool)) }
 {
@@ -28,23 +33,36 @@ fn load_one<P: Pool>(
     load_unit(alloc, journal, unit)
 }
 
+/// Units as they were loaded, and the slots of their VTOCs.
+#[derive(Drop)]
+pub(crate) struct LoadedUnits {
+    pub units: Vec<UnitState>,
+    pub vtocs: Vec<Bytes>,
+}
+
 /// Reads all units, each once.
 pub(crate) fn load_units<P: Pool>(
     alloc: Global,
     journal: &mut Journal<P>,
-) -> Result<Vec<UnitState>, UnitFault>
+) -> Result<LoadedUnits, UnitFault>
     ensures reads { OnlyReads P.Pool journal.old journal.new }
-    ensures count { IfOk result (λ units. HaveStates (P.shape journal.old.pool) units.items) }
-    ensures loaded { P.tells → IfOk result (λ units. AreLoaded (P.shape journal.old.pool) (P.disk journal.old.pool).state.contents units.items) }
+    ensures count { IfOk result (λ loaded. HaveStates (P.shape journal.old.pool) loaded.units.items) }
+    ensures kept { IfOk result (λ loaded. KeepVtocs (P.shape journal.old.pool) loaded.units.items loaded.vtocs.items) }
+    ensures loaded { P.tells → IfOk result (λ loaded. AreLoaded (P.shape journal.old.pool) (P.disk journal.old.pool).state.contents loaded.units.items) }
+    ensures slots { P.tells → IfOk result (λ loaded. AreVtocsOf (P.disk journal.old.pool).state.contents loaded.units.items loaded.vtocs.items) }
     ensures fault { IfErr result (IsUnitFault (P.faults journal.old.pool) (P.faults journal.new.pool)) }
 {
     let count = journal.units();
     let mut units = Vec::new(alloc);
+    let mut vtocs = Vec::new(alloc);
     for unit in 0..count {
-        let state = load_one(alloc, journal, unit)?;
+        let LoadedUnit { state, slots } = load_one(alloc, journal, unit)?;
         let Ok(()) = units.push(state) else {
             return Err(UnitFault::NoMemory);
         };
+        let Ok(()) = vtocs.push(slots) else {
+            return Err(UnitFault::NoMemory);
+        };
     }
-    Ok(units)
+    Ok(LoadedUnits { units, vtocs })
 }

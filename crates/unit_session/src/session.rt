@@ -1,6 +1,6 @@
 //! Volumes over an open journal.
 
-ghost use Rattle.std.specs.Prelude.{◌≡◌, ◌≤◌, ◌<◌, [], None, Some, List, length, slice_get, IfOk, IfErr, OnOk, IsErr};
+ghost use Rattle.std.specs.Prelude.{◌≡◌, ◌≤◌, ◌<◌, ℕ, [], None, Some, List, length, slice_get, IfOk, IfErr, OnOk, IsErr};
 ghost use Rattle.ckd_image.specs.Head.{IsHead, IsHeadFault};
 ghost use Rattle.dasd_pool.specs.Calls.{size_in};
 ghost use Rattle.dasd_pool.specs.Count.{Rose};
@@ -12,12 +12,13 @@ ghost use Rattle.volume_model.specs.Unit.{UnitModel};
 ghost use Rattle.move_core.specs.Facts.{Facts, shown};
 ghost use Rattle.move_core.specs.Runs.{IsRun};
 ghost use Rattle.move_core.specs.Stands.{IsSettled};
+ghost use Rattle.unit_load.specs.Kept.{IsKept};
 ghost use Rattle.unit_load.specs.Reads.{OnlyReads};
-ghost use Rattle.unit_session.specs.Loaded.{AreLoaded, HaveStates, AreModels, IsModel};
+ghost use Rattle.unit_steps.specs.Loaded.{AreLoaded, HaveStates, KeepVtocs, AreVtocsOf, AreModels, IsModel};
 ghost use Rattle.unit_session.specs.Sessions.{begun, HasBegun, IsRefusal, IsSameSession};
 
-use crate::load::load_units;
-use ckd_image::{CkdFault, Head};
+use crate::load::{LoadedUnits, load_units};
+use ckd_image::{Bytes, CkdFault, Head};
 use dasd_pool::{Pool, PoolFault};
 use redo_core::{Journal, JournalFault, JournalStop};
 use std::alloc::{AllocError, Global};
@@ -25,28 +26,33 @@ use std::marker::Model;
 use unit_load::{UnitFault, UnitState};
 use vol_label::Serial;
 
-/// The volumes of a pool between two steps: its open journal, in which nothing is under way, the registered serials, and each unit as it was loaded.
+/// The volumes of a pool between two steps: its open journal, in which nothing is under way, the registered serials, and each unit as it was loaded, with
+/// the slots of its VTOC.
 #[derive(Drop)]
 pub struct Session<P: Pool> {
-    journal: Journal<P>,
-    names: Vec<Serial>,
-    units: Vec<UnitState>,
+    pub(crate) alloc: Global,
+    pub(crate) journal: Journal<P>,
+    pub(crate) names: Vec<Serial>,
+    pub(crate) units: Vec<UnitState>,
+    pub(crate) vtocs: Vec<Bytes>,
 }
 
 impl<P: Pool> Model for Session<P> {
     ghost use Rattle.std.specs.Prelude.{◌≡◌, length};
     ghost use Rattle.redo_core.specs.Reading.{journal_of};
-    ghost use Rattle.unit_session.specs.Loaded.{AreLoaded, HaveStates};
+    ghost use Rattle.unit_steps.specs.Loaded.{AreLoaded, HaveStates, KeepVtocs, AreVtocsOf};
     ghost use Rattle.unit_session.specs.Sessions.{SessionView, IsFree};
 
     ghost Value = { SessionView P };
 
-    ghost view = { λ s. record { pool = s.journal.pool; room = s.journal.room; names = s.names.items; units = s.units.items } };
+    ghost view = { λ s. record { pool = s.journal.pool; room = s.journal.room; names = s.names.items; units = s.units.items; vtocs = s.vtocs.items } };
 
     ghost invariant = { λ s. IsFree (P.shape s.journal.pool) s.journal.control s.journal.fills
         × (length s.names.items ≡ journal_of (P.shape s.journal.pool))
         × HaveStates (P.shape s.journal.pool) s.units.items
-        × (P.tells → AreLoaded (P.shape s.journal.pool) (P.disk s.journal.pool).state.contents s.units.items) };
+        × KeepVtocs (P.shape s.journal.pool) s.units.items s.vtocs.items
+        × (P.tells → AreLoaded (P.shape s.journal.pool) (P.disk s.journal.pool).state.contents s.units.items)
+        × (P.tells → AreVtocsOf (P.disk s.journal.pool).state.contents s.units.items s.vtocs.items) };
 }
 
 /// Copies of serials.
@@ -75,11 +81,13 @@ fn loaded<P: Pool>(
     alloc: Global,
     journal: &mut Journal<P>,
     names: &[Serial],
-) -> Result<(Vec<Serial>, Vec<UnitState>), JournalFault>
+) -> Result<(Vec<Serial>, LoadedUnits), JournalFault>
     ensures reads { OnlyReads P.Pool journal.old journal.new }
     ensures names { IfOk result (λ found. found.0.items ≡ names.now) }
-    ensures count { IfOk result (λ found. HaveStates (P.shape journal.old.pool) found.1.items) }
-    ensures loaded { P.tells → IfOk result (λ found. AreLoaded (P.shape journal.old.pool) (P.disk journal.old.pool).state.contents found.1.items) }
+    ensures count { IfOk result (λ found. HaveStates (P.shape journal.old.pool) found.1.units.items) }
+    ensures kept { IfOk result (λ found. KeepVtocs (P.shape journal.old.pool) found.1.units.items found.1.vtocs.items) }
+    ensures loaded { P.tells → IfOk result (λ found. AreLoaded (P.shape journal.old.pool) (P.disk journal.old.pool).state.contents found.1.units.items) }
+    ensures slots { P.tells → IfOk result (λ found. AreVtocsOf (P.disk journal.old.pool).state.contents found.1.units.items found.1.vtocs.items) }
     ensures cause { IfErr result (λ cause. cause ≡ JournalFault.Pool → Rose (P.faults journal.old.pool) (P.faults journal.new.pool)) }
     ensures no_refusal { IfErr result (λ cause. ¬ IsRefusal cause) }
 {
@@ -116,10 +124,12 @@ impl<P: Pool> Session<P> {
             Err(stop) => return Err(stop),
         };
         match loaded(alloc, &mut journal, names) {
-            Ok((names, units)) => Ok(Session {
+            Ok((names, found)) => Ok(Session {
+                alloc,
                 journal,
                 names,
-                units,
+                units: found.units,
+                vtocs: found.vtocs,
             }),
             Err(cause) => Err(JournalStop {
                 pool: journal.into_pool(),
@@ -183,6 +193,7 @@ impl<P: Pool> Session<P> {
     pub fn unit(&self, unit: u32) -> &UnitState
         requires { unit < journal_of (P.shape self.now.pool) }
         ensures value { slice_get self.now.units unit ≡ Some result.now }
+        ensures kept { (slots : List ℕ) × IsKept ((P.shape self.now.pool).head unit) ((P.shape self.now.pool).blocks unit) result.now slots }
         ensures model { P.tells → (facts : Facts) (models : List UnitModel) (model : UnitModel) → facts.shape ≡ P.shape self.now.pool
             → IsSettled facts (P.disk self.now.pool).state models → slice_get models unit ≡ Some model → IsModel result.now model }
     {

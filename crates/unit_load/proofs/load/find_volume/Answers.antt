@@ -16,9 +16,9 @@ returns-clause-volume g c = λ told.
     let slots : Slots = (g.P.Pool.disk c.args.journal.now.pool).state.contents c.args.unit in
     let same : (g.P.Pool.disk c.label_of.new.journal.pool).state.contents c.args.unit ≡ slots = ap (λ (s : State). s.contents c.args.unit) (c.label_of.ensures.reads.same told) in
     IfOk-weaker c.volume_of.result _ _
-    (λ volume loaded.
-    online_state _ _ slots c.in_ok-head.head c.in_ok-label.label volume c.in_ok-head.ensures.head (c.in_ok-label.ensures.label told)
-    (subst (λ (slots : Slots). IsLoadedVtoc c.in_ok-head.head c.in_ok-label.label slots false volume) same loaded))
+    (λ found loaded.
+    online_state _ _ slots c.in_ok-head.head c.in_ok-label.label found.0 c.in_ok-head.ensures.head (c.in_ok-label.ensures.label told)
+    (subst (λ (slots : Slots). IsLoadedVtoc c.in_ok-head.head c.in_ok-label.label slots false found.0) same loaded))
     (c.volume_of.ensures.volume told)
 
 pub returns-clause-stop : goal.returns-clause-stop

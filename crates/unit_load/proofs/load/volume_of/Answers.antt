@@ -1,13 +1,15 @@
-use Rattle.std.proofs.Common.{◌≡◌, ℕ, ◌+◌, ◌*◌, ◌<◌, ◌≤◌, List, length, sym, ap, ◌∙◌, refl, subst}
-use Rattle.std.proofs.lemmas.Result.{err_from_is_err_and, IfOk-weaker, IfErr-weaker}
+use Rattle.std.proofs.Common.{◌≡◌, ℕ, false, ◌*◌, List, length, sym, ap, ◌∙◌, refl, subst}
+use Rattle.std.proofs.lemmas.Result.{err_from_is_err_and}
 use Rattle.ckd_image.specs.Device.{heads_of, slot_of}
 use Rattle.dasd_pool.specs.Disk.{Shape, State}
 use Rattle.volume_model.specs.Sound.{Slots}
 use Rattle.volume_model.specs.Space.{track_at}
 use Rattle.vtoc_check.specs.Front.{IsVtocRun}
-use Rattle.vtoc_check.specs.Slots.{slot_in, AreSlotsOf}
+use Rattle.vtoc_check.specs.Slots.{AreSlotsOf}
+use Rattle.vtoc_load.specs.LoadedVtoc.{IsLoadedVtoc}
+use Rattle.unit_load.proofs.Keeping.{read_slots, run_stands, slots_of_vtoc, from_slots}
 use Rattle.unit_load.proofs.Reading.{reads_then}
-use Rattle.unit_load.proofs.Runs.{track_is, said_slot, run_blocks, run_holds}
+use Rattle.unit_load.proofs.Runs.{track_is, said_slot, run_blocks}
 use Rattle.unit_load.proofs.load.volume_of.Goals as goal
 
 pub returns-in_err-run-clause-stop : goal.returns-in_err-run-clause-stop
@@ -40,28 +42,37 @@ volume_in-requires-clause-whole g c =
 pub volume_in-requires-clause-run : goal.volume_in-requires-clause-run
 volume_in-requires-clause-run g c =
     let unit = c.args.unit in
-    let pointer = c.args.label.now.vtoc in
     let run = c.in_ok-run.run' in
-    let first : IsVtocRun c.args.head (λ _. c.deref.result.now) pointer run = c.in_ok-run.ensures.run (λ _. c.deref.result.now) refl in
     let size : (g.P.Pool.shape c.args.journal.now.pool).block_size unit ≡ slot_of c.args.head.device =
     sym c.in_ok-slot.ensures.long ∙ (c.in_ok-slot.ensures.said ∙ said_slot ((g.P.Pool.shape c.args.journal.now.pool).head c.args.unit) c.args.head.device c.requires.head.stands.slot) in
     let later : (g.P.Pool.shape c.read_slot.new.journal.pool).block_size unit ≡ slot_of c.args.head.device = ap (λ (s : Shape). s.block_size unit) c.read_slot.ensures.reads.shape ∙ size in
-    let track : track_at (heads_of c.args.head.device) pointer.at ≡ c.track_number-track.result = sym (c.track_number-track.ensures ∙ track_is c.args.head.device pointer.at) in
-    let hand : slot_in run ((g.P.Pool.shape c.read_slot.new.journal.pool).block_size unit) c.in_ok-slots.slots.items c.track_number-track.result ≡ c.deref-2.result.now =
-    c.in_ok-slots.ensures.at_hand (subst (λ (n : ℕ). (run.first ≤ n) × (n < run.first + run.len)) track (run_holds c.args.head (λ _. c.deref.result.now) pointer run first)) in
-    let here : slot_in run (slot_of c.args.head.device) c.deref-3.result.now (track_at (heads_of c.args.head.device) pointer.at) ≡ c.deref.result.now =
-    ap (slot_in run (slot_of c.args.head.device) c.deref-3.result.now) track
-    ∙ (ap (λ (l : List ℕ). slot_in run (slot_of c.args.head.device) l c.track_number-track.result) c.deref-3.ensures.value
-    ∙ (ap (λ (n : ℕ). slot_in run n c.in_ok-slots.slots.items c.track_number-track.result) (sym later) ∙ (hand ∙ (c.deref-2.ensures.value ∙ sym c.deref.ensures.value)))) in
-    c.in_ok-run.ensures.run (slot_in run (slot_of c.args.head.device) c.deref-3.result.now) here
+    let track : track_at (heads_of c.args.head.device) c.args.label.now.vtoc.at ≡ c.track_number-track.result = sym (c.track_number-track.ensures ∙ track_is c.args.head.device c.args.label.now.vtoc.at) in
+    run_stands c.args.head c.args.label.now.vtoc run _ c.track_number-track.result c.in_ok-slots.slots.items c.deref-3.result.now c.deref.result.now c.deref-2.result.now
+    c.in_ok-run.ensures.run track later c.deref-3.ensures.value (c.deref-2.ensures.value ∙ sym c.deref.ensures.value) c.in_ok-slots.ensures.at_hand
 
 pub returns-clause-reads : goal.returns-clause-reads
 returns-clause-reads g c = reads_then g.P.Pool _ _ _ c.read_slot.ensures.reads c.read_run.ensures.reads
 
+pub returns-in_err-volume-clause-stop : goal.returns-in_err-volume-clause-stop
+returns-in_err-volume-clause-stop g c = λ told.
+    let unit = c.args.unit in
+    let run = c.in_ok-run.run' in
+    let contents : Slots = (g.P.Pool.disk c.args.journal.now.pool).state.contents unit in
+    let now : Slots = (g.P.Pool.disk c.read_slot.new.journal.pool).state.contents unit in
+    let same : now ≡ contents = ap (λ (s : State). s.contents unit) (c.read_slot.ensures.reads.same told) in
+    let hand : c.deref-2.result.now ≡ now c.track_number-track.result =
+    c.deref-2.ensures.value ∙ (c.in_ok-slot.ensures.slot told ∙ ap (λ (slots : Slots). slots c.track_number-track.result) (sym same)) in
+    let size : (g.P.Pool.shape c.args.journal.now.pool).block_size unit ≡ slot_of c.args.head.device =
+    sym c.in_ok-slot.ensures.long ∙ (c.in_ok-slot.ensures.said ∙ said_slot ((g.P.Pool.shape c.args.journal.now.pool).head c.args.unit) c.args.head.device c.requires.head.stands.slot) in
+    let later : (g.P.Pool.shape c.read_slot.new.journal.pool).block_size unit ≡ slot_of c.args.head.device = ap (λ (s : Shape). s.block_size unit) c.read_slot.ensures.reads.shape ∙ size in
+    let are : AreSlotsOf run (slot_of c.args.head.device) c.deref-3.result.now contents =
+    read_slots run _ (slot_of c.args.head.device) c.in_ok-slots.slots.items c.deref-3.result.now now contents later c.deref-3.ensures.value same (c.in_ok-slots.ensures.slots told hand) in
+    let p = err_from_is_err_and c.from_residual-in_err-volume.result c.from_residual-in_err-volume.ensures.1 in
+    rw (p.1, p.2) (c.in_err-volume.ensures.stop contents are)
+
 pub returns-clause-volume : goal.returns-clause-volume
 returns-clause-volume g c = λ told.
     let unit = c.args.unit in
-    let run = c.in_ok-run.run' in
     let contents : Slots = (g.P.Pool.disk c.args.journal.now.pool).state.contents unit in
     let now : Slots = (g.P.Pool.disk c.read_slot.new.journal.pool).state.contents unit in
     let same : now ≡ contents = ap (λ (s : State). s.contents unit) (c.read_slot.ensures.reads.same told) in
@@ -70,30 +81,41 @@ returns-clause-volume g c = λ told.
     let size : (g.P.Pool.shape c.args.journal.now.pool).block_size unit ≡ slot_of c.args.head.device =
     sym c.in_ok-slot.ensures.long ∙ (c.in_ok-slot.ensures.said ∙ said_slot ((g.P.Pool.shape c.args.journal.now.pool).head c.args.unit) c.args.head.device c.requires.head.stands.slot) in
     let later : (g.P.Pool.shape c.read_slot.new.journal.pool).block_size unit ≡ slot_of c.args.head.device = ap (λ (s : Shape). s.block_size unit) c.read_slot.ensures.reads.shape ∙ size in
-    let read : AreSlotsOf run ((g.P.Pool.shape c.read_slot.new.journal.pool).block_size unit) c.in_ok-slots.slots.items now = c.in_ok-slots.ensures.slots told hand in
-    let are : AreSlotsOf run (slot_of c.args.head.device) c.deref-3.result.now contents = λ k less.
-    ap (λ (slots : Slots). slots (run.first + k)) (sym same)
-    ∙ (read k less
-    ∙ (ap (λ (n : ℕ). slot_in run n c.in_ok-slots.slots.items (run.first + k)) later
-    ∙ ap (λ (l : List ℕ). slot_in run (slot_of c.args.head.device) l (run.first + k)) (sym c.deref-3.ensures.value))) in
-    IfOk-weaker c.volume_in.result _ _ (λ volume loaded. loaded contents are) c.volume_in.ensures.loaded
+    c.in_ok-volume.ensures.loaded contents
+    (read_slots c.in_ok-run.run' _ (slot_of c.args.head.device) c.in_ok-slots.slots.items c.deref-3.result.now now contents later c.deref-3.ensures.value same (c.in_ok-slots.ensures.slots told hand))
 
-pub returns-clause-stop : goal.returns-clause-stop
-returns-clause-stop g c = λ told.
+pub returns-clause-slots : goal.returns-clause-slots
+returns-clause-slots g c = λ told.
     let unit = c.args.unit in
     let run = c.in_ok-run.run' in
+    let size : (g.P.Pool.shape c.args.journal.now.pool).block_size unit ≡ slot_of c.args.head.device =
+    sym c.in_ok-slot.ensures.long ∙ (c.in_ok-slot.ensures.said ∙ said_slot ((g.P.Pool.shape c.args.journal.now.pool).head c.args.unit) c.args.head.device c.requires.head.stands.slot) in
+    let later : (g.P.Pool.shape c.read_slot.new.journal.pool).block_size unit ≡ slot_of c.args.head.device = ap (λ (s : Shape). s.block_size unit) c.read_slot.ensures.reads.shape ∙ size in
+    let track : track_at (heads_of c.args.head.device) c.args.label.now.vtoc.at ≡ c.track_number-track.result = sym (c.track_number-track.ensures ∙ track_is c.args.head.device c.args.label.now.vtoc.at) in
     let contents : Slots = (g.P.Pool.disk c.args.journal.now.pool).state.contents unit in
     let now : Slots = (g.P.Pool.disk c.read_slot.new.journal.pool).state.contents unit in
     let same : now ≡ contents = ap (λ (s : State). s.contents unit) (c.read_slot.ensures.reads.same told) in
     let hand : c.deref-2.result.now ≡ now c.track_number-track.result =
     c.deref-2.ensures.value ∙ (c.in_ok-slot.ensures.slot told ∙ ap (λ (slots : Slots). slots c.track_number-track.result) (sym same)) in
+    slots_of_vtoc _ _ c.args.head c.args.label.now run c.in_ok-slots.slots.items c.in_ok-volume.volume c.requires.head c.requires.inside
+    (run_stands c.args.head c.args.label.now.vtoc run _ c.track_number-track.result c.in_ok-slots.slots.items c.in_ok-slots.slots.items c.deref.result.now c.deref-2.result.now
+    c.in_ok-run.ensures.run track later refl (c.deref-2.ensures.value ∙ sym c.deref.ensures.value) c.in_ok-slots.ensures.at_hand)
+    (subst (λ (l : List ℕ). (unit : Slots) → AreSlotsOf run (slot_of c.args.head.device) l unit → IsLoadedVtoc c.args.head c.args.label.now unit false c.in_ok-volume.volume)
+    c.deref-3.ensures.value c.in_ok-volume.ensures.loaded)
+    contents
+    (read_slots c.in_ok-run.run' _ (slot_of c.args.head.device) c.in_ok-slots.slots.items c.in_ok-slots.slots.items now contents later refl same (c.in_ok-slots.ensures.slots told hand))
+
+pub returns-clause-kept : goal.returns-clause-kept
+returns-clause-kept g c =
+    let unit = c.args.unit in
+    let run = c.in_ok-run.run' in
     let size : (g.P.Pool.shape c.args.journal.now.pool).block_size unit ≡ slot_of c.args.head.device =
     sym c.in_ok-slot.ensures.long ∙ (c.in_ok-slot.ensures.said ∙ said_slot ((g.P.Pool.shape c.args.journal.now.pool).head c.args.unit) c.args.head.device c.requires.head.stands.slot) in
     let later : (g.P.Pool.shape c.read_slot.new.journal.pool).block_size unit ≡ slot_of c.args.head.device = ap (λ (s : Shape). s.block_size unit) c.read_slot.ensures.reads.shape ∙ size in
-    let read : AreSlotsOf run ((g.P.Pool.shape c.read_slot.new.journal.pool).block_size unit) c.in_ok-slots.slots.items now = c.in_ok-slots.ensures.slots told hand in
-    let are : AreSlotsOf run (slot_of c.args.head.device) c.deref-3.result.now contents = λ k less.
-    ap (λ (slots : Slots). slots (run.first + k)) (sym same)
-    ∙ (read k less
-    ∙ (ap (λ (n : ℕ). slot_in run n c.in_ok-slots.slots.items (run.first + k)) later
-    ∙ ap (λ (l : List ℕ). slot_in run (slot_of c.args.head.device) l (run.first + k)) (sym c.deref-3.ensures.value))) in
-    IfErr-weaker c.volume_in.result _ _ (λ stop stopped. stopped contents are) c.volume_in.ensures.stop
+    let track : track_at (heads_of c.args.head.device) c.args.label.now.vtoc.at ≡ c.track_number-track.result = sym (c.track_number-track.ensures ∙ track_is c.args.head.device c.args.label.now.vtoc.at) in
+    from_slots _ _ c.args.head c.args.label.now run c.in_ok-slots.slots.items c.in_ok-volume.volume c.requires.head c.requires.inside
+    (run_stands c.args.head c.args.label.now.vtoc run _ c.track_number-track.result c.in_ok-slots.slots.items c.in_ok-slots.slots.items c.deref.result.now c.deref-2.result.now
+    c.in_ok-run.ensures.run track later refl (c.deref-2.ensures.value ∙ sym c.deref.ensures.value) c.in_ok-slots.ensures.at_hand)
+    (subst (λ (l : List ℕ). (unit : Slots) → AreSlotsOf run (slot_of c.args.head.device) l unit → IsLoadedVtoc c.args.head c.args.label.now unit false c.in_ok-volume.volume)
+    c.deref-3.ensures.value c.in_ok-volume.ensures.loaded)
+    (c.in_ok-slots.ensures.long ∙ ap (λ (n : ℕ). run.len * n) later)

@@ -6,7 +6,7 @@ use Rattle.redo_core.specs.Reading.{journal_of}
 use Rattle.move_core.proofs.Running.{rose_since, run_less, run_opened, run_refused, run_still, run_then}
 use Rattle.unit_session.specs.Sessions.{IsFree}
 use Rattle.unit_session.proofs.Beginning.{pool_cause, opened_reads}
-use Rattle.unit_session.proofs.Loading.{still_free, still_rest, still_loaded}
+use Rattle.unit_session.proofs.Loading.{still_free, still_rest, still_loaded, still_kept, still_vtocs}
 use Rattle.unit_session.proofs.Modelling.{models_at}
 use Rattle.unit_session.proofs.session.Session.begin.Goals as goal
 
@@ -27,7 +27,9 @@ invariant_of-result g c =
       still_free (reads.shape ∙ does.shape) reads.status.control reads.status.fills free,
       ap (λ (l : List Serial). length l) found.names ∙ c.requires.each ∙ ap (λ (s : Shape). journal_of s) (sym does.shape) ∙ volumes,
       found.count ∙ volumes,
-      λ told. still_loaded c.in-Ok-loaded.units.items reads.shape (reads.same told) (found.loaded told),
+      still_kept c.in-Ok-loaded.found.units.items c.in-Ok-loaded.found.vtocs.items reads.shape found.kept,
+      λ told. still_loaded c.in-Ok-loaded.found.units.items reads.shape (reads.same told) (found.loaded told),
+      λ told. still_vtocs c.in-Ok-loaded.found.units.items c.in-Ok-loaded.found.vtocs.items (reads.same told) (found.slots told),
     )
 
 pub returns-in-Ok-loaded-clause-run : goal.returns-in-Ok-loaded-clause-run
@@ -41,7 +43,7 @@ returns-in-Ok-loaded-clause-units g c told facts models same settled =
     let does = c.in-Ok.ensures in
     let reads = c.loaded.ensures.reads in
     let found = c.in-Ok-loaded.ensures in
-    let units = c.in-Ok-loaded.units.items in
+    let units = c.in-Ok-loaded.found.units.items in
     let free : IsFree (g.P.Pool.shape c.args.pool) c.in-Ok.journal.control c.in-Ok.journal.fills = record { idle = does.idle.0; closed = does.idle.1 } in
     models_at same settled units
     (still_rest reads.shape (reads.same told) (still_rest does.shape refl (does.rest told)))

@@ -6,6 +6,7 @@ use Rattle.volume_model.specs.Unit.{OnlineVolume, UnitModel, online, offline}
 use Rattle.unit_change.specs.Described.{AreShort, Describes}
 use Rattle.unit_load.specs.declared.state.UnitState.{UnitState}
 use Rattle.unit_load.specs.declared.state.UnitState.TheVariants as states
+use Rattle.unit_load.specs.Kept.{IsKept, AreKeptOf}
 use Rattle.unit_load.specs.State.{IsStateOf}
 
 -- each unit but the journal's has a state
@@ -16,6 +17,17 @@ HaveStates shape units = length units ≡ journal_of shape
 abbrev pub AreLoaded : Shape → Image → List UnitState → Type 0
 AreLoaded shape contents units =
     (u : ℕ) (state : UnitState) → slice_get units u ≡ Some state → IsStateOf (shape.head u) (shape.blocks u) (contents u) state × AreShort (shape.blocks u) (contents u)
+
+-- beside each state the slots of its VTOC are kept
+pub record KeepVtocs (shape : Shape) (units : List UnitState) (vtocs : List (List ℕ)) : Type 0 where
+  pub count : length vtocs ≡ journal_of shape
+  pub each : (u : ℕ) (state : UnitState) (slots : List ℕ) → slice_get units u ≡ Some state → slice_get vtocs u ≡ Some slots
+      → IsKept (shape.head u) (shape.blocks u) state slots
+
+-- they are those that the volumes have
+abbrev pub AreVtocsOf : Image → List UnitState → List (List ℕ) → Type 0
+AreVtocsOf contents units vtocs =
+    (u : ℕ) (state : UnitState) (slots : List ℕ) → slice_get units u ≡ Some state → slice_get vtocs u ≡ Some slots → AreKeptOf (contents u) state slots
 
 -- what is loaded describes a unit: the volume on it, or why it is offline
 abbrev pub IsModel : UnitState → UnitModel → Type 0

@@ -1,7 +1,7 @@
 use Rattle.std.proofs.Common.{◌≡◌, ℕ, get_or, refl, sym, ap, ◌∙◌, arith}
 use Rattle.std.proofs.lemmas.Bool.{false≢true, not_from_true}
 use Rattle.std.proofs.lemmas.List.{get_or_default}
-use Rattle.rows_session.proofs.tests.are_names.Goals as goal
+use Rattle.rows_session.proofs.ground.are_names.Goals as goal
 
 pub returns : goal.returns
 returns g c = λ so.

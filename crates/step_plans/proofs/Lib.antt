@@ -1,0 +1,5 @@
+mod LoadedRows
+mod Fields
+mod Fronts
+mod Cuts
+mod Swaps

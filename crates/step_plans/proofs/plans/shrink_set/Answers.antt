@@ -1,0 +1,39 @@
+use Rattle.std.proofs.Common.{inl, inr, List, length, sym, ap, subst, ◌∙◌, refl, arith}
+use Rattle.dscb_rec.specs.declared.field.Extent.{Extent}
+use Rattle.volume_model.specs.Unit.{tracks_of}
+use Rattle.move_core.specs.Steps.{cut}
+use Rattle.step_plans.specs.Plans.{AreRuns, extents_from}
+use Rattle.step_plans.proofs.LoadedRows.{sound_runs}
+use Rattle.step_plans.proofs.Swaps.{shrink_plan}
+use Rattle.step_plans.proofs.plans.shrink_set.Goals.{then-extents-gt-MOST_EXTENTS-via-then-extents-gt-MOST_EXTENTS, then-extents-gt-MOST_EXTENTS-via-else-extents-gt-MOST_EXTENTS+then-count_tracks-from}
+use Rattle.step_plans.proofs.plans.shrink_set.Goals as goal
+
+pub count_tracks-requires-clause-runs : goal.count_tracks-requires-clause-runs
+count_tracks-requires-clause-runs c =
+    subst (AreRuns c.args.volume.now.device) (sym c.as_slice-extents.ensures) (sound_runs c.args.volume.now c.requires.sound c.in-Some.row.now c.in-Some.ensures.found.there)
+
+pub returns-then-extents-gt-MOST_EXTENTS-clause-none : goal.returns-then-extents-gt-MOST_EXTENTS-clause-none
+returns-then-extents-gt-MOST_EXTENTS-clause-none c = elim c.then-extents-gt-MOST_EXTENTS.branch [
+  | then-extents-gt-MOST_EXTENTS-via-then-extents-gt-MOST_EXTENTS w ↦
+      inr (inl (c.in-Some.row.now, c.in-Some.ensures.found, omega (arith, ap length c.as_slice-extents.ensures, w.if-extents-gt-MOST_EXTENTS.true)))
+  | then-extents-gt-MOST_EXTENTS-via-else-extents-gt-MOST_EXTENTS+then-count_tracks-from w ↦
+      inr (inr (
+        c.in-Some.row.now,
+        c.in-Some.ensures.found,
+        omega (arith, ap (λ (extents : List Extent). length (tracks_of (extents_from c.args.volume.now.device extents))) c.as_slice-extents.ensures, w.count_tracks.ensures, w.from.ensures, w.if-count_tracks-from.true),
+      ))
+]
+
+pub cut_extents-requires : goal.cut_extents-requires
+cut_extents-requires c = record {
+  runs = subst (AreRuns c.args.volume.now.device) (sym c.as_slice-extents.ensures) (sound_runs c.args.volume.now c.requires.sound c.in-Some.row.now c.in-Some.ensures.found.there);
+}
+
+pub returns-clause-plan : goal.returns-clause-plan
+returns-clause-plan c =
+    shrink_plan c.args.volume.now c.args.unit c.args.name c.args.keep c.in-Some.row.now _ c.in_ok-plan_of.field-0 c.requires.sound c.in-Some.ensures.found
+    (omega (arith, ap length c.as_slice-extents.ensures, c.if-extents-gt-MOST_EXTENTS.false))
+    (omega (arith, ap (λ (extents : List Extent). length (tracks_of (extents_from c.args.volume.now.device extents))) c.as_slice-extents.ensures, c.count_tracks.ensures, c.from.ensures, c.if-count_tracks-from.false))
+    refl refl
+    (c.in_ok-cut_extents.ensures.cut ∙ ap (λ (extents : List Extent). cut c.args.keep (extents_from c.args.volume.now.device extents)) c.as_slice-extents.ensures)
+    c.in_ok-cut_extents.ensures.runs c.in_ok-plan_of.ensures.step c.in_ok-plan_of.ensures.tracks c.in_ok-plan_of.ensures.changes

@@ -1,0 +1,85 @@
+//! The front of a data set's extents.
+
+ghost use Rattle.std.specs.Prelude.{◌≡◌, ◌+◌, ◌*◌, ◌<◌, ◌≤◌, [], ◌∷◌, length, IfOk};
+ghost use Rattle.ckd_image.specs.Device.{heads_of};
+ghost use Rattle.volume_model.specs.Space.{run_of};
+ghost use Rattle.volume_model.specs.Unit.{tracks_of};
+ghost use Rattle.vtoc_core.specs.Loaded.{field_of};
+ghost use Rattle.move_core.specs.Steps.{cut};
+ghost use Rattle.step_plans.specs.Plans.{AreRuns, extents_from};
+
+use ckd_image::{Device, Listed, NoMemory, TrackAt};
+use dscb_rec::Extent;
+use std::alloc::Global;
+use vtoc_core::Extents;
+
+fn track_of(device: Device, at: TrackAt) -> u32
+    ensures { result ≡ at.cylinder * heads_of device + at.head }
+{
+    u32::from(at.cylinder) * device.heads() + u32::from(at.head)
+}
+
+/// How many tracks an extent has.
+fn tracks_in(device: Device, extent: &Extent) -> u32
+    requires { AreRuns device (extent.now ∷ []) }
+    ensures { result ≡ (run_of (heads_of device) (field_of extent.now)).len }
+{
+    track_of(device, extent.last) + 1 - track_of(device, extent.first)
+}
+
+/// How many tracks extents have.
+pub(crate) fn count_tracks(device: Device, extents: &[Extent]) -> u64
+    requires few { length extents.now ≤ 16 }
+    requires runs { AreRuns device extents.now }
+    ensures { result ≡ length (tracks_of (extents_from device extents.now)) }
+{
+    let mut count = 0;
+    for extent in extents {
+        count += u64::from(tracks_in(device, extent));
+    }
+    count
+}
+
+/// The first tracks of an extent, fewer than it has.
+fn front_of(device: Device, extent: &Extent, keep: u32) -> Extent
+    requires some { 0 < keep }
+    requires fewer { keep < (run_of (heads_of device) (field_of extent.now)).len }
+    requires runs { AreRuns device (extent.now ∷ []) }
+    ensures cut { extents_from device (result ∷ []) ≡ cut keep (extents_from device (extent.now ∷ [])) }
+    ensures run { AreRuns device (result ∷ []) }
+{
+    let last = track_of(device, extent.first) + keep - 1;
+    Extent {
+        last: TrackAt::of(last, device.heads()),
+        ..*extent
+    }
+}
+
+/// So many tracks from the front of extents.
+pub(crate) fn cut_extents(
+    alloc: Global,
+    device: Device,
+    extents: &[Extent],
+    keep: u32,
+) -> Result<Extents, NoMemory>
+    requires runs { AreRuns device extents.now }
+    ensures cut { IfOk result (λ kept. extents_from device kept ≡ cut keep (extents_from device extents.now)) }
+    ensures runs { IfOk result (AreRuns device) }
+{
+    let mut kept = Vec::new(alloc);
+    let mut left = keep;
+    for extent in extents {
+        let count = tracks_in(device, extent);
+        if left == 0 {
+            break;
+        }
+        if count <= left {
+            kept.push(*extent)?;
+            left -= count;
+        } else {
+            kept.push(front_of(device, extent, left))?;
+            left = 0;
+        }
+    }
+    Ok(Listed::from_vec(kept))
+}

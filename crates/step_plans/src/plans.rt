@@ -1,0 +1,115 @@
+//! Plans of steps.
+
+ghost use Rattle.std.specs.Prelude.{◌≡◌, ◌⊎◌, [], ◌∷◌, IfOk, IfSome, IfNone};
+ghost use Rattle.dsn_filter.specs.Dsn.{IsDsn};
+ghost use Rattle.move_core.specs.declared.steps.Step.TheVariants as steps;
+ghost use Rattle.unit_steps.specs.declared.plan.Tracks.TheVariants as texts;
+ghost use Rattle.step_plans.specs.Plans.{IsSound, IsPlanFor, HasNone, HasManyExtents, HasFewTracks};
+
+use crate::extents::{count_tracks, cut_extents};
+use crate::rows::{reset_row, row_of};
+use ckd_image::{Listed, NoMemory};
+use dsn_filter::Dsn;
+use move_core::Step;
+use std::alloc::Global;
+use unit_steps::{Plan, Tracks};
+use volume_change::Change;
+use vtoc_core::{Row, Volume};
+
+/// The most extents that a data set has once it is put.
+const MOST_EXTENTS: usize = 16;
+
+/// A step that copies no track, and its one change.
+fn plan_of(alloc: Global, step: Step, unit: u32, change: Change) -> Result<Plan, NoMemory>
+    ensures step { IfOk result (λ plan. plan.step ≡ step) }
+    ensures tracks { IfOk result (λ plan. plan.tracks ≡ texts.None) }
+    ensures changes { IfOk result (λ plan. plan.changes ≡ (unit, change) ∷ []) }
+{
+    let mut changes = Vec::new(alloc);
+    changes.push((unit, change))?;
+    Ok(Plan {
+        step,
+        tracks: Tracks::None,
+        changes: Listed::from_vec(changes),
+    })
+}
+
+/// The free space of a volume is stated anew.
+pub fn repair_space(alloc: Global, unit: u32, volume: &Volume) -> Result<Plan, NoMemory>
+    ensures { IfOk result (IsPlanFor volume.now unit (steps.Repair unit)) }
+{
+    let _repaired = volume;
+    plan_of(alloc, Step::Repair { unit }, unit, Change::Repair)
+}
+
+/// A data set is deleted, if the volume has one of the name.
+pub fn delete_set(
+    alloc: Global,
+    unit: u32,
+    volume: &Volume,
+    name: Dsn,
+) -> Result<Option<Plan>, NoMemory>
+    requires sound { IsSound volume.now }
+    requires name { IsDsn name }
+    ensures plan { IfOk result (λ found. IfSome found (IsPlanFor volume.now unit (steps.Delete unit name))) }
+    ensures none { IfOk result (λ found. IfNone found (HasNone volume.now name)) }
+{
+    let Some(_row) = row_of(volume, &name) else {
+        return Ok(None);
+    };
+    let step = Step::Delete { unit, name };
+    Ok(Some(plan_of(alloc, step, unit, Change::Remove(name))?))
+}
+
+/// A data set counts as dumped, if the volume has one of the name with at most 16 extents.
+pub fn reset_flag(
+    alloc: Global,
+    unit: u32,
+    volume: &Volume,
+    name: Dsn,
+) -> Result<Option<Plan>, NoMemory>
+    requires sound { IsSound volume.now }
+    requires name { IsDsn name }
+    ensures plan { IfOk result (λ found. IfSome found (IsPlanFor volume.now unit (steps.ResetFlag unit name))) }
+    ensures none { IfOk result (λ found. IfNone found (HasNone volume.now name ⊎ HasManyExtents volume.now name)) }
+{
+    let Some(row) = row_of(volume, &name) else {
+        return Ok(None);
+    };
+    if row.extents.as_slice().len() > MOST_EXTENTS {
+        return Ok(None);
+    }
+    let change = Change::Swap(name, reset_row(alloc, row)?);
+    let step = Step::ResetFlag { unit, name };
+    Ok(Some(plan_of(alloc, step, unit, change)?))
+}
+
+/// A data set keeps its first tracks alone, if the volume has one of the name with more tracks, and with at most 16 extents.
+pub fn shrink_set(
+    alloc: Global,
+    unit: u32,
+    volume: &Volume,
+    name: Dsn,
+    keep: u32,
+) -> Result<Option<Plan>, NoMemory>
+    requires sound { IsSound volume.now }
+    requires name { IsDsn name }
+    ensures plan { IfOk result (λ found. IfSome found (IsPlanFor volume.now unit (steps.Shrink unit name keep))) }
+    ensures none { IfOk result (λ found. IfNone found (HasNone volume.now name ⊎ (HasManyExtents volume.now name ⊎ HasFewTracks volume.now name keep))) }
+{
+    let Some(row) = row_of(volume, &name) else {
+        return Ok(None);
+    };
+    let extents = row.extents.as_slice();
+    if extents.len() > MOST_EXTENTS || count_tracks(volume.device, extents) <= u64::from(keep) {
+        return Ok(None);
+    }
+    let kept = Row {
+        name: row.name,
+        f1: row.f1,
+        extents: cut_extents(alloc, volume.device, extents, keep)?,
+        threes: row.threes,
+    };
+    let step = Step::Shrink { unit, name, keep };
+    Ok(Some(plan_of(alloc, step, unit, Change::Swap(name, kept))?))
+}

@@ -1,0 +1,95 @@
+use Rattle.std.proofs.Common.{◌≡◌, ℕ, ◌<◌, List, All, length, sym, ap, subst, ◌∙◌}
+use Rattle.dasd_pool.specs.Disk.{Shape}
+use Rattle.redo_core.specs.Reading.{journal_of}
+use Rattle.volume_change.specs.declared.change.Change.{Change}
+use Rattle.vtoc_render.specs.declared.change.Rendered.{Rendered}
+use Rattle.unit_load.specs.declared.state.UnitState.{UnitState}
+use Rattle.move_core.specs.Taking.{TakeUnits}
+use Rattle.move_core.proofs.Running.{idle_at_rest, switch_done, switch_failed}
+use Rattle.unit_steps.specs.Loaded.{AreLoaded, AreVtocsOf}
+use Rattle.unit_steps.specs.Plans.{IsPlan}
+use Rattle.unit_steps.specs.Rendering.{WereRendered, VtocsAfter, units_after}
+use Rattle.unit_steps.proofs.Small.{plans_small}
+use Rattle.unit_session.specs.Planned.{MayPatch}
+use Rattle.unit_session.specs.Sessions.{SessionView}
+use Rattle.unit_session.proofs.Loading.{still_free}
+use Rattle.unit_session.proofs.Switched.{are_there, may_patch, committed_placed, session_after, volumes_after}
+use Rattle.unit_session.proofs.planned.Copied.switch.Goals as goal
+
+pub invariant_of-result : goal.invariant_of-result
+invariant_of-result g c =
+    let s = c.session.inside in
+    let p = c.self.inside in
+    let inv = c.session.invariant in
+    let does = c.in-Ok.ensures in
+    let next = c.in-Ok.journal in
+    let shape = g.P.Pool.shape s.journal.pool in
+    let were : WereRendered s.units.items s.vtocs.items p.plan.changes p.rendered.items =
+    subst (λ (v : SessionView _). WereRendered v.units v.vtocs p.plan.changes p.rendered.items) (sym c.session.view_is) c.self.invariant.rendered in
+    let plan : IsPlan s.units.items p.plan = subst (λ (v : SessionView _). IsPlan v.units p.plan) (sym c.session.view_is) c.self.invariant.plan in
+    let small = plans_small s.units.items p.plan plan in
+    let after : VtocsAfter s.units.items s.vtocs.items p.plan.changes p.rendered.items c.patched-vtocs.result.items =
+    subst (λ (l : List UnitState). VtocsAfter l s.vtocs.items p.plan.changes p.rendered.items c.patched-vtocs.result.items) c.deref.ensures.value
+    (subst (λ (l : List (ℕ × Change)). VtocsAfter c.deref.result.now s.vtocs.items l p.rendered.items c.patched-vtocs.result.items) c.as_slice.ensures
+    (subst (λ (l : List Rendered). VtocsAfter c.deref.result.now s.vtocs.items c.as_slice.result.now l c.patched-vtocs.result.items) c.deref-in-Ok.ensures.value c.patched-vtocs.ensures)) in
+    let units : c.renewed-units.result.items ≡ units_after s.units.items p.plan.changes p.rendered.items =
+    c.renewed-units.ensures ∙ ap (λ (l : List (ℕ × Change)). units_after s.units.items l p.rendered.items) c.as_slice-in-Ok.ensures in
+    let parts = session_after shape (g.P.Pool.shape next.pool) s.units.items c.renewed-units.result.items s.vtocs.items c.patched-vtocs.result.items p.plan.changes p.rendered.items does.shape
+    units inv.2 inv.3 were small.0 small.2 after in
+    let volumes : g.P.Pool.tells → AreLoaded (g.P.Pool.shape next.pool) (g.P.Pool.disk next.pool).state.contents c.renewed-units.result.items
+    × AreVtocsOf (g.P.Pool.disk next.pool).state.contents c.renewed-units.result.items c.patched-vtocs.result.items =
+    λ told.
+    volumes_after shape (g.P.Pool.shape next.pool) s.units.items c.renewed-units.result.items s.vtocs.items c.patched-vtocs.result.items p.plan.changes p.rendered.items does.shape
+    units inv.2 inv.3 were small.0 small.2 after (g.P.Pool.disk s.journal.pool).state (g.P.Pool.disk next.pool).state p.entries c.self.invariant.entries_are
+    (committed_placed shape (g.P.Pool.disk s.journal.pool).state (g.P.Pool.disk next.pool).state s.journal.room next.room s.journal.control next.control s.journal.fills next.fills p.entries
+    (c.control-control.ensures.says told) (does.committed told) (does.rest told)) (inv.4 told) (inv.5 told) in (
+      still_free does.shape does.same.1 does.same.2 inv.0,
+      inv.1 ∙ ap (λ (s : Shape). journal_of s) (sym does.shape),
+      parts.0,
+      parts.1,
+      λ told. (volumes told).0,
+      λ told. (volumes told).1,
+    )
+
+pub returns-in-Ok-clause-run : goal.returns-in-Ok-clause-run
+returns-in-Ok-clause-run g c =
+    let s = c.session.inside in
+    let p = c.self.inside in
+    let does = c.in-Ok.ensures in
+    let takes : g.P.Pool.tells → TakeUnits (g.P.Pool.shape s.journal.pool) s.journal.room (g.P.Pool.disk s.journal.pool).state.contents p.plan.step p.entries =
+    λ told. subst (λ (v : SessionView _). TakeUnits (g.P.Pool.shape v.pool) v.room (g.P.Pool.disk v.pool).state.contents p.plan.step p.entries) (sym c.session.view_is) (c.self.invariant.takes told) in
+    rw (sym c.self.view_is)
+    (rw (sym c.session.view_is)
+    (switch_done does.shape does.faults (λ told. idle_at_rest (c.control-control.ensures.says told) c.session.invariant.0.idle c.session.invariant.0.closed) takes does.any_moment (tt {0}) does.committed))
+
+pub returns-in-Err-clause-run : goal.returns-in-Err-clause-run
+returns-in-Err-clause-run g c =
+    let s = c.session.inside in
+    let p = c.self.inside in
+    let does = c.in-Err.ensures in
+    let takes : g.P.Pool.tells → TakeUnits (g.P.Pool.shape s.journal.pool) s.journal.room (g.P.Pool.disk s.journal.pool).state.contents p.plan.step p.entries =
+    λ told. subst (λ (v : SessionView _). TakeUnits (g.P.Pool.shape v.pool) v.room (g.P.Pool.disk v.pool).state.contents p.plan.step p.entries) (sym c.session.view_is) (c.self.invariant.takes told) in
+    rw (sym c.self.view_is)
+    (rw (sym c.session.view_is)
+    (switch_failed does.shape does.faults (λ told. idle_at_rest (c.control-control.ensures.says told) c.session.invariant.0.idle c.session.invariant.0.closed) takes does.any_moment (λ never. never) does.cause.1))
+
+pub patched-vtocs-requires-clause-may : goal.patched-vtocs-requires-clause-may
+patched-vtocs-requires-clause-may g c =
+    let s = c.session.inside in
+    let p = c.self.inside in
+    let were : WereRendered s.units.items s.vtocs.items p.plan.changes p.rendered.items =
+    subst (λ (v : SessionView _). WereRendered v.units v.vtocs p.plan.changes p.rendered.items) (sym c.session.view_is) c.self.invariant.rendered in
+    let may : MayPatch s.units.items s.vtocs.items p.plan.changes p.rendered.items =
+    may_patch s.units.items s.vtocs.items p.plan.changes p.rendered.items c.session.invariant.3 were in
+    subst (λ (l : List UnitState). MayPatch l s.vtocs.items c.as_slice.result.now c.deref-in-Ok.result.now) (sym c.deref.ensures.value)
+    (subst (λ (l : List (ℕ × Change)). MayPatch s.units.items s.vtocs.items l c.deref-in-Ok.result.now) (sym c.as_slice.ensures)
+    (subst (λ (l : List Rendered). MayPatch s.units.items s.vtocs.items p.plan.changes l) (sym c.deref-in-Ok.ensures.value) may))
+
+pub renewed-units-requires : goal.renewed-units-requires
+renewed-units-requires g c =
+    let s = c.session.inside in
+    let p = c.self.inside in
+    let were : WereRendered s.units.items s.vtocs.items p.plan.changes p.rendered.items =
+    subst (λ (v : SessionView _). WereRendered v.units v.vtocs p.plan.changes p.rendered.items) (sym c.session.view_is) c.self.invariant.rendered in
+    subst (λ (l : List (ℕ × Change)). All (λ change. change.0 < length s.units.items) l) (sym c.as_slice-in-Ok.ensures)
+    (are_there s.units.items s.vtocs.items p.plan.changes p.rendered.items were)

@@ -1,0 +1,7 @@
+use Rattle.std.proofs.Common.{◌≡◌, true, All, take}
+use Rattle.vtoc_core.specs.declared.volume.Volume.{Volume}
+use Rattle.unit_steps.specs.Plans.{IsLoadedAt}
+use Rattle.unit_session.proofs.rendering.has_index.Given as goal
+
+abbrev pub invariant-loop-unit : goal.invariant-loop-unit
+invariant-loop-unit l = All (λ change. ¬ ((volume : Volume) × IsLoadedAt l.units change.0 volume × (volume.indexed ≡ true))) (take l.unit-index l.changes)

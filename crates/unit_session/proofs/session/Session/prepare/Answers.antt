@@ -1,0 +1,175 @@
+use Rattle.std.proofs.Common.{◌≡◌, ◌++◌, ℕ, List, Option, Some, length, take, drop, sym, ap, subst, ◌∙◌, arith}
+use Rattle.std.proofs.lemmas.List.{length-append, length-drop, length-take}
+use Rattle.std.proofs.lemmas.Result.{err_from_is_err_and}
+use Rattle.ckd_image.specs.Device.{slot_of}
+use Rattle.unit_session.specs.declared.copies.Copies.{Copies}
+use Rattle.unit_steps.specs.Rendering.{WereRendered, entries_of}
+use Rattle.move_core.proofs.Running.{run_idle, run_still}
+use Rattle.vtoc_core.specs.declared.volume.Volume.{Volume}
+use Rattle.volume_change.specs.declared.change.Change.{Change}
+use Rattle.volume_change.specs.Spot.{AreNamed}
+use Rattle.unit_load.specs.declared.state.UnitState.{UnitState}
+use Rattle.unit_steps.specs.Plans.{IsLoadedAt, IsPlan}
+use Rattle.unit_session.specs.Copies.{AreCopiesOf, IsLookFault, OnCopies}
+use Rattle.unit_session.specs.Planned.{AreRenderFault, HaveVolumes, IsBar, IsPlanFault, MayBegin}
+use Rattle.unit_session.specs.Sessions.{SessionView}
+use Rattle.unit_session.proofs.CopyMay.{may_copy}
+use Rattle.unit_session.proofs.PlanVolumes.{have_volumes}
+use Rattle.unit_session.proofs.Prepared.{rows_are_named, bar_fault, look_fault, render_fault, session_read, all_ready}
+use Rattle.unit_session.proofs.session.Session.prepare.Goals as goal
+
+pub returns-in-Some-clause-run : goal.returns-in-Some-clause-run
+returns-in-Some-clause-run g c =
+    run_idle tt
+
+pub returns-in-Some-clause-fault : goal.returns-in-Some-clause-fault
+returns-in-Some-clause-fault g c =
+    let s = c.self.inside in
+    let units : IsBar s.journal.room s.units.items c.args.plan.now.changes c.in-Some.fault =
+    subst (λ (room : ℕ). IsBar room s.units.items c.args.plan.now.changes c.in-Some.fault) c.room.ensures.value
+    (subst (λ (l : List UnitState). IsBar c.room.result l c.args.plan.now.changes c.in-Some.fault) c.deref.ensures.value
+    (subst (λ (l : List (ℕ × Change)). IsBar c.room.result c.deref.result.now l c.in-Some.fault) c.as_slice-changes.ensures c.in-Some.ensures.barred)) in
+    bar_fault g.P.Pool c.args.self.now c.args.plan.now c.args.self.now.pool c.in-Some.fault
+    (subst (λ (v : SessionView _). IsBar v.room v.units c.args.plan.now.changes c.in-Some.fault) c.self.view_is units)
+
+pub copies_of-requires-clause-named : goal.copies_of-requires-clause-named
+copies_of-requires-clause-named g c =
+    let s = c.self.inside in
+    subst (λ (l : List UnitState). (unit : ℕ) (volume : Volume) → IsLoadedAt l unit volume → AreNamed volume.rows) (sym c.deref-2.ensures.value)
+    (rows_are_named s.units.items s.vtocs.items c.self.invariant.2 c.self.invariant.3)
+
+pub returns-in_err-copies-clause-run : goal.returns-in_err-copies-clause-run
+returns-in_err-copies-clause-run g c =
+    run_idle tt
+
+pub returns-in_err-slot-clause-run : goal.returns-in_err-slot-clause-run
+returns-in_err-slot-clause-run g c =
+    run_idle tt
+
+pub look_at_any-requires-clause-may : goal.look_at_any-requires-clause-may
+look_at_any-requires-clause-may g c =
+    let s = c.self.inside in
+    let is : IsPlan s.units.items c.args.plan.now = subst (λ (v : SessionView _). IsPlan v.units c.args.plan.now) (sym c.self.view_is) c.requires in
+    may_copy s.units.items s.vtocs.items c.args.plan.now c.self.invariant.2 c.self.invariant.3 is c.in_ok-copies.copies c.are_sized.ensures
+    (subst (λ (l : List UnitState). AreCopiesOf l c.args.plan.now.tracks c.args.plan.now.changes c.in_ok-copies.copies) c.deref-2.ensures.value c.in_ok-copies.ensures)
+
+pub invariant_of-self : goal.invariant_of-self
+invariant_of-self g c =
+    let s = c.self.inside in
+    session_read g.P.Pool s.journal c.look_at_any.new.journal s.names.items s.units.items s.vtocs.items c.look_at_any.ensures.reads c.self.invariant
+
+pub returns-in_err-look_at_any-clause-run : goal.returns-in_err-look_at_any-clause-run
+returns-in_err-look_at_any-clause-run g c =
+    let reads = c.look_at_any.ensures.reads in
+    rw (sym c.self.view_is) (run_still reads.shape reads.later (λ not. absurd (not tt)) reads.runs)
+
+pub returns-in_err-look_at_any-clause-fault : goal.returns-in_err-look_at_any-clause-fault
+returns-in_err-look_at_any-clause-fault g c =
+    let s = c.self.inside in
+    let here : MayBegin s.journal.room s.units.items c.args.plan.now.changes =
+    subst (λ (room : ℕ). MayBegin room s.units.items c.args.plan.now.changes) c.room.ensures.value
+    (subst (λ (l : List UnitState). MayBegin c.room.result l c.args.plan.now.changes) c.deref.ensures.value
+    (subst (λ (l : List (ℕ × Change)). MayBegin c.room.result c.deref.result.now l) c.as_slice-changes.ensures c.in_default.ensures.free)) in
+    let may : MayBegin c.args.self.now.room c.args.self.now.units c.args.plan.now.changes =
+    subst (λ (v : SessionView _). MayBegin v.room v.units c.args.plan.now.changes) c.self.view_is here in
+    let copied : AreCopiesOf s.units.items c.args.plan.now.tracks c.args.plan.now.changes c.in_ok-copies.copies =
+    subst (λ (l : List UnitState). AreCopiesOf l c.args.plan.now.tracks c.args.plan.now.changes c.in_ok-copies.copies) c.deref-2.ensures.value c.in_ok-copies.ensures in
+    let p = err_from_is_err_and c.from_residual-in_err-look_at_any.result c.from_residual-in_err-look_at_any.ensures.1 in
+    let bad = c.in_err-look_at_any.ensures.fault in
+    let some : AreCopiesOf c.args.self.now.units c.args.plan.now.tracks c.args.plan.now.changes (Some bad.0) =
+    subst (λ (v : SessionView _). AreCopiesOf v.units c.args.plan.now.tracks c.args.plan.now.changes (Some bad.0)) c.self.view_is
+    (subst (λ (o : Option Copies). AreCopiesOf s.units.items c.args.plan.now.tracks c.args.plan.now.changes o) bad.1 copied) in
+    let told : IsPlanFault g.P.Pool c.args.self.now c.args.plan.now c.look_at_any.new.journal.pool c.in_err-look_at_any.field-0.0 =
+    look_fault g.P.Pool c.args.self.now c.args.plan.now c.look_at_any.new.journal.pool bad.0 may some _
+    (subst (λ (v : SessionView _). IsLookFault g.P.Pool v.pool c.look_at_any.new.journal.pool bad.0 c.in_err-look_at_any.field-0.0) c.self.view_is bad.2) in
+    rw (p.1, p.2) told
+
+pub render_all-requires : goal.render_all-requires
+render_all-requires g c =
+    let s = c.self.inside in
+    let is : IsPlan s.units.items c.args.plan.now = subst (λ (v : SessionView _). IsPlan v.units c.args.plan.now) (sym c.self.view_is) c.requires in
+    record {
+      volumes =
+          subst (λ (l : List UnitState). HaveVolumes l c.deref-4.result.now c.as_slice-changes.result.now) (sym c.deref-3.ensures.value)
+          (subst (λ (l : List (List ℕ)). HaveVolumes s.units.items l c.as_slice-changes.result.now) (sym c.deref-4.ensures.value)
+          (subst (λ (l : List (ℕ × Change)). HaveVolumes s.units.items s.vtocs.items l) (sym c.as_slice-changes.ensures)
+          (have_volumes s.units.items s.vtocs.items c.args.plan.now c.self.invariant.2 c.self.invariant.3 is)));
+    }
+
+pub invariant_of-self-in_err-rendered : goal.invariant_of-self-in_err-rendered
+invariant_of-self-in_err-rendered g c =
+    let s = c.self.inside in
+    session_read g.P.Pool s.journal c.look_at_any.new.journal s.names.items s.units.items s.vtocs.items c.look_at_any.ensures.reads c.self.invariant
+
+pub returns-in_err-rendered-clause-run : goal.returns-in_err-rendered-clause-run
+returns-in_err-rendered-clause-run g c =
+    let reads = c.look_at_any.ensures.reads in
+    rw (sym c.self.view_is) (run_still reads.shape reads.later (λ not. absurd (not tt)) reads.runs)
+
+pub returns-in_err-rendered-clause-fault : goal.returns-in_err-rendered-clause-fault
+returns-in_err-rendered-clause-fault g c =
+    let s = c.self.inside in
+    let here : MayBegin s.journal.room s.units.items c.args.plan.now.changes =
+    subst (λ (room : ℕ). MayBegin room s.units.items c.args.plan.now.changes) c.room.ensures.value
+    (subst (λ (l : List UnitState). MayBegin c.room.result l c.args.plan.now.changes) c.deref.ensures.value
+    (subst (λ (l : List (ℕ × Change)). MayBegin c.room.result c.deref.result.now l) c.as_slice-changes.ensures c.in_default.ensures.free)) in
+    let may : MayBegin c.args.self.now.room c.args.self.now.units c.args.plan.now.changes =
+    subst (λ (v : SessionView _). MayBegin v.room v.units c.args.plan.now.changes) c.self.view_is here in
+    let p = err_from_is_err_and c.from_residual-in_err-rendered.result c.from_residual-in_err-rendered.ensures.1 in
+    let bad : AreRenderFault s.units.items c.args.plan.now.changes c.in_err-rendered.field-0.0 =
+    subst (λ (l : List UnitState). AreRenderFault l c.args.plan.now.changes c.in_err-rendered.field-0.0) c.deref-3.ensures.value
+    (subst (λ (l : List (ℕ × Change)). AreRenderFault c.deref-3.result.now l c.in_err-rendered.field-0.0) c.as_slice-changes.ensures c.in_err-rendered.ensures.fault) in
+    rw (p.1, p.2)
+    (render_fault g.P.Pool c.args.self.now c.args.plan.now c.look_at_any.new.journal.pool may _
+    (subst (λ (v : SessionView _). AreRenderFault v.units c.args.plan.now.changes c.in_err-rendered.field-0.0) c.self.view_is bad))
+
+pub invariant_of-self-in_err-entries : goal.invariant_of-self-in_err-entries
+invariant_of-self-in_err-entries g c =
+    let s = c.self.inside in
+    session_read g.P.Pool s.journal c.look_at_any.new.journal s.names.items s.units.items s.vtocs.items c.look_at_any.ensures.reads c.self.invariant
+
+pub returns-in_err-entries-clause-run : goal.returns-in_err-entries-clause-run
+returns-in_err-entries-clause-run g c =
+    let reads = c.look_at_any.ensures.reads in
+    rw (sym c.self.view_is) (run_still reads.shape reads.later (λ not. absurd (not tt)) reads.runs)
+
+pub invariant_of-self-2 : goal.invariant_of-self-2
+invariant_of-self-2 g c =
+    let s = c.self.inside in
+    session_read g.P.Pool s.journal c.look_at_any.new.journal s.names.items s.units.items s.vtocs.items c.look_at_any.ensures.reads c.self.invariant
+
+pub returns-clause-run : goal.returns-clause-run
+returns-clause-run g c =
+    let reads = c.look_at_any.ensures.reads in
+    rw (sym c.self.view_is) (run_still reads.shape reads.later (λ not. absurd (not tt)) reads.runs)
+
+pub returns-clause-ready : goal.returns-clause-ready
+returns-clause-ready g c =
+    let s = c.self.inside in
+    let is : IsPlan s.units.items c.args.plan.now = subst (λ (v : SessionView _). IsPlan v.units c.args.plan.now) (sym c.self.view_is) c.requires in
+    let here : MayBegin s.journal.room s.units.items c.args.plan.now.changes =
+    subst (λ (room : ℕ). MayBegin room s.units.items c.args.plan.now.changes) c.room.ensures.value
+    (subst (λ (l : List UnitState). MayBegin c.room.result l c.args.plan.now.changes) c.deref.ensures.value
+    (subst (λ (l : List (ℕ × Change)). MayBegin c.room.result c.deref.result.now l) c.as_slice-changes.ensures c.in_default.ensures.free)) in
+    let copied : AreCopiesOf s.units.items c.args.plan.now.tracks c.args.plan.now.changes c.in_ok-copies.copies =
+    subst (λ (l : List UnitState). AreCopiesOf l c.args.plan.now.tracks c.args.plan.now.changes c.in_ok-copies.copies) c.deref-2.ensures.value c.in_ok-copies.ensures in
+    let slot = take c.in_ok-slot.slot.len (c.look_at_any.new.slot ++ drop (length c.look_at_any.new.slot) c.in_ok-slot.slot.items) in
+    let wide : length slot ≡ length c.in_ok-slot.slot.items =
+    omega (
+      arith,
+      c.in_ok-slot.slot.ok.0,
+      c.look_at_any.ensures.size,
+      ap length c.deref_mut.ensures.value,
+      length-take c.in_ok-slot.slot.len (c.look_at_any.new.slot ++ drop (length c.look_at_any.new.slot) c.in_ok-slot.slot.items),
+      length-append c.look_at_any.new.slot (drop (length c.look_at_any.new.slot) c.in_ok-slot.slot.items),
+      length-drop (length c.look_at_any.new.slot) c.in_ok-slot.slot.items,
+    ) in
+    let were : WereRendered s.units.items s.vtocs.items c.args.plan.now.changes c.in_ok-rendered.rendered.items =
+    subst (λ (l : List UnitState). WereRendered l s.vtocs.items c.args.plan.now.changes c.in_ok-rendered.rendered.items) c.deref-3.ensures.value
+    (subst (λ (l : List (List ℕ)). WereRendered c.deref-3.result.now l c.args.plan.now.changes c.in_ok-rendered.rendered.items) c.deref-4.ensures.value
+    (subst (λ (l : List (ℕ × Change)). WereRendered c.deref-3.result.now c.deref-4.result.now l c.in_ok-rendered.rendered.items) c.as_slice-changes.ensures c.in_ok-rendered.ensures.rendered)) in
+    all_ready g.P.Pool s.journal c.look_at_any.new.journal s.names.items s.units.items s.vtocs.items c.look_at_any.ensures.reads c.args.plan.now c.in_ok-copies.copies c.in_ok-rendered.rendered.items
+    c.in_ok-entries.entries slot c.self.invariant.2 c.self.invariant.3 is c.are_sized.ensures here copied
+    (subst (λ (n : ℕ). OnCopies (λ some. n ≡ slot_of some.device) c.in_ok-copies.copies) (sym wide) c.in_ok-slot.ensures.size)
+    c.in_ok-look_at_any.ensures.texts were
+    (c.in_ok-entries.ensures ∙ (λ i. entries_of (c.as_slice-changes.ensures i) (c.deref-5.ensures.value i)))

@@ -1,0 +1,314 @@
+//! A step that is planned, and carried out in two calls.
+
+ghost use Rattle.std.specs.Prelude.{◌≡◌, [], None, Some, length, IfOk, IfErr, OnOk, IsErr};
+ghost use Rattle.ckd_image.specs.Device.{slot_of};
+ghost use Rattle.dasd_pool.specs.Count.{Rose};
+ghost use Rattle.dasd_pool.specs.Disk.{IsSynced};
+ghost use Rattle.move_core.specs.Facts.{shown};
+ghost use Rattle.move_core.specs.Runs.{IsRun, Ended};
+ghost use Rattle.unit_load.specs.Reads.{OnlyReads};
+ghost use Rattle.unit_steps.specs.Laws.{AreSized};
+ghost use Rattle.unit_steps.specs.Plans.{IsPlan};
+ghost use Rattle.unit_steps.specs.Rendering.{units_after};
+ghost use Rattle.unit_session.specs.Sessions.{IsSameSession};
+ghost use Rattle.unit_session.specs.declared.copies.Copies.{Copies as CopiesOf};
+ghost use Rattle.unit_session.specs.Copies.{OnCopies, MayCopy, HaveTexts, IsLookFault, OnlyWrites, CopiesLeave, IsShortFor, contents_of, may_write_for};
+ghost use Rattle.unit_session.specs.Planned.{pool_planned, pool_copied, pool_switched, done_by, pending_by, IsPlanFault, IsKeptAs, MayBegin, IsReady};
+
+use crate::copies::{Copies, copies_of};
+use crate::copying::{look_at_texts, place_copies};
+use crate::fault::{Broken, PlanFault, PlanStop};
+use crate::patching::{patched, renewed};
+use crate::rendering::{bar_of, entries_for, render_all};
+use crate::session::Session;
+use dasd_pool::{Pool, PoolFault};
+use redo_core::{Entries, Journal};
+use std::alloc::Global;
+use std::marker::Model;
+use unit_steps::Plan;
+use vtoc_render::Rendered;
+
+/// A session and a plan of which all is ready: nothing is written, and no memory is taken any more.
+#[derive(Drop)]
+pub struct Planned<P: Pool> {
+    session: Session<P>,
+    plan: Plan,
+    work: Work,
+}
+
+/// A planned step whose new tracks hold their texts, so that one commit makes it. All that was written is durable.
+#[derive(Drop)]
+pub struct Copied<P: Pool> {
+    session: Session<P>,
+    plan: Plan,
+    rendered: Vec<Rendered>,
+    entries: Entries,
+}
+
+/// What a plan needs: its copies with room for a slot, its rendered changes, and their entries.
+#[derive(Drop)]
+struct Work {
+    copies: Option<Copies>,
+    slot: Vec<u8>,
+    rendered: Vec<Rendered>,
+    entries: Entries,
+}
+
+impl<P: Pool> Model for Planned<P> {
+    ghost use Rattle.unit_session.specs.Planned.{PlannedView, IsReady};
+
+    ghost Value = { PlannedView P };
+
+    ghost view = { λ p. record { session = p.session; plan = p.plan; copies = p.work.copies; rendered = p.work.rendered.items; entries = p.work.entries } };
+
+    ghost invariant = { λ p. IsReady P.Pool (record { session = p.session; plan = p.plan; copies = p.work.copies; rendered = p.work.rendered.items; entries = p.work.entries }) p.work.slot.items };
+}
+
+impl<P: Pool> Model for Copied<P> {
+    ghost use Rattle.unit_session.specs.Planned.{CopiedView, MaySwitch};
+
+    ghost Value = { CopiedView P };
+
+    ghost view = { λ c. record { session = c.session; plan = c.plan; rendered = c.rendered.items; entries = c.entries } };
+
+    ghost invariant = { λ c. MaySwitch P.Pool (record { session = c.session; plan = c.plan; rendered = c.rendered.items; entries = c.entries }) };
+}
+
+/// Room for a slot that is copied.
+fn slot_for(alloc: Global, copies: &Option<Copies>) -> Result<Vec<u8>, PlanFault>
+    ensures size { IfOk result (λ slot. OnCopies (λ some. length slot.items ≡ slot_of some.device) copies.now) }
+    ensures fault { IfErr result (λ fault. fault ≡ PlanFault.NoMemory) }
+{
+    let size = match copies {
+        Some(copies) => copies.device.slot(),
+        None => 0,
+    };
+    match vec![in alloc; 0u8; size as usize] {
+        Ok(slot) => Ok(slot),
+        Err(_) => Err(PlanFault::NoMemory),
+    }
+}
+
+/// The blocks of each unit have the size that its head says.
+fn are_sized<P: Pool>(journal: &Journal<P>)
+    ensures { AreSized (P.shape journal.now.pool) }
+{
+    for unit in 0..journal.units() {
+        let _size = journal.block_size(unit);
+    }
+}
+
+/// Looks whether each track that is to be copied has a text, if there are any.
+fn look_at_any<P: Pool>(
+    journal: &mut Journal<P>,
+    copies: &Option<Copies>,
+    slot: &mut [u8],
+) -> Result<(), PlanFault>
+    requires may { OnCopies (MayCopy (P.shape journal.old.pool)) copies.now }
+    requires size { OnCopies (λ some. length slot.old ≡ slot_of some.device) copies.now }
+    ensures reads { OnlyReads P.Pool journal.old journal.new }
+    ensures size { length slot.new ≡ length slot.old }
+    ensures texts { P.tells → OnOk result (OnCopies (HaveTexts (contents_of P.Pool journal.old)) copies.now) }
+    ensures fault { IfErr result (λ fault. (some : CopiesOf) × (copies.now ≡ Some some) × IsLookFault P.Pool journal.old.pool journal.new.pool some fault) }
+{
+    match copies {
+        Some(copies) => look_at_texts(journal, copies, slot),
+        None => Ok(()),
+    }
+}
+
+impl<P: Pool> Session<P> {
+    /// Makes a step ready: nothing is written. The plan is refused where a volume that it changes has an index, or a VTOC of more tracks than half of
+    /// what a commit may have less one; where a track to be copied has no text; or where a VTOC has no room.
+    pub fn plan(self, plan: Plan) -> Result<Planned<P>, PlanStop<P>>
+        requires { IsPlan self.units plan }
+        ensures run { IsRun P.tells (shown P.Pool self.pool) (shown P.Pool (pool_planned result)) (Unit {0}) [] None }
+        ensures session { IfOk result (λ planned. IsSameSession P.Pool self planned.session) }
+        ensures plan { IfOk result (λ planned. planned.plan ≡ plan) }
+        ensures allowed { IfOk result (λ planned. MayBegin self.room self.units plan.changes) }
+        ensures refused { IfErr result (IsKeptAs P.Pool self (λ kept. IsPlanFault P.Pool self plan kept.pool)) }
+    {
+        let mut session = self;
+        match session.prepare(&plan) {
+            Ok(work) => Ok(Planned {
+                session,
+                plan,
+                work,
+            }),
+            Err(fault) => Err(PlanStop::Kept(session, fault)),
+        }
+    }
+
+    /// All that a plan needs.
+    fn prepare(&mut self, plan: &Plan) -> Result<Work, PlanFault>
+        requires { IsPlan self.old.units plan.now }
+        ensures run { IsRun P.tells (shown P.Pool self.old.pool) (shown P.Pool self.new.pool) (Unit {0}) [] None }
+        ensures session { IsSameSession P.Pool self.old self.new }
+        ensures ready { IfOk result (λ work. IsReady P.Pool (record { session = self.new; plan = plan.now; copies = work.copies; rendered = work.rendered.items; entries = work.entries }) work.slot.items) }
+        ensures allowed { OnOk result (MayBegin self.old.room self.old.units plan.now.changes) }
+        ensures fault { IfErr result (IsPlanFault P.Pool self.old plan.now self.new.pool) }
+    {
+        let changes = plan.changes.as_slice();
+        if let Some(fault) = bar_of(self.journal.room(), &self.units, changes) {
+            return Err(fault);
+        }
+        are_sized(&self.journal);
+        let copies = copies_of(self.alloc, &self.units, plan)?;
+        let mut slot = slot_for(self.alloc, &copies)?;
+        look_at_any(&mut self.journal, &copies, &mut slot)?;
+        let rendered = render_all(self.alloc, &self.units, &self.vtocs, changes)?;
+        let entries = entries_for(self.alloc, changes, &rendered)?;
+        Ok(Work {
+            copies,
+            slot,
+            rendered,
+            entries,
+        })
+    }
+}
+
+/// Makes copies, if there are any.
+fn place_any<P: Pool>(
+    alloc: Global,
+    journal: &mut Journal<P>,
+    copies: &Option<Copies>,
+    slot: &mut [u8],
+) -> Result<(), PoolFault>
+    requires may { OnCopies (MayCopy (P.shape journal.old.pool)) copies.now }
+    requires size { OnCopies (λ some. length slot.old ≡ slot_of some.device) copies.now }
+    ensures writes { OnlyWrites P.Pool (may_write_for copies.now) journal.old journal.new }
+    ensures copied { P.tells → OnOk result (CopiesLeave (contents_of P.Pool journal.old) (contents_of P.Pool journal.new) copies.now) }
+    ensures short { P.tells → OnOk result (OnCopies (IsShortFor (P.shape journal.old.pool) (contents_of P.Pool journal.new)) copies.now) }
+    ensures cause { IsErr result → Rose (P.faults journal.old.pool) (P.faults journal.new.pool) }
+{
+    match copies {
+        Some(copies) => {
+            place_copies(alloc, journal, copies, slot)?;
+            // A pool's blocks are never longer than a slot can be.
+            let _size = journal.block_size(copies.unit);
+            Ok(())
+        }
+        None => Ok(()),
+    }
+}
+
+/// Makes copies, if there are any, and all that was written durable.
+fn make_copies<P: Pool>(
+    alloc: Global,
+    journal: &mut Journal<P>,
+    copies: &Option<Copies>,
+    slot: &mut [u8],
+) -> Result<(), PoolFault>
+    requires may { OnCopies (MayCopy (P.shape journal.old.pool)) copies.now }
+    requires size { OnCopies (λ some. length slot.old ≡ slot_of some.device) copies.now }
+    ensures writes { OnlyWrites P.Pool (may_write_for copies.now) journal.old journal.new }
+    ensures copied { P.tells → OnOk result (CopiesLeave (contents_of P.Pool journal.old) (contents_of P.Pool journal.new) copies.now) }
+    ensures short { P.tells → OnOk result (OnCopies (IsShortFor (P.shape journal.old.pool) (contents_of P.Pool journal.new)) copies.now) }
+    ensures synced { P.tells → OnOk result (IsSynced (P.disk journal.new.pool).state) }
+    ensures cause { IsErr result → Rose (P.faults journal.old.pool) (P.faults journal.new.pool) }
+{
+    place_any(alloc, journal, copies, slot)?;
+    journal.sync()
+}
+
+impl<P: Pool> Planned<P> {
+    /// Copies texts to the new tracks, past the journal, and makes them durable with one sync, also where there are none.
+    pub fn copy(self) -> Result<Copied<P>, Broken<P>>
+        ensures run { IsRun P.tells (shown P.Pool self.session.pool) (shown P.Pool (pool_copied result)) (Ended result) [] None }
+        ensures plan { IfOk result (λ next. next.plan ≡ self.plan) }
+        ensures rendered { IfOk result (λ next. next.rendered ≡ self.rendered) }
+        ensures entries { IfOk result (λ next. next.entries ≡ self.entries) }
+        ensures session { IfOk result (λ next. (next.session.room ≡ self.session.room) × (next.session.names ≡ self.session.names)
+            × (next.session.units ≡ self.session.units) × (next.session.vtocs ≡ self.session.vtocs)) }
+
+        // Each text stands on its new track, the others are empty, all else is as it was, and a stop leaves it so.
+        ensures copied { P.tells → IfOk result (λ next. CopiesLeave (P.disk self.session.pool).state.contents (P.disk next.session.pool).state.contents self.copies) }
+        ensures synced { P.tells → IfOk result (λ next. IsSynced (P.disk next.session.pool).state) }
+        ensures pending { IfErr result (λ broken. broken.pending ≡ None) }
+    {
+        let Planned {
+            session,
+            plan,
+            work,
+        } = self;
+        let Session {
+            alloc,
+            journal,
+            names,
+            units,
+            vtocs,
+        } = session;
+        let mut journal = journal;
+        let mut slot = work.slot;
+        let _control = journal.control();
+        match make_copies(alloc, &mut journal, &work.copies, &mut slot) {
+            Ok(()) => Ok(Copied {
+                session: Session {
+                    alloc,
+                    journal,
+                    names,
+                    units,
+                    vtocs,
+                },
+                plan,
+                rendered: work.rendered,
+                entries: work.entries,
+            }),
+            Err(_) => Err(Broken {
+                pool: journal.into_pool(),
+                pending: None,
+            }),
+        }
+    }
+
+    /// Leaves the step undone. Nothing was written.
+    pub fn abandon(self) -> Session<P>
+        ensures { result ≡ self.session }
+    {
+        let Planned { session, .. } = self;
+        session
+    }
+}
+
+impl<P: Pool> Copied<P> {
+    /// Makes the step, by one commit of the tracks of VTOCs that it changes.
+    pub fn switch(self) -> Result<Session<P>, Broken<P>>
+        ensures run { IsRun P.tells (shown P.Pool self.session.pool) (shown P.Pool (pool_switched result)) (Ended result) (done_by self.plan.step result) (pending_by self.plan.step result) }
+        ensures units { IfOk result (λ session. session.units ≡ units_after self.session.units self.plan.changes self.rendered) }
+        ensures session { IfOk result (λ session. (session.room ≡ self.session.room) × (session.names ≡ self.session.names)) }
+        ensures pending { IfErr result (λ broken. broken.pending ≡ Some self.plan.step) }
+    {
+        let Copied {
+            session,
+            plan,
+            rendered,
+            entries,
+        } = self;
+        let Session {
+            alloc,
+            journal,
+            names,
+            units,
+            vtocs,
+        } = session;
+        let Plan { step, changes, .. } = plan;
+        let _control = journal.control();
+        match journal.commit(entries) {
+            Ok(journal) => {
+                let vtocs = patched(&units, changes.as_slice(), &rendered, vtocs);
+                let units = renewed(changes.as_slice(), rendered, units);
+                Ok(Session {
+                    alloc,
+                    journal,
+                    names,
+                    units,
+                    vtocs,
+                })
+            }
+            Err(stop) => Err(Broken {
+                pool: stop.pool,
+                pending: Some(step),
+            }),
+        }
+    }
+}

@@ -1,0 +1,179 @@
+-- The entries of a plan take the units by its step.
+use Rattle.std.proofs.Common.{◌≡◌, ℕ, ◌<◌, ◌≤◌, Bool, List, [], ◌∷◌, map, All, false, refl, sym, ap, subst, ◌∙◌, arith}
+use Rattle.std.specs.Prelude.{if◌then◌else◌}
+use Rattle.std.proofs.lemmas.List.Elements.{All-head, All-tail, All-weaker}
+use Rattle.std.proofs.lemmas.Option.{slice_get_within}
+use Rattle.dasd_pool.specs.Disk.{Image, Shape, State}
+use Rattle.free_map.specs.declared.run.Run.{Run}
+use Rattle.redo_core.specs.declared.control.Control.{Control}
+use Rattle.redo_core.specs.declared.entries.Entry.{Entry}
+use Rattle.redo_core.specs.Faults.{HasSerial}
+use Rattle.redo_core.specs.Reading.{journal_of, placed, set_block, Reading}
+use Rattle.redo_core.proofs.Crash.{other_block, placed_agree}
+use Rattle.volume_model.specs.Reads.{IsUnit}
+use Rattle.volume_model.specs.Sound.{Slots}
+use Rattle.volume_model.specs.Unit.{UnitModel}
+use Rattle.vtoc_write.specs.declared.blocks.Block.{Block}
+use Rattle.volume_change.specs.declared.change.Change.{Change}
+use Rattle.vtoc_render.specs.declared.change.Rendered.{Rendered}
+use Rattle.unit_change.specs.Described.{own_place}
+use Rattle.unit_change.proofs.FormatFour.{run_inside}
+use Rattle.unit_load.specs.declared.state.UnitState.{UnitState}
+use Rattle.unit_load.specs.declared.state.UnitState.TheVariants.{Online}
+use Rattle.unit_load.specs.Kept.{IsFromSlots}
+use Rattle.move_core.specs.declared.steps.Origin.TheVariants as origins
+use Rattle.move_core.specs.declared.steps.Step.{Step}
+use Rattle.move_core.specs.declared.steps.Step.TheVariants as steps
+use Rattle.move_core.specs.Facts.{Facts}
+use Rattle.move_core.specs.Laws.{WillStand}
+use Rattle.move_core.specs.Stands.{is_sliding, place_in, IsAfterSlide, Means, IsSettled}
+use Rattle.move_core.specs.Taking.{IsIdle, AreSame, TakeUnits}
+use Rattle.unit_steps.specs.declared.plan.Tracks.{Tracks}
+use Rattle.unit_steps.specs.declared.plan.Tracks.TheVariants as texts
+use Rattle.unit_steps.specs.Copied.{DifferOnFree, AreHeld}
+use Rattle.unit_steps.specs.Laws.{PlansTakeUnits}
+use Rattle.unit_steps.specs.Loaded.{HaveStates, AreLoaded, KeepVtocs, AreVtocsOf}
+use Rattle.unit_steps.specs.Plans.{Plans}
+use Rattle.unit_steps.specs.Rendering.{WasRendered, WereRendered, entry_for, entries_of}
+use Rattle.unit_steps.proofs.Blocks.{rendered_blocks}
+use Rattle.unit_steps.proofs.Carrying.{carry_taken}
+use Rattle.unit_steps.proofs.Copying.{copied_load}
+use Rattle.unit_steps.proofs.Idle.{own_slots, control_idle, quiet, units_found, unit_stands}
+use Rattle.unit_steps.proofs.Moving.{move_taken}
+use Rattle.unit_steps.proofs.OneChange.{TakesModels}
+use Rattle.unit_steps.proofs.Placing.{placed_both}
+use Rattle.unit_steps.proofs.Putting.{add_taken, replace_taken}
+use Rattle.unit_steps.proofs.Staying.{delete_taken, repair_taken, reset_taken, shrink_taken}
+use Rattle.unit_steps.proofs.Units.{AreAlone}
+
+-- ---- labels
+
+-- no block of a rendered change is track 0
+module _ (shape : Shape) (units : List UnitState) (vtocs : List (List ℕ)) (keep : KeepVtocs shape units vtocs) where
+  first_track : (unit : ℕ) (change : Change) (rendered : Rendered) → WasRendered units vtocs unit change rendered → All (λ block. 1 ≤ block.track) rendered.blocks
+  first_track unit change rendered was =
+      let from : IsFromSlots (shape.head unit) (shape.blocks unit) was.volume was.slots = keep.each unit (Online was.volume) was.slots was.loaded was.kept in
+      let is = from.loaded in
+      let some : 1 ≤ was.volume.vtoc.first =
+      omega (arith, (run_inside from.image from.unit from.label.vtoc false is.vtoc is.stands.stands).0, ap (λ (run : Run). run.first) is.volume.vtoc_is) in
+      All-weaker (λ (b : Block). was.volume.vtoc.first ≤ b.track) (λ (b : Block). 1 ≤ b.track) (λ b low. omega (arith, low, some)) rendered.blocks
+      (rendered_blocks from change rendered was.written).above
+
+  block_stays : (unit : ℕ) (blocks : List Block) (image : Image) (u : ℕ) → All (λ block. 1 ≤ block.track) blocks → placed image (map (entry_for unit) blocks) u 0 ≡ image u 0
+  block_stays unit [] image u some = refl
+  block_stays unit (block ∷ blocks) image u some =
+      let later : 1 ≤ block.track = All-head (λ (b : Block). 1 ≤ b.track) block blocks some in
+      block_stays unit blocks (set_block image unit block.track block.slot) u (All-tail (λ (b : Block). 1 ≤ b.track) block blocks some)
+      ∙ ap (λ (here : Bool). if here then block.slot else image u 0) (other_block unit block.track u 0 (λ same. absurd (omega (arith, later, same))))
+
+  firsts_stay : (changes : List (ℕ × Change)) (rendered : List Rendered) (image : Image) (u : ℕ) → WereRendered units vtocs changes rendered
+      → placed image (entries_of changes rendered) u 0 ≡ image u 0
+  firsts_stay [] [] image u were = refl
+  firsts_stay [] (one ∷ more) image u were = absurd were
+  firsts_stay (change ∷ changes) [] image u were = absurd were
+  firsts_stay (change ∷ changes) (one ∷ more) image u were =
+      (λ i. placed_both (map (entry_for change.0) one.blocks) (entries_of changes more) image i u 0)
+      ∙ firsts_stay changes more (placed image (map (entry_for change.0) one.blocks)) u were.1
+      ∙ block_stays change.0 one.blocks image u (first_track change.0 change.1 one were.0)
+
+-- ---- an idle pool
+
+module _ (facts : Facts) (state : State) (units : List UnitModel) (room : ℕ) (idle : IsIdle facts.shape state room) (settled : IsSettled facts state units) where
+  abbrev reading : Reading
+  reading = settled.stands.reading
+
+  models_alone : (contents : Image) → AreSame facts.shape state.contents contents → AreAlone facts.shape contents units
+  models_alone contents same =
+      subst (λ (models : List UnitModel). AreAlone facts.shape contents models) (sym (units_found facts state units room idle settled)) (record {
+        count = settled.stands.means.found_are.count;
+        each = λ u model at.
+            let less : u < journal_of facts.shape = omega (arith, slice_get_within settled.stands.means.found u model at, settled.stands.means.found_are.count) in
+            subst (λ (slots : Slots). IsUnit false false own_place (facts.shape.head u) (facts.shape.blocks u) slots model) (λ i b. same u b less i)
+            (unit_stands facts state units room idle settled u model less at);
+      })
+
+  module _ (contents : Image) (same : AreSame facts.shape state.contents contents) (entries : List Entry) (after : List UnitModel) (alone : AreAlone facts.shape (placed contents entries) after)
+      (firsts : (u : ℕ) → placed settled.stands.reading.volumes entries u 0 ≡ settled.stands.reading.volumes u 0) where
+    abbrev later : Image
+    later = placed reading.volumes entries
+
+    reads_same : (u : ℕ) → u < journal_of facts.shape → placed contents entries u ≡ later u
+    reads_same u less = λ i b.
+        placed_agree entries contents reading.volumes u b (λ none. sym (same u b less) ∙ (λ j. sym (own_slots facts state units room idle settled u less) j b)) i
+
+    -- a unit with nothing under way is a unit of the reading
+    reads_alone : (u : ℕ) (model : UnitModel) → u < journal_of facts.shape → IsUnit false false own_place (facts.shape.head u) (facts.shape.blocks u) (later u) model
+        → IsUnit (reading.fills u) (is_sliding reading.control u) (place_in reading.control u) (facts.shape.head u) (facts.shape.blocks u) (later u) model
+    reads_alone u model less is =
+        subst (λ (fills : Bool). IsUnit fills (is_sliding reading.control u) (place_in reading.control u) (facts.shape.head u) (facts.shape.blocks u) (later u) model)
+        (sym (quiet facts state units room idle settled u less))
+        (subst (λ (control : Control). IsUnit false (is_sliding control u) (place_in control u) (facts.shape.head u) (facts.shape.blocks u) (later u) model)
+        (sym (control_idle facts state units room idle settled)) is)
+
+    means : Means facts.shape (record reading { volumes = later }) after
+    means = record {
+      found = after;
+      found_are =
+          record {
+            count = alone.count;
+            each = λ u model at.
+                let less : u < journal_of facts.shape = omega (arith, slice_get_within after u model at, alone.count) in
+                reads_alone u model less
+                (subst (λ (slots : Slots). IsUnit false false own_place (facts.shape.head u) (facts.shape.blocks u) slots model) (reads_same u less) (alone.each u model at));
+          };
+      after = subst (λ (control : Control). IsAfterSlide reading.room control after after) (sym (control_idle facts state units room idle settled)) refl;
+    }
+
+    will_stand : WillStand facts settled.stands.reading entries after
+    will_stand = record {
+      labels = λ u serial within label.
+          settled.stands.labels u serial within (record {
+            device = label.device;
+            head = label.head;
+            label = subst (λ (bytes : List ℕ). HasSerial (record { device = label.device; tracks = facts.shape.blocks u }) bytes serial) (firsts u) label.label;
+          });
+      means = means;
+    }
+
+-- models that are taken are units that are taken
+take_units : (shape : Shape) (room : ℕ) (contents : Image) (step : Step) (entries : List Entry) → TakesModels shape contents step entries
+    → ((image : Image) (u : ℕ) → placed image entries u 0 ≡ image u 0) → TakeUnits shape room contents step entries
+take_units shape room contents step entries takes firsts facts state units same_shape same idle settled =
+    let own_takes : TakesModels facts.shape contents step entries = subst (λ (s : Shape). TakesModels s contents step entries) (sym same_shape) takes in
+    let own_same : AreSame facts.shape state.contents contents = subst (λ (s : Shape). AreSame s state.contents contents) (sym same_shape) same in
+    let own_idle : IsIdle facts.shape state room = subst (λ (s : Shape). IsIdle s state room) (sym same_shape) idle in
+    let made = own_takes facts units (models_alone facts state units room own_idle settled contents own_same) in
+    (made.0, made.1, will_stand facts state units room own_idle settled contents own_same entries made.0 made.2 (firsts settled.stands.reading.volumes))
+
+-- ---- plans
+
+module _ (shape : Shape) (units : List UnitState) (vtocs : List (List ℕ)) (old new : Image) (have : HaveStates shape units) (are : AreLoaded shape new units)
+    (keep : KeepVtocs shape units vtocs) (vtocs_are : AreVtocsOf new units vtocs) (differ : DifferOnFree units old new) (changes : List (ℕ × Change)) (rendered : List Rendered)
+    (were : WereRendered units vtocs changes rendered) where
+  rows_held : (from : ℕ) (name : _) (tracks : Tracks) → tracks ≡ texts.Rows from name → AreHeld units tracks changes old new → AreHeld units (texts.Rows from name) changes old new
+  rows_held from name tracks is held = subst (λ (t : Tracks). AreHeld units t changes old new) is held
+
+  planned_taken : (step : Step) (tracks : Tracks) → Plans units step tracks changes → AreHeld units tracks changes old new → TakesModels shape new step (entries_of changes rendered)
+  planned_taken (steps.Move unit name to) tracks is held =
+      move_taken shape units vtocs old new have are keep vtocs_are differ changes rendered were unit name to is.1 (rows_held unit name tracks is.0 held)
+  planned_taken (steps.Shrink unit name kept) tracks is held = shrink_taken shape units vtocs new have are keep vtocs_are changes rendered were unit name kept is.1
+  planned_taken (steps.Add unit name to (origins.Row from origin)) tracks is held =
+      add_taken shape units vtocs old new have are keep vtocs_are differ changes rendered were from origin unit name to is.1 (rows_held from origin tracks is.0 held)
+  planned_taken (steps.Add unit name to (origins.Part input number)) tracks is held = absurd is
+  planned_taken (steps.Replace unit name to (origins.Row from origin)) tracks is held =
+      replace_taken shape units vtocs old new have are keep vtocs_are differ changes rendered were from origin unit name to is.1 (rows_held from origin tracks is.0 held)
+  planned_taken (steps.Replace unit name to (origins.Part input number)) tracks is held = absurd is
+  planned_taken (steps.Delete unit name) tracks is held = delete_taken shape units vtocs new have are keep vtocs_are changes rendered were unit name is.1
+  planned_taken (steps.Carry from origin unit name to replaced) tracks is held =
+      carry_taken shape units vtocs old new have are keep vtocs_are differ from origin unit name to replaced changes rendered were is.1 (rows_held from origin tracks is.0 held)
+  planned_taken (steps.ResetFlag unit name) tracks is held = reset_taken shape units vtocs new have are keep vtocs_are changes rendered were unit name is.1
+  planned_taken (steps.Repair unit) tracks is held = repair_taken shape units vtocs new have are keep vtocs_are changes rendered were unit is.1
+  planned_taken (steps.FillStart unit input) tracks is held = absurd is
+  planned_taken (steps.FillEnd unit input) tracks is held = absurd is
+
+pub plans_take : PlansTakeUnits
+plans_take shape room old new units vtocs plan rendered have are keep kept is were differ short held =
+    let now = copied_load shape old new units vtocs have are kept differ short in
+    take_units shape room new plan.step (entries_of plan.changes rendered)
+    (planned_taken shape units vtocs old new have now.0 keep now.1 differ plan.changes rendered were plan.step plan.tracks is held)
+    (λ image u. firsts_stay shape units vtocs keep plan.changes rendered image u were)

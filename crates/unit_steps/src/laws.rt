@@ -1,0 +1,18 @@
+//! What holds of plans, of the tracks that are copied for one, and of the commit that makes its step.
+
+ghost use Rattle.unit_steps.specs.Laws.{FreeTracksMayBeWritten, CopiedUnitsLoad, PlansAreSmall, EntriesAreReady, PatchedVtocsAreKept, SwitchedUnitsLoad, PlansTakeUnits};
+
+/// Free tracks may be written: no meaning rests on one, and each unit loads as it did.
+pub fn copying_laws()
+    ensures free { FreeTracksMayBeWritten }
+    ensures loads { CopiedUnitsLoad }
+{}
+
+/// The rendered tracks of a plan's changes fit one commit, which takes the units by the plan's step; then each unit loads as it was rendered.
+pub fn switching_laws()
+    ensures small { PlansAreSmall }
+    ensures ready { EntriesAreReady }
+    ensures kept { PatchedVtocsAreKept }
+    ensures takes { PlansTakeUnits }
+    ensures loads { SwitchedUnitsLoad }
+{}

@@ -1,0 +1,8 @@
+//! What makes a step: which changes and copies are planned for it, and that they take the units that a pool stands for by that step.
+#![tactic(auto)]
+
+mod laws;
+mod plan;
+
+pub use laws::{copying_laws, switching_laws};
+pub use plan::{Changes, Plan, Tracks};
