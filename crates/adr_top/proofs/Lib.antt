@@ -5,6 +5,7 @@ pub mod Signs
 pub mod SixWords
 pub mod Asked
 pub mod Loads
+pub mod NamedUnits
 pub mod Ends
 pub mod Lines
 pub mod Made

@@ -9,7 +9,7 @@ use Rattle.std.proofs.lemmas.List.FromFn.{get_or-map-range_with_len}
 use Rattle.std.proofs.lemmas.List.Sums.{sum_by_push}
 use Rattle.std.proofs.lemmas.List.Folds.{flat_map-map}
 use Rattle.ckd_image.specs.declared.device.Device.{Device}
-use Rattle.ckd_image.specs.declared.device.Device.TheVariants.{D3390}
+use Rattle.ckd_image.specs.declared.device.Device.TheVariants.{D3390, D3380}
 use Rattle.ckd_image.specs.Device.{heads_of}
 use Rattle.vol_label.specs.Serial.{IsSerialName}
 use Rattle.dscb_rec.specs.declared.field.Extent.{Extent}
@@ -123,29 +123,29 @@ extents_more old line before after added extents k d lt so more is =
 -- ---- the volume
 
 -- the line of a volume
-pub space_together : (text name tracks runs : List ℕ) (usable count number index : ℕ) (free : List Run)
-    → text ≡ ((((codes "ADR110I (001) VOLUME " ++ name) ++ codes " 3390") ++ tracks) ++ runs) ++ codes "\n"
+pub space_together : (text name tracks runs : List ℕ) (device : Device) (usable count number index : ℕ) (free : List Run)
+    → text ≡ (((((codes "ADR110I (001) VOLUME " ++ name) ++ codes " ") ++ device_name device) ++ tracks) ++ runs) ++ codes "\n"
     → tracks ≡ codes " USABLE " ++ (decimal usable ++ (codes " FREE " ++ decimal count)) → runs ≡ codes " IN " ++ (decimal number ++ (codes " RUNS INDEX " ++ decimal index))
-    → count ≡ count_of free → number ≡ length free → index ≡ index_of free → text ≡ space_line name usable free
-space_together text name tracks runs usable count number index free is tracks-is runs-is count-is number-is index-is =
-    is ∙ (λ i. ((((codes "ADR110I (001) VOLUME " ++ name) ++ codes " 3390") ++ tracks-is i) ++ runs-is i) ++ codes "\n")
-    ∙ regroup (codes "ADR110I (001) ") (codes "VOLUME ") name (codes " ") (codes "3390") (codes " USABLE ") (decimal usable) (codes " FREE ") (decimal count) (codes " IN ") (decimal number)
+    → count ≡ count_of free → number ≡ length free → index ≡ index_of free → text ≡ space_line name device usable free
+space_together text name tracks runs device usable count number index free is tracks-is runs-is count-is number-is index-is =
+    is ∙ (λ i. (((((codes "ADR110I (001) VOLUME " ++ name) ++ codes " ") ++ device_name device) ++ tracks-is i) ++ runs-is i) ++ codes "\n")
+    ∙ regroup (codes "ADR110I (001) ") (codes "VOLUME ") name (codes " ") (device_name device) (codes " USABLE ") (decimal usable) (codes " FREE ") (decimal count) (codes " IN ") (decimal number)
     (codes " RUNS INDEX ") (decimal index) (codes "\n")
-    ∙ (λ i. message 110 letter_i 1 (codes "VOLUME " ++ name ++ codes " " ++ codes "3390" ++ codes " USABLE " ++ decimal usable
+    ∙ (λ i. message 110 letter_i 1 (codes "VOLUME " ++ name ++ codes " " ++ device_name device ++ codes " USABLE " ++ decimal usable
     ++ codes " FREE " ++ decimal (count-is i) ++ codes " IN " ++ decimal (number-is i) ++ codes " RUNS INDEX " ++ decimal (index-is i)))
   where
     regroup : (H V n s d U u F f I r R x z : List ℕ)
-        → (((((H ++ V) ++ n) ++ (s ++ d)) ++ (U ++ (u ++ (F ++ f)))) ++ (I ++ (r ++ (R ++ x)))) ++ z ≡ (H ++ (V ++ n ++ s ++ d ++ U ++ u ++ F ++ f ++ I ++ r ++ R ++ x)) ++ z
+        → ((((((H ++ V) ++ n) ++ s) ++ d) ++ (U ++ (u ++ (F ++ f)))) ++ (I ++ (r ++ (R ++ x)))) ++ z ≡ (H ++ (V ++ n ++ s ++ d ++ U ++ u ++ F ++ f ++ I ++ r ++ R ++ x)) ++ z
     regroup H V n s d U u F f I r R x z = simp append_assoc
 
 -- all lines of a run
 pub run_together : (text name line rows : List ℕ) (loaded : LoadedVolume)
     → text ≡ ((codes "ADR101I (001) PRINT STARTED\n" ++ line) ++ rows) ++ codes "ADR102I (001) PRINT ENDED CODE 0\nADR103I (000) MAXIMUM CODE 0\n"
-    → line ≡ space_line name loaded.usable loaded.free.runs → rows ≡ flat_map (λ row. row_lines 1 15 (row_in row)) loaded.rows → text ≡ listed_run name loaded
+    → line ≡ space_line name loaded.device loaded.usable loaded.free.runs → rows ≡ flat_map (λ row. row_lines 1 15 (row_in row)) loaded.rows → text ≡ listed_run name loaded
 run_together text name line rows loaded is line-is rows-is =
     is ∙ (λ i. ((codes "ADR101I (001) PRINT STARTED\n" ++ line-is i) ++ rows-is i) ++ (ends (48 ∷ []) ++ last (48 ∷ [])))
-    ∙ regroup (codes "ADR101I (001) PRINT STARTED\n") (space_line name loaded.usable loaded.free.runs) (flat_map (λ row. row_lines 1 15 (row_in row)) loaded.rows) (ends (48 ∷ [])) (last (48 ∷ []))
-    ∙ (λ i. (codes "ADR101I (001) PRINT STARTED\n" ++ (space_line name loaded.usable loaded.free.runs ++ flat_map (λ row. row_lines 1 15 (row_in row)) loaded.rows))
+    ∙ regroup (codes "ADR101I (001) PRINT STARTED\n") (space_line name loaded.device loaded.usable loaded.free.runs) (flat_map (λ row. row_lines 1 15 (row_in row)) loaded.rows) (ends (48 ∷ [])) (last (48 ∷ []))
+    ∙ (λ i. (codes "ADR101I (001) PRINT STARTED\n" ++ (space_line name loaded.device loaded.usable loaded.free.runs ++ flat_map (λ row. row_lines 1 15 (row_in row)) loaded.rows))
     ++ ends (sym decimal_0 i) ++ last (sym decimal_0 i))
   where
     ends : List ℕ → List ℕ
@@ -157,10 +157,15 @@ run_together text name line rows loaded is line-is rows-is =
     regroup : (S V R E X : List ℕ) → ((S ++ V) ++ R) ++ (E ++ X) ≡ (S ++ (V ++ R)) ++ E ++ X
     regroup S V R E X = simp append_assoc
 
+heads_15 : (device : Device) → heads_of device ≡ 15
+heads_15 D3390 = refl
+heads_15 D3380 = refl
+
 -- what a run prints that lists the volume
 pub listed : (name : List ℕ) (loaded : LoadedVolume) (shown : Volume) → IsSerialName name → IsListedAs name loaded shown → listed_run name loaded ≡ printed_run shown
 listed name loaded shown named h =
-    (λ i. whole D3390 name loaded.usable loaded.free.runs (sym (flat_map-map (row_lines 1 15) row_in loaded.rows) i))
+    (λ i. whole loaded.device name loaded.usable loaded.free.runs (sym (flat_map-map (row_lines 1 15) row_in loaded.rows) i))
+    ∙ (λ i. whole loaded.device name loaded.usable loaded.free.runs (flat_map (row_lines 1 (sym (heads_15 loaded.device) i)) (map row_in loaded.rows)))
     ∙ sym (λ i. parts (h.device i) (printed_serial name shown.label.serial.text named h.serial i) (h.usable i) (h.free i) (h.rows i))
   where
     whole : Device → List ℕ → ℕ → List Run → List ℕ → List ℕ

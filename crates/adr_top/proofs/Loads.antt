@@ -18,11 +18,9 @@ use Rattle.volume_model.specs.Sound.{Slots, Volume}
 use Rattle.volume_model.specs.Check.{extents_in}
 use Rattle.volume_model.specs.Space.{is_free, track_at}
 use Rattle.free_map.specs.Runs.{AreMaximalRuns}
-use Rattle.vtoc_core.specs.declared.volume.Volume.{Volume as LoadedVolume}
 use Rattle.vtoc_core.specs.Loaded.{row_in}
 use Rattle.vtoc_core.specs.Plain.{HasPlainVtoc}
 use Rattle.adr_top.specs.declared.load.Loaded.{Loaded}
-use Rattle.adr_top.specs.AsLoaded.{IsListedAs}
 use Rattle.adr_top.specs.Form.{IsPlainUnit, HasPlainUnit}
 use Rattle.adr_top.specs.Loaded.{IsLabelAt, IsFront, IsLoadedUnit}
 
@@ -98,11 +96,6 @@ read_slot_is slots later label device track bytes is number same read =
 
 -- ---- a unit that was loaded
 
-pub record Shows (name head : List ℕ) (blocks : ℕ) (slots : Slots) (loaded : LoadedVolume) : Type 0 where
-  pub volume : Volume
-  pub stands : IsPlainUnit name head blocks slots volume
-  pub listed : IsListedAs name loaded volume
-
 -- the volume as it was read
 abbrev pub volume_in : Loaded → Volume
 volume_in loaded = record {
@@ -140,8 +133,3 @@ unit_in name text head blocks slots loaded spelled is =
       indicators = read.stands.indicators;
       plain = read.stands.plain;
     }
-
-pub shows : (name text head : List ℕ) (blocks : ℕ) (slots : Slots) (loaded : Loaded) → Spells name text → IsLoadedUnit text head blocks slots loaded → Shows name head blocks slots loaded.volume
-shows name text head blocks slots loaded spelled unit =
-    let stands = unit_in name text head blocks slots loaded spelled unit in
-    record { volume = volume_in loaded; stands = stands; listed = record { device = unit.front.device; serial = stands.serial; usable = refl; free = refl; rows = refl } }

@@ -1,4 +1,4 @@
--- The form of words, text and unit that is built: one listing of a 3390 whose VTOC is plain, or one release on it.
+-- The form of words, text and unit that is built: one listing of a volume, or one release on a 3390 whose VTOC is plain.
 use Rattle.std.specs.Prelude.{◌≡◌, ◌⊎◌, ℕ, List, [], ◌∷◌, false, Option, IfSome, Contains, take, slice_index}
 use Rattle.ckd_image.specs.declared.device.Device.TheVariants.{D3390}
 use Rattle.dasd_pool.specs.Disk.{Image, Shape}
@@ -23,6 +23,15 @@ use Rattle.adr_top.specs.declared.statement.Statement.TheVariants.{Print, Releas
 use Rattle.adr_top.specs.Statement.{IsStatementText}
 use Rattle.adr_top.specs.Words.{Named, AreUnitWords}
 
+-- The unit is a volume that passes its checks, and its label has this serial's name.
+pub record IsNamedUnit (name head : List ℕ) (blocks : ℕ) (slots : Slots) (volume : Volume) : Type 0 where
+  pub stands : IsVolume head blocks slots false volume
+  pub serial : Spells name volume.label.serial.text
+
+-- some volume is on it
+abbrev pub HasNamedUnit : List ℕ → List ℕ → ℕ → Slots → Type 0
+HasNamedUnit name head blocks slots = (volume : Volume) × IsNamedUnit name head blocks slots volume
+
 -- The unit is a 3390 volume with this serial's name, whose VTOC is one track of data sets of at most one extent, with one format 5
 -- and no indicator on.
 pub record IsPlainUnit (name head : List ℕ) (blocks : ℕ) (slots : Slots) (volume : Volume) : Type 0 where
@@ -32,7 +41,7 @@ pub record IsPlainUnit (name head : List ℕ) (blocks : ℕ) (slots : Slots) (vo
   pub indicators : slice_index stands.vtoc_stands.bytes 58 ≡ 0
   pub plain : IsPlainVtoc stands.vtoc
 
--- some volume is on it
+-- such a volume is on it
 abbrev pub HasPlainUnit : List ℕ → List ℕ → ℕ → Slots → Type 0
 HasPlainUnit name head blocks slots = (volume : Volume) × IsPlainUnit name head blocks slots volume
 
@@ -83,7 +92,7 @@ IsOutsideText words text =
 
 -- unit 0 isn't of the form for a statement, as the pool's blocks read
 abbrev pub IsOtherFor : List ℕ → Statement → List ℕ → ℕ → Slots → Type 0
-IsOtherFor name Print head blocks slots = ¬ HasPlainUnit name head blocks slots
+IsOtherFor name Print head blocks slots = ¬ HasNamedUnit name head blocks slots
 IsOtherFor name (Release dsn) head blocks slots = (¬ HasPlainUnit name head blocks slots) ⊎ Withholds name head blocks slots dsn
 
 abbrev pub IsOtherUnit : List ℕ → Statement → Shape → Image → Type 0

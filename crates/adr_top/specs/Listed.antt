@@ -5,13 +5,13 @@ use Rattle.dasd_pool.specs.Stream.{Takes, Appends, AppendsSome}
 use Rattle.volume_model.specs.Sound.{Slots, Volume}
 use Rattle.dasd_pool.specs.Disk.{Image, Shape, State}
 use Rattle.redo_core.specs.Reading.{Reading, Reads}
-use Rattle.adr_top.specs.Form.{IsPlainUnit}
+use Rattle.adr_top.specs.Form.{IsNamedUnit}
 use Rattle.adr_top.specs.Print.{printed_run}
 
--- the unit with this head and these slots is a volume of the form, and the text is what a run prints that lists it
+-- the unit with this head and these slots is a volume of this name, and the text is what a run prints that lists it
 pub record ListsVolume (name head : List ℕ) (blocks : ℕ) (slots : Slots) (text : List ℕ) : Type 0 where
   pub volume : Volume
-  pub stands : IsPlainUnit name head blocks slots volume
+  pub stands : IsNamedUnit name head blocks slots volume
   pub text_is : text ≡ printed_run volume
 
 -- the same of unit 0, as the pool's blocks read

@@ -11,6 +11,7 @@ ghost use Rattle.move_core.specs.Facts.{shown};
 ghost use Rattle.move_core.specs.Runs.{IsRun};
 ghost use Rattle.adr_top.specs.declared.statement.Statement.TheVariants as statements;
 ghost use Rattle.adr_top.specs.Form.{IsOtherUnit};
+ghost use Rattle.adr_top.specs.AsLoaded.{Shows, HasNone};
 ghost use Rattle.adr_top.specs.Listed.{ListsUnit};
 ghost use Rattle.adr_top.specs.Meaning.{ReadsAfter};
 ghost use Rattle.adr_top.specs.Parts.{EndsStatement};
@@ -19,7 +20,6 @@ ghost use Rattle.adr_top.specs.Statement.{IsNamed};
 ghost use Rattle.adr_top.specs.Stops.{IsUnitStop};
 
 use crate::left::{Moved, unmoved};
-use crate::load::load;
 use crate::print::listing_text;
 use crate::release::{Change, Plan, plan_release, shrinking};
 use crate::released::nothing_text;
@@ -30,8 +30,43 @@ use dasd_pool::{Pool, Sink};
 use move_core::Dsn;
 use redo_core::Journal;
 use std::alloc::Global;
+use unit_load::{LoadedUnit, UnitFault, UnitState, load_unit};
+use vol_label::Serial;
+use vtoc_core::Volume;
 
-/// The lines of the volume on unit 0, where it is of the form.
+/// The volume on unit 0, where it has this serial.
+fn named_volume<P: Pool>(
+    alloc: Global,
+    journal: &mut Journal<P>,
+    serial: Serial,
+) -> Result<Volume, Stop>
+    requires unit { 0 < journal_of (P.shape journal.old.pool) }
+    ensures shows { P.tells → IfOk result (Shows serial.text ((P.shape journal.old.pool).head 0) ((P.shape journal.old.pool).blocks 0) ((P.disk journal.old.pool).state.contents 0)) }
+    ensures fault { IfErr result (IsUnitStop (P.faults journal.old.pool) (P.faults journal.new.pool)
+        (P.tells → HasNone serial.text ((P.shape journal.old.pool).head 0) ((P.shape journal.old.pool).blocks 0) ((P.disk journal.old.pool).state.contents 0))) }
+    ensures later { P.faults journal.old.pool ≤ P.faults journal.new.pool }
+    ensures shape { P.shape journal.new.pool ≡ P.shape journal.old.pool }
+    ensures same { P.tells → (P.disk journal.new.pool).state ≡ (P.disk journal.old.pool).state }
+    ensures runs { P.tells → Runs none (P.disk journal.old.pool) (P.disk journal.new.pool) }
+{
+    // A block is no longer than a slot can be.
+    let _size = journal.block_size(0);
+    let loaded = match load_unit(alloc, journal, 0) {
+        Ok(loaded) => loaded,
+        Err(UnitFault::Pool) => return Err(Stop::Pool),
+        Err(UnitFault::NoMemory) => return Err(Stop::Memory),
+    };
+    let LoadedUnit { state, .. } = loaded;
+    let UnitState::Online(volume) = state else {
+        return Err(Stop::Form);
+    };
+    if volume.serial != serial {
+        return Err(Stop::Form);
+    }
+    Ok(volume)
+}
+
+/// The lines of the volume on unit 0, where there is one with this serial.
 fn lines<P: Pool>(
     alloc: Global,
     files: FileWords<'_>,
@@ -49,10 +84,8 @@ fn lines<P: Pool>(
     ensures same { P.tells → (P.disk journal.new.pool).state ≡ (P.disk journal.old.pool).state }
     ensures runs { P.tells → Runs none (P.disk journal.old.pool) (P.disk journal.new.pool) }
 {
-    let Some(loaded) = load(alloc, journal, files.serial)? else {
-        return Err(Stop::Form);
-    };
-    Ok(listing_text(alloc, files.name, &loaded.volume)?)
+    let volume = named_volume(alloc, journal, files.serial)?;
+    Ok(listing_text(alloc, files.name, &volume)?)
 }
 
 /// Lists the volume on unit 0.

@@ -4,10 +4,11 @@ ghost use Rattle.std.specs.Prelude.{◌≡◌, ◌++◌, ◌∷◌, [], IfOk, On
 ghost use Rattle.std.specs.Fmt.{decimal};
 ghost use Rattle.vol_label.specs.Serial.{IsSerialName};
 ghost use Rattle.volume_model.specs.Sound.{Volume as ShownVolume};
-ghost use Rattle.adr_top.specs.Print.{printed_run};
+ghost use Rattle.adr_top.specs.Print.{device_name as name_of_device, printed_run};
 ghost use Rattle.adr_top.specs.AsLoaded.{IsListedAs, space_line};
 
 use crate::listing::push_rows;
+use ckd_image::Device;
 use std::alloc::{AllocError, Global};
 use vtoc_core::Volume;
 
@@ -25,23 +26,33 @@ fn runs_text(alloc: Global, runs: usize, index: u32) -> Result<String, AllocErro
     format!(in alloc; " IN {runs} RUNS INDEX {index}")
 }
 
-/// The line of a 3390 whose serial has this name.
+fn device_name(device: Device) -> &'static str
+    ensures { result.now ≡ name_of_device device }
+{
+    match device {
+        Device::D3390 => "3390",
+        Device::D3380 => "3380",
+    }
+}
+
+/// The line of a volume whose serial has this name.
 fn volume_line(alloc: Global, name: &str, volume: &Volume) -> Result<String, AllocError>
-    ensures { IfOk result (λ text. string_bytes text ≡ space_line name.now volume.now.usable volume.now.free.runs) }
+    ensures { IfOk result (λ text. string_bytes text ≡ space_line name.now volume.now.device volume.now.usable volume.now.free.runs) }
 {
     let free = &volume.free;
     let tracks = tracks_text(alloc, volume.usable, free.count())?;
     let runs = runs_text(alloc, free.runs().len(), free.index())?;
     let mut text = String::from_str(alloc, "ADR110I (001) VOLUME ")?;
     text.push_str(name)?;
-    text.push_str(" 3390")?;
+    text.push_str(" ")?;
+    text.push_str(device_name(volume.device))?;
     text.push_str(tracks.as_str())?;
     text.push_str(runs.as_str())?;
     text.push_str("\n")?;
     Ok(text)
 }
 
-/// The lines of a run that lists a 3390 with its data sets, where the serial has this name.
+/// The lines of a run that lists a volume with its data sets, where the serial has this name.
 pub(crate) fn listing_text(alloc: Global, name: &str, volume: &Volume) -> Result<String, AllocError>
     requires { IsSerialName name.now }
     ensures { IfOk result (λ text. (shown : ShownVolume) → IsListedAs name.now volume.now shown → string_bytes text ≡ printed_run shown) }

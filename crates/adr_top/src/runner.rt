@@ -169,8 +169,8 @@ fn end<P>(moved: Moved<P>, outs: Vec<OutDd>, ins: Vec<InDd>) -> Ended<P>
 
 /// Runs the words of `adrdssu`: reads the text from `sysin`, runs it over the pool, and writes the lines to `out`.
 ///
-/// Built are one listing of a 3390 volume whose VTOC is one track with data sets of at most one extent, the release of one data set
-/// on it, and the making of a journal; for other words, texts and volumes the status is 48. `held` isn't read.
+/// Built are one listing of a volume that passes its checks, the release of one data set on a 3390 whose VTOC is one track with data
+/// sets of at most one extent, and the making of a journal; for other words, texts and volumes the status is 48. `held` isn't read.
 pub fn batch<S: Source, H: Source, O: Sink, P: Pool>(
     alloc: Global,
     words: &[Word],

@@ -105,7 +105,7 @@ fn run_jobs(
     Ok(ended.status)
 }
 
-/// What has a form that isn't built: the text, or else the volume where it isn't listed either.
+/// What has a form that isn't built: the text, or else the volume where it isn't listed either, or else what is to be released.
 fn outside(rt: &HostRuntime, words: &[Word], pool: FilePool<File>, sysin: &str) -> Outside {
     match is_other_text(rt, words, sysin) {
         None => return Outside::Unknown,
@@ -113,7 +113,7 @@ fn outside(rt: &HostRuntime, words: &[Word], pool: FilePool<File>, sysin: &str) 
         Some(false) => {}
     }
     match is_listed(rt, words, pool) {
-        Ok(true) => Outside::DataSet,
+        Ok(true) => Outside::Release,
         Ok(false) => Outside::Volume,
         Err(NoMemory) => Outside::Unknown,
     }

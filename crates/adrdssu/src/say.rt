@@ -103,7 +103,7 @@ fn say_failure(rt: &HostRuntime, pool: &FilePool<File>, units: &UnitPaths, journ
 pub enum Outside {
     Text,
     Volume,
-    DataSet,
+    Release,
     Unknown,
 }
 
@@ -111,8 +111,8 @@ pub enum Outside {
 pub fn say_outside(rt: &HostRuntime, outside: Outside) {
     let line = match outside {
         Outside::Text => "the text is no statement that is built yet",
-        Outside::Volume => "the volume has a form that isn't built yet",
-        Outside::DataSet => "the data set has a form that isn't built yet",
+        Outside::Volume => "the volume doesn't pass its checks",
+        Outside::Release => "the volume or the data set has a form whose release isn't built yet",
         Outside::Unknown => "the text, the volume or the data set has a form that isn't built yet",
     };
     say(rt, line);

@@ -40,10 +40,10 @@ module _ (words : List (List ℕ)) (sysin : Option (List ℕ)) (tells : Type 0) 
   }
 
   listed_of : (name text : List ℕ) → ListsUnit name shape old.contents text → HasListed shape old
-  listed_of name text m = record { name = name; reading = m.reading; reads = m.reads; plain = (m.lists.volume, m.lists.stands) }
+  listed_of name text m = record { name = name; reading = m.reading; reads = m.reads; named = (m.lists.volume, m.lists.stands) }
 
   released_of : (name text : List ℕ) (dsn : Dsn) → ReleasesUnit name dsn shape old.contents code steps text → HasListed shape old
-  released_of name text dsn m = record { name = name; reading = m.reading; reads = m.reads; plain = (m.volume, m.stands) }
+  released_of name text dsn m = record { name = name; reading = m.reading; reads = m.reads; named = (m.volume, record { stands = m.stands.stands; serial = m.stands.serial }) }
 
   means_listed : (text : List ℕ) → MeansText words sysin tells shape old.contents code steps text → HasListed shape old
   means_listed text means =

@@ -4,7 +4,6 @@ use Rattle.std.specs.Prelude.{not, slice_get, IfSome}
 use Rattle.std.specs.List.{AllByRecursion}
 use Rattle.std.proofs.lemmas.List.Elements.{recursion_from_All}
 use Rattle.std.proofs.lemmas.Option.{slice_get_within}
-use Rattle.ckd_image.specs.declared.device.Device.{Device}
 use Rattle.ckd_image.specs.Device.{heads_of}
 use Rattle.dasd_pool.specs.Disk.{Image, Shape, State}
 use Rattle.free_map.specs.Runs.{InRuns}
@@ -23,6 +22,7 @@ use Rattle.move_core.specs.Resuming.{new_reading}
 use Rattle.move_core.specs.Stands.{is_sliding, place_in, Means}
 use Rattle.move_core.proofs.Below.{IsRunBelow, RowHasRuns, run_below, sound_rows}
 use Rattle.move_core.proofs.Frames.{tracks_all}
+use Rattle.move_core.proofs.OneVtoc.{heads_15}
 use Rattle.move_core.proofs.Resuming.{formatted_settled}
 use Rattle.rows_headline.specs.Made.{IsSettledVolume, AreTold, IsMade, HasListed, StaysSettled}
 
@@ -127,17 +127,17 @@ module _ (shape : Shape) (volumes : Image) (names : List Serial) (room : ℕ) (v
   means_that : shape.units ≡ 2 → Means shape (new_reading volumes names room) (online volume ∷ [])
   means_that two = record { found = online volume ∷ []; found_are = record { count = omega (arith, two); each = each_unit }; after = refl }
 
--- A journal was made for a volume that is of the form, and each of its tracks was looked at: the pool is settled.
+-- A journal was made for a volume that is listed, and each of its tracks was looked at: the pool is settled.
 pub settled_there : (shape : Shape) (old made : State) → shape.units ≡ 2 → AreTold 15 (old.contents 0) (shape.blocks 0) → IsMade shape old made → HasListed shape made → IsSettledVolume shape made
 settled_there shape old made two told journal listed =
     let some : 0 < journal_of shape = omega (arith, two) in
     let facts : Facts = record { shape = shape; names = journal.names; room = journal.room } in
     let same : (b : ℕ) → listed.reading.volumes 0 b ≡ old.contents 0 b = λ b. listed.reads.volumes_are 0 b some ∙ sym (journal.formatted.reads.volumes_are 0 b some) in
     let slots : listed.reading.volumes 0 ≡ old.contents 0 = λ i b. same b i in
-    let P : Slots → Type 0 = λ slots. IsVolume (shape.head 0) (shape.blocks 0) slots false listed.plain.0 in
-    let is = subst P slots listed.plain.1.stands in
-    let Q : Device → Type 0 = λ device. AreTold (heads_of device) (old.contents 0) (shape.blocks 0) in
-    let volume = online_there (shape.head 0) (shape.blocks 0) (old.contents 0) listed.plain.0 is (subst Q (sym listed.plain.1.device) told) in
+    let P : Slots → Type 0 = λ slots. IsVolume (shape.head 0) (shape.blocks 0) slots false listed.named.0 in
+    let is = subst P slots listed.named.1.stands in
+    let Q : ℕ → Type 0 = λ heads. AreTold heads (old.contents 0) (shape.blocks 0) in
+    let volume = online_there (shape.head 0) (shape.blocks 0) (old.contents 0) listed.named.0 is (subst Q (sym (heads_15 listed.named.0.device)) told) in
     record {
       facts = facts;
       shape_is = refl;
@@ -151,9 +151,9 @@ settled_there shape old made two told journal listed =
 module _ {T : Type 0} (shape_at : T → Shape) (state_at : T → State) (shape : Shape) (old made : State) (two : shape.units ≡ 2) (told : AreTold 15 (old.contents 0) (shape.blocks 0)) (journal : IsMade shape old made) where
   pub settled_back : (result : Option T) → IfSome result (λ listed. HasListed shape made) → IfSome result (λ listed. StaysSettled shape made (state_at listed))
       → IfSome result (λ listed. shape_at listed ≡ shape) → IfSome result (λ listed. IsSettledVolume (shape_at listed) (state_at listed))
-  settled_back None plain stays same = tt
-  settled_back (Some listed) plain stays same =
-      let before = settled_there shape old made two told journal plain in
+  settled_back None named stays same = tt
+  settled_back (Some listed) named stays same =
+      let before = settled_there shape old made two told journal named in
       subst (λ (s : Shape). IsSettledVolume s (state_at listed)) (sym same)
       (record {
         facts = before.facts;

@@ -10,7 +10,7 @@ use Rattle.volume_model.specs.Sound.{Slots}
 use Rattle.volume_model.specs.Unit.{Text, OnlineVolume, UnitModel, online}
 use Rattle.move_core.specs.Facts.{Facts}
 use Rattle.move_core.specs.Stands.{IsSettled}
-use Rattle.adr_top.specs.Form.{HasPlainUnit}
+use Rattle.adr_top.specs.Form.{HasNamedUnit}
 
 -- a pool of this shape is settled for some units, of which the first is a volume that is online
 pub record IsSettledVolume (shape : Shape) (state : State) : Type 0 where
@@ -40,12 +40,12 @@ pub record IsMade (shape : Shape) (old new : State) : Type 0 where
   pub allowed : MayFormat shape old.contents names
   pub formatted : IsFormatted shape old names room new
 
--- unit 0 is a volume of the form, as the pool's blocks read
+-- unit 0 is a volume of some name, as the pool's blocks read
 pub record HasListed (shape : Shape) (state : State) : Type 0 where
   pub name : List ℕ
   pub reading : Reading
   pub reads : Reads shape state.contents reading
-  pub plain : HasPlainUnit name (shape.head 0) (shape.blocks 0) (reading.volumes 0)
+  pub named : HasNamedUnit name (shape.head 0) (shape.blocks 0) (reading.volumes 0)
 
 -- a pool that was settled for units is settled for them still
 abbrev pub StaysSettled : Shape → State → State → Type 0

@@ -43,12 +43,14 @@ ADR103I (000) MAXIMUM CODE 0
 
 const NOT_OF_THE_FORM: &str = "ADR548T (000) RUN ENDED WITH STATUS 48\n";
 
-/// Where the bytes of the first, the second and the third DSCB begin among those of the unit.
+/// Where the bytes of the first DSCBs begin among those of the unit.
 const FOUR: usize = SLOT + 29;
 
 const FIVE: usize = SLOT + 177;
 
 const THIRD: usize = SLOT + 325;
+
+const FOURTH: usize = SLOT + 473;
 
 /// Status and lines of a run of a text over a volume.
 fn ends(alloc: Global, text: &[u8], given: Given) -> Result<(u8, String), RowsFault> {
@@ -61,6 +63,92 @@ fn a_volume_without_data_sets_is_listed(rt: HostRuntime) -> Result<(), Fail> {
         let (status, lines) = ends(rt.alloc(), text, GIVEN)?;
         assert_eq!(rt; status, 0);
         assert_eq!(rt; lines.as_str(), LISTING);
+    }
+    Ok(())
+}
+
+const TWO_EXTENTS: &str = "ADR101I (001) PRINT STARTED
+ADR110I (001) VOLUME VOL001 3390 USABLE 15 FREE 2 IN 2 RUNS INDEX 500
+ADR111I (001) A.B PS EXTENTS 2 TRACKS 11 LAST 000201
+ADR112I (001) EXTENT 1 KIND 01 FROM 2 LENGTH 10
+ADR112I (001) EXTENT 2 KIND 01 FROM 13 LENGTH 1
+ADR102I (001) PRINT ENDED CODE 0
+ADR103I (000) MAXIMUM CODE 0
+";
+
+/// Volumes that a release doesn't take yet, and their listings.
+const OTHERS: [(Given, &str); 4] = [
+    // with an index
+    (
+        Given {
+            blocks: &[(FOUR + 58, 1)],
+            ..GIVEN
+        },
+        LISTING,
+    ),
+    // format 5 isn't valid: it states three free tracks, and no data set has the others
+    (
+        Given {
+            vtoc: Vtoc {
+                entries: &[(2, 3)],
+                ..BASE
+            },
+            blocks: &[(FOUR + 58, 0x80)],
+            ..GIVEN
+        },
+        LISTING,
+    ),
+    // a second extent on track 13, and two runs of one free track each
+    (
+        Given {
+            vtoc: Vtoc {
+                entries: &[(12, 1), (14, 1)],
+                ..BASE
+            },
+            blocks: &[
+                (THIRD + 59, 2),
+                (THIRD + 115, 1),
+                (THIRD + 116, 1),
+                (THIRD + 120, 13),
+                (THIRD + 124, 13),
+            ],
+            ..WITH_SET
+        },
+        TWO_EXTENTS,
+    ),
+    // the same extent in a format 3, record 4 of the VTOC, to which the format 1 points
+    (
+        Given {
+            vtoc: Vtoc {
+                entries: &[(12, 1), (14, 1)],
+                ..BASE
+            },
+            blocks: &[
+                (THIRD + 59, 2),
+                (THIRD + 138, 1),
+                (THIRD + 139, 4),
+                (FOURTH, 3),
+                (FOURTH + 1, 3),
+                (FOURTH + 2, 3),
+                (FOURTH + 3, 3),
+                (FOURTH + 4, 1),
+                (FOURTH + 5, 3),
+                (FOURTH + 9, 13),
+                (FOURTH + 13, 13),
+                (FOURTH + 44, 0xf3),
+            ],
+            ..WITH_SET
+        },
+        TWO_EXTENTS,
+    ),
+];
+
+#[test]
+fn a_volume_that_no_release_takes_is_listed(rt: HostRuntime) -> Result<(), Fail> {
+    for (given, want) in OTHERS {
+        let (status, lines) = ends(rt.alloc(), TEXT, given)?;
+        assert_eq!(rt; status, 0);
+        assert_eq!(rt; lines.as_str(), want);
     }
     Ok(())
 }
@@ -237,7 +325,6 @@ fn other_vtocs_are_refused_with_one_line(rt: HostRuntime) -> Result<(), Fail> {
         with(&[(SLOT + 4, 2)]), // the track at another address
         with(&[(FIVE - 4, 3)]), // a number twice
         with(&[(FOUR + 44, 0xf6)]), // no format 4
-        with(&[(FOUR + 58, 1)]), // an indicator
         with(&[(FOUR + 63, 0)]), // no cylinders
         with(&[(FOUR + 65, 14)]), // other heads
         with(&[(FOUR + 105, 0)]), // no extent
