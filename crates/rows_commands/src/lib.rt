@@ -1,0 +1,5 @@
+//! Tests: the operands of SYSIN commands.
+#![tactic(auto)]
+
+#[cfg(test)]
+mod tests;
