@@ -74,3 +74,18 @@ pub fn begun<P: Pool + Drop>(
         Err(stop) => Err(stop.cause),
     }
 }
+
+/// The slot of a track, or none where there is no such track.
+pub fn slot_of<P: Pool>(
+    alloc: Global,
+    session: &mut Session<P>,
+    unit: u32,
+    track: u32,
+) -> Result<Vec<u8>, RowsFault> {
+    if unit >= session.units() || track >= session.blocks(unit) {
+        return Ok(Vec::new(alloc));
+    }
+    let mut slot = vec![in alloc; 0u8; session.block_size(unit) as usize]?;
+    session.read_slot(unit, track, &mut slot)?;
+    Ok(slot)
+}

@@ -4,7 +4,7 @@ ghost use Rattle.unit_load.specs.declared.state.UnitState.{UnitState as StateOf}
 ghost use Rattle.unit_steps.specs.Plans.{IsLoadedAt, IsPlan};
 ghost use Rattle.step_plans.specs.Plans.{IsSound};
 
-use crate::ground::{Beside, NAMES, SECOND, begun, pool_of};
+use crate::ground::{Beside, NAMES, SECOND, begun, pool_of, slot_of};
 use ckd_image::Bytes;
 use dasd_pool::{MemoryPool, Pool, Tear, UnitText};
 use dsn_filter::Dsn;
@@ -79,13 +79,7 @@ const OPENING: u64 = 5;
 const TEARS: [Tear; 4] = [Tear::Old, Tear::New, Tear::Zero, Tear::Half];
 
 /// The plan of a step on a volume.
-fn plan_on(
-    alloc: Global,
-    wanted: Wanted,
-    unit: u32,
-    volume: &Volume,
-    name: Dsn,
-) -> Option<Plan>
+fn plan_on(alloc: Global, wanted: Wanted, unit: u32, volume: &Volume, name: Dsn) -> Option<Plan>
     requires sound { IsSound volume.now }
     requires name { IsDsn name }
     ensures { IfSome result (λ plan. (units : List StateOf) → IsLoadedAt units unit volume.now → IsPlan units plan) }
@@ -237,19 +231,22 @@ struct Volumes {
     second: UnitText,
 }
 
-/// A volume whose VTOC is that of another.
+/// A volume whose VTOC, on track 1, is that of another.
 fn with_vtoc_of(alloc: Global, given: Given, other: Given) -> Result<UnitText, RowsFault> {
-    let UnitText { head, blocks } = volume(alloc, given)?;
+    let given = volume(alloc, given)?;
     let other = volume(alloc, other)?;
-    let mut bytes = blocks.into_vec();
-    if let (Some(here), Some(there)) = (
-        bytes.get_mut(SLOT..2 * SLOT),
-        other.blocks.as_slice().get(SLOT..2 * SLOT),
-    ) {
-        here.copy_from_slice(there);
+    let mut bytes = Vec::new(alloc);
+    let mut track = 0u32;
+    for slot in given.blocks.as_slice().chunks(SLOT) {
+        let slot = match other.blocks.as_slice().chunks(SLOT).nth(1) {
+            Some(vtoc) if track == 1 => vtoc,
+            _ => slot,
+        };
+        bytes.extend_from_slice(slot)?;
+        track = track.saturating_add(1);
     }
     Ok(UnitText {
-        head,
+        head: given.head,
         blocks: Bytes::from_vec(bytes),
     })
 }
@@ -272,22 +269,15 @@ fn holds<P: Pool>(
     unit: u32,
     want: &UnitText,
 ) -> Result<bool, RowsFault> {
-    if unit >= session.units() {
-        return Ok(false);
-    }
-    let mut slot = vec![in alloc; 0u8; session.block_size(unit) as usize]?;
     let mut track = 0u32;
     for bytes in want.blocks.as_slice().chunks(SLOT) {
-        if track >= session.blocks(unit) {
-            return Ok(false);
-        }
-        session.read_slot(unit, track, &mut slot)?;
+        let slot = slot_of(alloc, session, unit, track)?;
         if slot.as_slice() != bytes {
             return Ok(false);
         }
         track = track.saturating_add(1);
     }
-    Ok(track == session.blocks(unit))
+    Ok(true)
 }
 
 /// How many data sets and free tracks the volume on a unit has, and whether its free space isn't stated.
@@ -326,8 +316,10 @@ fn is_right(alloc: Global, pool: &MemoryPool, stop: Stop) -> Result<bool, RowsFa
         return Ok(false);
     }
     let volumes = volumes_after(alloc, steps)?;
-    Ok(holds(alloc, &mut session, 0, &volumes.first)?
-        && holds(alloc, &mut session, 1, &volumes.second)?)
+    Ok(
+        holds(alloc, &mut session, 0, &volumes.first)?
+            && holds(alloc, &mut session, 1, &volumes.second)?,
+    )
 }
 
 #[test]

@@ -1,4 +1,4 @@
-use crate::ground::{Beside, NAMES, SECOND, are_names, begun, pool_of};
+use crate::ground::{Beside, NAMES, SECOND, are_names, begun, pool_of, slot_of};
 use dasd_pool::{MemoryPool, Pool};
 use redo_core::*;
 use rows_base::{Given, RowsFault, SLOT, WITH_SET, volume};
@@ -17,7 +17,7 @@ const BROKEN: Given = Given {
 };
 
 /// Two volumes and a journal of zeros, of which these calls fail.
-fn pool(
+fn pool_with(
     alloc: Global,
     first: Given,
     second: Given,
@@ -97,21 +97,6 @@ fn tracks_of<P: Pool>(session: &Session<P>, unit: u32) -> u32 {
     }
 }
 
-/// The slot of a track, or none where there is no such track.
-fn slot_of<P: Pool>(
-    alloc: Global,
-    session: &mut Session<P>,
-    unit: u32,
-    track: u32,
-) -> Result<Vec<u8>, RowsFault> {
-    if unit >= session.units() || track >= session.blocks(unit) {
-        return Ok(Vec::new(alloc));
-    }
-    let mut slot = vec![in alloc; 0u8; session.block_size(unit) as usize]?;
-    session.read_slot(unit, track, &mut slot)?;
-    Ok(slot)
-}
-
 /// A session on two volumes whose journal was made, or why there is none.
 fn started<P: Pool + Drop>(
     alloc: Global,
@@ -126,7 +111,7 @@ fn started<P: Pool + Drop>(
 
 #[test]
 fn a_session_has_each_unit_as_it_was_loaded(rt: HostRuntime) -> Result<(), Fail> {
-    let pool = pool(rt.alloc(), WITH_SET, BROKEN, &[])?;
+    let pool = pool_with(rt.alloc(), WITH_SET, BROKEN, &[])?;
     let Ok(mut session) = started(rt.alloc(), pool, &NAMES) else {
         assert!(rt; false, "no session");
         return Ok(());
@@ -155,13 +140,13 @@ fn a_session_has_each_unit_as_it_was_loaded(rt: HostRuntime) -> Result<(), Fail>
 #[test]
 fn a_session_begins_under_the_registered_names_alone(rt: HostRuntime) -> Result<(), Fail> {
     let names = [NAMES[1], NAMES[0]];
-    let pool = pool(rt.alloc(), WITH_SET, SECOND, &[])?;
+    let pool = pool_with(rt.alloc(), WITH_SET, SECOND, &[])?;
     let refused = started(rt.alloc(), pool, &names).err();
     assert_eq!(rt;
         refused,
         Some(JournalFault::WrongUnit(0, NAMES[0], NAMES[1]))
     );
-    let pool = pool(rt.alloc(), WITH_SET, SECOND, &[])?;
+    let pool = pool_with(rt.alloc(), WITH_SET, SECOND, &[])?;
     let Ok(session) = started(rt.alloc(), pool, &NAMES) else {
         assert!(rt; false, "no session");
         return Ok(());
@@ -173,7 +158,7 @@ fn a_session_begins_under_the_registered_names_alone(rt: HostRuntime) -> Result<
 
 /// The number of the pool's calls that make a journal, and of those that make it and begin a session.
 fn calls_of(alloc: Global) -> Result<(u64, u64), RowsFault> {
-    let Some(pool) = made(alloc, pool(alloc, WITH_SET, BROKEN, &[])?) else {
+    let Some(pool) = made(alloc, pool_with(alloc, WITH_SET, BROKEN, &[])?) else {
         return Ok((0, 0));
     };
     let making = pool.calls();
@@ -188,7 +173,7 @@ fn each_call_of_the_pool_that_fails_ends_the_beginning(rt: HostRuntime) -> Resul
     let (first, end) = calls_of(rt.alloc())?;
     assert!(rt; end.saturating_sub(first) > 3, "{first} {end}");
     for call in first..end {
-        let pool = pool(rt.alloc(), WITH_SET, BROKEN, &[call])?;
+        let pool = pool_with(rt.alloc(), WITH_SET, BROKEN, &[call])?;
         let refused = started(rt.alloc(), pool, &NAMES).err();
         assert_eq!(rt; refused, Some(JournalFault::Pool), "call {call}");
     }

@@ -32,10 +32,9 @@ returns-clause-kept g c =
     let less : unit < journal_of (g.P.Pool.shape inner) = omega (arith, c.requires, volumes) in
     let there = slice_get_read units (journal_of (g.P.Pool.shape inner)) unit c.index.result.now (sym was.2) less c.index.ensures in
     let slots : (list : List ℕ) × (slice_get vtocs unit ≡ Some list) = ⊎_elim
-        (λ within. (within.0, within.2))
-        (λ past. absurd (omega (arith, less, past.0, was.3.count)))
-        (slice_get_cases vtocs unit).1 in
-    (
+    (λ within. (within.0, within.2))
+    (λ past. absurd (omega (arith, less, past.0, was.3.count)))
+    (slice_get_cases vtocs unit).1 in (
       slots.0,
       subst (λ pool. IsKept ((g.P.Pool.shape pool).head unit) ((g.P.Pool.shape pool).blocks unit) c.index.result.now slots.0) pool_is
           (was.3.each unit c.index.result.now slots.0 there slots.1),
