@@ -1,0 +1,3 @@
+pub mod Trimming
+pub mod Digits
+pub mod Pieces

@@ -1,0 +1,13 @@
+//! What a run says: messages, and the lines that print them (DFSMSdss Storage Administration, messages).
+#![tactic(auto)]
+
+mod line;
+mod message;
+mod names;
+mod severity;
+mod texts;
+mod words;
+
+pub use line::line_of;
+pub use message::{ExtentSummary, Message, Reason, SetSummary, VolumeSummary};
+pub use severity::Severity;
