@@ -1,5 +1,5 @@
-mod LoadedRows
+pub mod LoadedRows
 mod Fields
-mod Fronts
+pub mod Fronts
 mod Cuts
 mod Swaps

@@ -18,3 +18,4 @@ pub mod CopyingTargets
 pub mod PlanVolumes
 pub mod CopyDone
 pub mod Prepared
+pub mod SetTexts

@@ -197,6 +197,14 @@ module _ {facts : Facts} {shape : Shape} {state : State} {room : ℕ} {control :
       → slice_get units u ≡ Some found → slice_get models u ≡ Some model → IsModel found model in
       subst P same (λ rest free loaded less there at. own_model facts state room control fills models rest free settled units loaded u found model less there at)
 
+  -- each is what its own blocks say
+  pub unit_at : (u : ℕ) (model : UnitModel) → IsAtRest shape state room control fills → IsFree shape control fills → u < journal_of shape → slice_get models u ≡ Some model
+      → IsUnit false false own_place (shape.head u) (shape.blocks u) (state.contents u) model
+  unit_at u model =
+      let P : Shape → Type 0 = λ s. IsAtRest s state room control fills → IsFree s control fills → u < journal_of s → slice_get models u ≡ Some model
+      → IsUnit false false own_place (s.head u) (s.blocks u) (state.contents u) model in
+      subst P same (λ rest free less at. own_unit facts state room control fills models rest free settled u model less at)
+
   pub models_at : (units : List UnitState) → IsAtRest shape state room control fills → IsFree shape control fills → HaveStates shape units → AreLoaded shape state.contents units
       → AreModels units models
   models_at units =

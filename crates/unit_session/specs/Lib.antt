@@ -1,3 +1,4 @@
 pub mod Sessions
 pub mod Copies
 pub mod Planned
+pub mod Texts

@@ -71,7 +71,7 @@ fn add_extent(device: Device, extent: &Extent, tracks: &mut Vec<u32>) -> Result<
 }
 
 /// The tracks of a row's extents, in order.
-fn tracks_of(alloc: Global, device: Device, row: &Row) -> Result<Vec<u32>, NoMemory>
+pub(crate) fn tracks_of(alloc: Global, device: Device, row: &Row) -> Result<Vec<u32>, NoMemory>
     ensures { IfOk result (λ tracks. tracks.items ≡ models.tracks_of (extents_of (heads_of device) row.now)) }
 {
     let mut tracks = Vec::new(alloc);

@@ -9,6 +9,7 @@ mod patching;
 mod planned;
 mod rendering;
 mod session;
+mod texts;
 
 pub use copies::{Copies, TextMove};
 pub use fault::{Broken, PlanFault, PlanStop};

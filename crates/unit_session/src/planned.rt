@@ -9,7 +9,7 @@ ghost use Rattle.move_core.specs.Runs.{IsRun, Ended};
 ghost use Rattle.unit_load.specs.Reads.{OnlyReads};
 ghost use Rattle.unit_steps.specs.Laws.{AreSized};
 ghost use Rattle.unit_steps.specs.Plans.{IsPlan};
-ghost use Rattle.unit_steps.specs.Rendering.{units_after};
+ghost use Rattle.unit_steps.specs.Rendering.{WereRendered, units_after};
 ghost use Rattle.unit_session.specs.Sessions.{IsSameSession};
 ghost use Rattle.unit_session.specs.declared.copies.Copies.{Copies as CopiesOf};
 ghost use Rattle.unit_session.specs.Copies.{OnCopies, MayCopy, HaveTexts, IsLookFault, OnlyWrites, CopiesLeave, IsShortFor, contents_of, may_write_for};
@@ -126,6 +126,7 @@ impl<P: Pool> Session<P> {
         ensures session { IfOk result (λ planned. IsSameSession P.Pool self planned.session) }
         ensures plan { IfOk result (λ planned. planned.plan ≡ plan) }
         ensures allowed { IfOk result (λ planned. MayBegin self.room self.units plan.changes) }
+        ensures rendered { IfOk result (λ planned. WereRendered self.units self.vtocs plan.changes planned.rendered) }
         ensures refused { IfErr result (IsKeptAs P.Pool self (λ kept. IsPlanFault P.Pool self plan kept.pool)) }
     {
         let mut session = self;
@@ -274,6 +275,8 @@ impl<P: Pool> Copied<P> {
     /// Makes the step, by one commit of the tracks of VTOCs that it changes.
     pub fn switch(self) -> Result<Session<P>, Broken<P>>
         ensures run { IsRun P.tells (shown P.Pool self.session.pool) (shown P.Pool (pool_switched result)) (Ended result) (done_by self.plan.step result) (pending_by self.plan.step result) }
+        ensures plan { IsPlan self.session.units self.plan }
+        ensures rendered { WereRendered self.session.units self.session.vtocs self.plan.changes self.rendered }
         ensures units { IfOk result (λ session. session.units ≡ units_after self.session.units self.plan.changes self.rendered) }
         ensures session { IfOk result (λ session. (session.room ≡ self.session.room) × (session.names ≡ self.session.names)) }
         ensures pending { IfErr result (λ broken. broken.pending ≡ Some self.plan.step) }

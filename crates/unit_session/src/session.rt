@@ -140,8 +140,13 @@ impl<P: Pool> Session<P> {
 
     /// How many units there are, the journal's not counted.
     pub fn units(&self) -> u32
-        ensures { result ≡ journal_of (P.shape self.now.pool) }
+        ensures value { result ≡ journal_of (P.shape self.now.pool) }
+        ensures names { length self.now.names ≡ result }
+        ensures states { length self.now.units ≡ result }
+        ensures models { P.tells → (facts : Facts) (models : List UnitModel) → facts.shape ≡ P.shape self.now.pool
+            → IsSettled facts (P.disk self.now.pool).state models → AreModels self.now.units models }
     {
+        let _control = self.journal.control();
         self.journal.units()
     }
 

@@ -1,0 +1,2 @@
+pub mod AfterUnits
+pub mod Runs

@@ -1,0 +1,138 @@
+-- The rows of a volume as it was loaded: no two have one name, or a track in common.
+use Rattle.std.proofs.Common.{◌≡◌, ◌≢◌, ℕ, ◌<◌, ◌≤◌, List, [], ◌∷◌, map, Bool, All, Contains, false, refl, sym, ap, subst, ◌∙◌, arith}
+use Rattle.std.specs.List.{flat_map}
+use Rattle.std.proofs.lemmas.List.Elements.{All-head, All-tail, All-contains}
+use Rattle.std.proofs.lemmas.List.Sorted.{IsPermutation-map}
+use Rattle.ckd_image.specs.declared.head.Head.{Head}
+use Rattle.ckd_image.specs.Device.{heads_of}
+use Rattle.free_map.specs.declared.run.Run.{Run}
+use Rattle.free_map.specs.Runs.{Holds, InRuns}
+use Rattle.vol_label.specs.declared.label.Label.{Label}
+use Rattle.volume_model.specs.declared.place.Placed.{Placed}
+use Rattle.volume_model.specs.declared.place.Vtoc.{Vtoc}
+use Rattle.volume_model.specs.Check.{track_0, records_of, extents_in}
+use Rattle.volume_model.specs.Directory.{DirectoryRow, rows_of}
+use Rattle.volume_model.specs.Sound.{Slots}
+use Rattle.volume_model.specs.Space.{end_of, overlap, run_of}
+use Rattle.vtoc_core.specs.declared.volume.Row.{Row}
+use Rattle.vtoc_core.specs.declared.volume.Volume.{Volume}
+use Rattle.vtoc_core.specs.Loaded.{row_in, field_of, HasItsName}
+use Rattle.vtoc_layout.specs.Layout.{SetRecords, AreApart, AreDistinct, layout_of, sets_of, extents_in_set, runs_by, name_of}
+use Rattle.vtoc_layout.proofs.Apart.{NoneShared, apart_two, map_flat}
+use Rattle.vtoc_layout.proofs.Distinct.{from_flat, in_flat, in_later}
+use Rattle.vtoc_layout.proofs.FreeRules.{held_in}
+use Rattle.volume_change.specs.Runs.{runs_in}
+use Rattle.render_laws.specs.Rendered.{WasLoaded}
+use Rattle.render_laws.proofs.Before.{apart, ends, extent_there}
+use Rattle.vtoc_render.specs.Next.{runs_of_rows}
+use Rattle.vtoc_render.proofs.NextCounts.{set_of_row}
+use Rattle.vtoc_render.proofs.PlacedTakes.{heads_same}
+use Rattle.vtoc_render.proofs.PlacedTracks.{run_with, none_shared}
+use Rattle.unit_change.proofs.LoadedTracks.{own_names}
+use Rattle.unit_change.proofs.OneOrder.{name_in, distinct_moved}
+use Rattle.unit_steps.proofs.Blocks.{few, home_short, from_slots}
+use Rattle.unit_steps.proofs.Lists.{one_by}
+use Rattle.step_plans.specs.Plans.{IsSound}
+
+-- ---- names
+
+abbrev pub named : Row → List ℕ
+named row = row.name
+
+row_names : (rows : List Row) → All HasItsName rows → map name_in (map row_in rows) ≡ map named rows
+row_names [] all = refl
+row_names (row ∷ rows) all = (λ i. sym (All-head HasItsName row rows all) i ∷ row_names rows (All-tail HasItsName row rows all) i)
+
+pub names_differ : (volume : Volume) → IsSound volume → AreDistinct (map named volume.rows)
+names_differ volume sound =
+    let from = sound.3 in
+    let is = from.loaded in
+    let read = rows_of is.vtoc.heads (records_of is.vtoc) in
+    subst (λ (names : List (List ℕ)). AreDistinct names) (row_names volume.rows is.volume.names_are)
+    (distinct_moved (map name_in (map row_in volume.rows)) (map name_in read) (own_names is (few from) (home_short from))
+    (IsPermutation-map name_in read (map row_in volume.rows) is.volume.rows_are.same))
+
+pub one_row : (volume : Volume) → IsSound volume → (a b : Row) → Contains volume.rows a → Contains volume.rows b → a.name ≡ b.name → a ≡ b
+one_row volume sound a b here there same = one_by named volume.rows a b (names_differ volume sound) here there same
+
+-- ---- tracks
+
+abbrev pub runs_for : Volume → Row → List Run
+runs_for volume row = runs_in (heads_of volume.device) row.extents
+
+-- a track of rows is one of some row
+pub row_with : (volume : Volume) (rows : List Row) (track : ℕ) → InRuns (runs_of_rows volume rows) track → (row : Row) × Contains rows row × InRuns (runs_for volume row) track
+row_with volume rows track h =
+    let run = run_with (runs_of_rows volume rows) track h in
+    let row = from_flat (λ (row : Row). runs_in (heads_of volume.device) row.extents) rows run.0 run.1 in
+    (row.0, row.1, held_in (runs_for volume row.0) run.0 track row.2 run.2)
+
+-- a usable track that isn't one of the volume's own
+pub record IsSetTrack (volume : Volume) (track : ℕ) : Type 0 where
+  pub usable : track < volume.usable
+  pub not_0 : track ≢ 0
+  pub not_vtoc : ¬ Holds volume.vtoc track
+
+module _ {head : Head} {label : Label} {unit : Slots} {before : Bool} {slots : List ℕ} {volume : Volume} {vtoc : Vtoc} {four : Placed}
+    (was : WasLoaded head label unit before slots volume vtoc four) where
+  abbrev runs_with : SetRecords → List Run
+  runs_with set = map (run_of vtoc.heads) (extents_in_set set)
+
+  runs_are : (row : Row) (c : Contains volume.rows row) → runs_for volume row ≡ runs_with (set_of_row was row c).set
+  runs_are row c =
+      let fields : map field_of row.extents ≡ extents_in_set (set_of_row was row c).set = ap (λ (d : DirectoryRow). d.extents) (sym (set_of_row was row c).same) in
+      (λ i. map (run_of (heads_same was i)) (fields i))
+
+  all_runs : runs_by vtoc.heads (layout_of vtoc four) ≡ flat_map runs_with (sets_of vtoc)
+  all_runs = map_flat (run_of vtoc.heads) extents_in_set (sets_of vtoc)
+
+  run_there : (row : Row) → Contains volume.rows row → (run : Run) → Contains (runs_for volume row) run → Contains (runs_by vtoc.heads (layout_of vtoc four)) run
+  run_there row c run in_row =
+      let set = set_of_row was row c in
+      subst (λ (runs : List Run). Contains runs run) (sym all_runs)
+      (in_flat runs_with (sets_of vtoc) set.set run set.there (subst (λ (runs : List Run). Contains runs run) (runs_are row c) in_row))
+
+  row_track : (row : Row) → Contains volume.rows row → (track : ℕ) → InRuns (runs_for volume row) track → IsSetTrack volume track
+  row_track row c track h =
+      let at = run_with (runs_for volume row) track h in
+      let run = at.0 in
+      let there = run_there row c run at.1 in
+      let within : end_of run ≤ volume.usable =
+      ends was run (in_later track_0 run (vtoc.run ∷ extents_in vtoc) (in_later vtoc.run run (extents_in vtoc) (extent_there was run there))) in
+      let all = runs_by vtoc.heads (layout_of vtoc four) in
+      record {
+        usable = omega (arith, within, at.2.1);
+        not_0 = λ same. none_shared run track_0 track (All-contains (λ (r : Run). overlap r track_0 ≡ false) all run (apart was).off_track_0 there) at.2 (omega arith, omega (arith, same));
+        not_vtoc =
+            λ held. none_shared run vtoc.run track (All-contains (λ (r : Run). overlap r vtoc.run ≡ false) all run (apart was).off_vtoc there) at.2
+            (subst (λ (r : Run). Holds r track) was.volume_is.vtoc_is held);
+      }
+
+  none_in_two : (a b : Row) → Contains volume.rows a → Contains volume.rows b → a.name ≢ b.name → (track : ℕ) → InRuns (runs_for volume a) track → ¬ InRuns (runs_for volume b) track
+  none_in_two a b p q differ track here there =
+      let one = set_of_row was a p in
+      let other = set_of_row was b q in
+      let two : ¬ (one.set ≡ other.set) = λ same. differ (sym one.named ∙ ap (λ (s : SetRecords). name_of s) same ∙ other.named) in
+      let shared : NoneShared (runs_with one.set) (runs_with other.set) =
+      apart_two runs_with (sets_of vtoc) one.set other.set (subst (λ (runs : List Run). AreApart runs) all_runs (apart was).apart) one.there other.there two in
+      let mine = run_with (runs_for volume a) track here in
+      let its = run_with (runs_for volume b) track there in
+      none_shared mine.0 its.0 track
+      (shared mine.0 its.0 (subst (λ (runs : List Run). Contains runs mine.0) (runs_are a p) mine.1) (subst (λ (runs : List Run). Contains runs its.0) (runs_are b q) its.1)) mine.2 its.2
+
+-- ---- a volume that was loaded
+
+pub sound_track : (volume : Volume) → IsSound volume → (row : Row) → Contains volume.rows row → (track : ℕ) → InRuns (runs_for volume row) track → IsSetTrack volume track
+sound_track volume sound row there track h = row_track (from_slots sound.3) row there track h
+
+sound_apart : (volume : Volume) → IsSound volume → (a b : Row) → Contains volume.rows a → Contains volume.rows b → a.name ≢ b.name → (track : ℕ)
+    → InRuns (runs_for volume a) track → ¬ InRuns (runs_for volume b) track
+sound_apart volume sound a b p q differ track here there = none_in_two (from_slots sound.3) a b p q differ track here there
+
+-- the tracks of rows that stand apart are apart
+pub sound_parts : (volume : Volume) → IsSound volume → (xs ys : List Row) → ((row : Row) → Contains xs row → Contains volume.rows row) → ((row : Row) → Contains ys row → Contains volume.rows row)
+    → ((a b : Row) → Contains xs a → Contains ys b → a.name ≢ b.name) → (track : ℕ) → InRuns (runs_of_rows volume xs) track → ¬ InRuns (runs_of_rows volume ys) track
+sound_parts volume sound xs ys in_xs in_ys differ track here there =
+    let a = row_with volume xs track here in
+    let b = row_with volume ys track there in
+    sound_apart volume sound a.0 b.0 (in_xs a.0 a.1) (in_ys b.0 b.1) (differ a.0 b.0 a.1 b.1) track a.2 b.2

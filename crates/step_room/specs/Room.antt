@@ -1,0 +1,54 @@
+-- Whether a VTOC has room for what a change leaves.
+use Rattle.std.specs.Prelude.{◌≡◌, ◌≢◌, ℕ, List, Contains}
+use Rattle.std.specs.Prelude.{All}
+use Rattle.ckd_image.specs.Device.{heads_of}
+use Rattle.dsn_filter.specs.declared.dsn.Dsn.{Dsn}
+use Rattle.volume_model.specs.Changed.{ChangesSets, IsFull}
+use Rattle.volume_model.specs.Unit.{Text, DataSet, OnlineVolume}
+use Rattle.vtoc_core.specs.declared.volume.Row.{Row}
+use Rattle.vtoc_core.specs.declared.volume.Volume.{Volume}
+use Rattle.volume_change.specs.declared.change.Change.{Change}
+use Rattle.volume_change.specs.declared.change.Change.TheVariants.{Repair, Swap, Mark}
+use Rattle.vtoc_render.specs.Next.{MayChange, IsNext, HasNoRoom}
+use Rattle.unit_change.specs.Described.{Describes}
+use Rattle.unit_change.specs.Changed.{AreGone, extents_of, sets_put}
+use Rattle.step_plans.specs.Plans.{IsSound}
+
+-- a volume has no room in its VTOC for what is left once some of its data sets went and others came
+abbrev pub IsFullFor : OnlineVolume → List DataSet → List DataSet → Type 0
+IsFullFor volume gone put = (after : OnlineVolume) × (need : ℕ) × (free : ℕ) × ChangesSets volume after gone put × IsFull volume after need free
+
+-- the change of a loaded volume needs more records than are free
+abbrev pub LacksRoom : Volume → Change → Type 0
+LacksRoom loaded change = (need : ℕ) × (free : ℕ) × HasNoRoom loaded change need free
+
+-- data sets of a volume that a change takes away
+abbrev pub AreTaken : OnlineVolume → Change → List DataSet → Type 0
+AreTaken volume change gone = AreGone change gone × All (λ set. Contains volume.sets set) gone
+
+-- Where a change lacks room, its volume is full for what it leaves, whatever texts it puts.
+abbrev pub LackingChangesAreFull : Type 0
+LackingChangesAreFull =
+    (loaded : Volume) (volume : OnlineVolume) (change : Change) (gone : List DataSet) (texts : List Text)
+    → IsSound loaded → Describes loaded volume → MayChange loaded change → AreTaken volume change gone → LacksRoom loaded change
+    → IsFullFor volume gone (sets_put (heads_of loaded.device) change texts)
+
+-- Where there is a volume after it, its volume isn't.
+abbrev pub FittingChangesAreNotFull : Type 0
+FittingChangesAreNotFull =
+    (loaded next : Volume) (volume : OnlineVolume) (change : Change) (gone : List DataSet) (texts : List Text)
+    → IsSound loaded → Describes loaded volume → MayChange loaded change → change ≢ Mark → AreTaken volume change gone → IsNext loaded change next
+    → ¬ IsFullFor volume gone (sets_put (heads_of loaded.device) change texts)
+
+-- Once the free space of a volume that was loaded is stated, a change for which there was room has room.
+abbrev pub RepairsKeepRoom : Type 0
+RepairsKeepRoom =
+    (loaded repaired next : Volume) (change : Change)
+    → IsSound loaded → change ≢ Mark → IsNext loaded Repair repaired → IsNext loaded change next → ¬ LacksRoom repaired change
+
+-- And so has a data set in the place of another where there was room for one of its name and extents, whatever else their format 1s say.
+abbrev pub RepairsKeepRoomForExtents : Type 0
+RepairsKeepRoomForExtents =
+    (loaded repaired next : Volume) (name : Dsn) (row like : Row)
+    → IsSound loaded → IsNext loaded Repair repaired → IsNext loaded (Swap name row) next → like.name ≡ row.name
+    → extents_of (heads_of loaded.device) like ≡ extents_of (heads_of loaded.device) row → ¬ LacksRoom repaired (Swap name like)

@@ -1,0 +1,13 @@
+use Rattle.std.proofs.Common.{sym, ap, subst, ◌∙◌}
+use Rattle.move_core.specs.Stands.{IsSettled}
+use Rattle.unit_steps.specs.Loaded.{AreModels}
+use Rattle.unit_session.proofs.Modelling.{models_at}
+use Rattle.unit_session.proofs.session.Session.units.Goals as goal
+
+pub returns-clause-models : goal.returns-clause-models
+returns-clause-models g c told facts models same settled =
+    let was = c.self.invariant in
+    let pool_is = ap (λ view. view.pool) c.self.view_is in
+    subst (λ view. AreModels view.units models) c.self.view_is
+    (models_at (same ∙ ap g.P.Pool.shape (sym pool_is)) (subst (λ pool. IsSettled facts (g.P.Pool.disk pool).state models) (sym pool_is) settled)
+    c.self.inside.units.items (c.control-control.ensures.says told) was.0 was.2 (was.4 told))

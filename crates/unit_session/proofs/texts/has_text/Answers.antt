@@ -1,0 +1,10 @@
+use Rattle.std.proofs.Common.{ℕ, ap}
+use Rattle.ckd_image.specs.Address.{address_of}
+use Rattle.ckd_image.specs.Device.{heads_of}
+use Rattle.unit_session.proofs.CopyingTexts.{few_cylinders}
+use Rattle.unit_session.proofs.SetTexts.{text_told}
+use Rattle.unit_session.proofs.texts.has_text.Goals as goal
+
+pub of-at-requires-clause-track : goal.of-at-requires-clause-track
+of-at-requires-clause-track g c =
+    few_cylinders c.args.device c.heads.result c.args.track ((g.P.Pool.shape c.args.journal.now.pool).blocks c.args.unit) c.heads.ensures c.requires.few c.requires.track

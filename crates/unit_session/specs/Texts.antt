@@ -1,0 +1,25 @@
+-- The tracks of a data set that was loaded, and whether they have texts.
+use Rattle.std.specs.Prelude.{◌≡◌, ℕ, List}
+use Rattle.ckd_image.specs.declared.device.Device.{Device}
+use Rattle.ckd_image.specs.declared.track.Track.{Track}
+use Rattle.ckd_image.specs.Address.{address_of}
+use Rattle.ckd_image.specs.Track.{IsTrackText}
+use Rattle.dsn_filter.specs.declared.dsn.Dsn.{Dsn}
+use Rattle.volume_model.specs.Sound.{Slots}
+use Rattle.vtoc_core.specs.declared.volume.Row.{Row}
+use Rattle.vtoc_core.specs.declared.volume.Volume.{Volume}
+use Rattle.unit_load.specs.declared.state.UnitState.{UnitState}
+use Rattle.unit_steps.specs.Plans.{IsLoadedAt, HasRow, tracks_in}
+
+-- a track of a unit has a text
+abbrev pub HasTextOn : ℕ → Slots → ℕ → Type 0
+HasTextOn heads slots track = (text : Track) × IsTrackText (address_of heads track) (slots track) text
+
+-- the tracks of the data set of a name on a unit, as it was loaded, and the unit's device
+pub record AreTracksAt (units : List UnitState) (unit : ℕ) (name : Dsn) (device : Device) (tracks : List ℕ) : Type 0 where
+  pub volume : Volume
+  pub row : Row
+  pub loaded : IsLoadedAt units unit volume
+  pub row_is : HasRow volume name row
+  pub device_is : device ≡ volume.device
+  pub tracks_are : tracks ≡ tracks_in volume row
