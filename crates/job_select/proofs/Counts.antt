@@ -1,0 +1,160 @@
+-- How many tracks and extents a data set of a loaded volume has.
+use Rattle.std.proofs.Common.{◌≡◌, inl, inr, ℕ, zero, suc, ◌+◌, ◌<◌, ◌≤◌, ◌&&◌, List, [], ◌∷◌, ◌++◌, length, map, take, drop, get_or, All, Contains, false, true, refl, sym, ap, subst, ◌∙◌, arith}
+use Rattle.std.proofs.lemmas.Bool.{both_ways, cases_eq, lt-ltb}
+use Rattle.std.proofs.lemmas.List.{length-append, length-map, map-append, take-append-drop}
+use Rattle.std.proofs.lemmas.List.Elements.{All-contains, All-head, All-tail, Contains-append_cases}
+use Rattle.std.proofs.lemmas.Grind.{flat_map-append}
+use Rattle.ckd_image.specs.declared.device.Device.{Device}
+use Rattle.ckd_image.specs.Device.{heads_of}
+use Rattle.dscb_rec.specs.declared.field.Extent.{Extent as Field}
+use Rattle.free_map.specs.declared.run.Run.{Run}
+use Rattle.volume_model.specs.Dscbs.{numbers_below}
+use Rattle.volume_model.specs.Space.{end_of, overlap, is_run, run_of}
+use Rattle.volume_model.specs.Unit.{Extent, run_in, tracks_in, tracks_of}
+use Rattle.vtoc_check.proofs.Overlapping.{run_facts}
+use Rattle.vtoc_core.specs.declared.volume.Row.{Row}
+use Rattle.vtoc_core.specs.declared.volume.Volume.{Volume}
+use Rattle.vtoc_core.specs.Loaded.{field_of}
+use Rattle.vtoc_layout.specs.Layout.{AreDistinct, AreApart}
+use Rattle.vtoc_layout.proofs.Apart.{all_from}
+use Rattle.vtoc_layout.proofs.Distinct.{first_or_later, in_none, at_first, in_front, in_back, in_map, from_map, from_flat, distinct_append, no_more}
+use Rattle.vtoc_render.proofs.Known.{usable_small}
+use Rattle.unit_change.proofs.Describing.{runs_in_row}
+use Rattle.unit_steps.proofs.Blocks.{from_slots}
+use Rattle.step_plans.specs.Plans.{IsSound, extents_from}
+use Rattle.step_plans.proofs.Fronts.{long_at, summed}
+use Rattle.step_plans.proofs.LoadedRows.{IsLoadedRow, sound_row}
+use Rattle.job_select.proofs.Wholes.{on}
+
+-- ---- the tracks of a run
+
+numbers_long : (n : ℕ) → length (numbers_below n) ≡ n
+numbers_long zero = refl
+numbers_long (suc n) = omega (arith, length-append (numbers_below n) (n ∷ []), numbers_long n)
+
+only_one : (n k : ℕ) → Contains (n ∷ []) k → n ≡ k
+only_one n k there = elim (first_or_later n k [] there) [ inl same ↦ same | inr none ↦ absurd (in_none k none) ]
+
+in_below : (n k : ℕ) → Contains (numbers_below n) k → k < n
+in_below zero k there = absurd (in_none k there)
+in_below (suc n) k there = elim (Contains-append_cases (numbers_below n) (n ∷ []) k there) [
+  | inl front ↦ omega (arith, in_below n k front)
+  | inr back ↦ omega (arith, only_one n k back)
+]
+
+below_in : (n k : ℕ) → k < n → Contains (numbers_below n) k
+below_in zero k less = absurd (omega (arith, less))
+below_in (suc n) k less = elim (cases_eq n k) [
+  | inl same ↦ in_back (numbers_below n) (n ∷ []) k (subst (Contains (n ∷ [])) same (at_first n []))
+  | inr apart ↦ in_front (numbers_below n) (n ∷ []) k (below_in n k (omega (arith, less, apart)))
+]
+
+below_distinct : (n : ℕ) → AreDistinct (numbers_below n)
+below_distinct zero = tt
+below_distinct (suc n) =
+    distinct_append (numbers_below n) (n ∷ []) (below_distinct n) (λ there. in_none n there, tt)
+    (λ k front back. absurd (omega (arith, in_below n k front, only_one n k back)))
+
+shifted_distinct : (first : ℕ) (places : List ℕ) → AreDistinct places → AreDistinct (map (λ place. first + place) places)
+shifted_distinct first [] distinct = tt
+shifted_distinct first (place ∷ places) distinct = (
+  λ there. let found = from_map (λ (n : ℕ). first + n) places (first + place) there in
+      distinct.0 (subst (Contains places) (let same : found.0 ≡ place = omega (arith, found.2) in same) found.1),
+  shifted_distinct first places distinct.1,
+)
+
+tracks_long : (run : Run) → length (tracks_in run) ≡ run.len
+tracks_long run = length-map (numbers_below run.len) (λ place. run.first + place) ∙ numbers_long run.len
+
+in_run : (run : Run) (track : ℕ) → Contains (tracks_in run) track → (run.first ≤ track) × (track < end_of run)
+in_run run track there =
+    let found = from_map (λ (place : ℕ). run.first + place) (numbers_below run.len) track there in
+    let less : found.0 < run.len = in_below run.len found.0 found.1 in
+    let is : run.first + found.0 ≡ track = found.2 in
+    (omega (arith, is), omega (arith, is, less))
+
+none_shared : (a b : Run) (track : ℕ) → overlap a b ≡ false → (a.first ≤ track) × (track < end_of a) → (b.first ≤ track) × (track < end_of b) → ⊥
+none_shared a b track none here there =
+    both_ways (overlap a b) none (λ i. lt-ltb a.first (end_of b) (omega (arith, here.0, there.1)) i && lt-ltb b.first (end_of a) (omega (arith, there.0, here.1)) i)
+
+-- ---- the tracks of extents
+
+tracks_distinct : (extents : List Extent) → AreApart (map run_in extents) → AreDistinct (tracks_of extents)
+tracks_distinct [] apart = tt
+tracks_distinct (extent ∷ extents) apart =
+    distinct_append (tracks_in extent.run) (tracks_of extents) (shifted_distinct extent.run.first (numbers_below extent.run.len) (below_distinct extent.run.len)) (tracks_distinct extents apart.1)
+    (λ track here there. let found = from_flat (λ (e : Extent). tracks_in e.run) extents track there in
+    none_shared extent.run found.0.run track
+    (All-contains (λ (run : Run). overlap extent.run run ≡ false) (map run_in extents) found.0.run apart.0 (in_map run_in extents found.0 found.1))
+    (in_run extent.run track here) (in_run found.0.run track found.2))
+
+-- runs that are apart and end below some track have no more tracks than there are below it
+tracks_few : (limit : ℕ) (extents : List Extent) → AreApart (map run_in extents) → All (λ extent. end_of extent.run ≤ limit) extents → length (tracks_of extents) ≤ limit
+tracks_few limit extents apart below =
+    omega (
+      arith,
+      no_more (tracks_of extents) (numbers_below limit) (tracks_distinct extents apart)
+          (λ track there. let found = from_flat (λ (e : Extent). tracks_in e.run) extents track there in
+          below_in limit track (omega (arith, (in_run found.0.run track found.2).1, All-contains (λ (e : Extent). end_of e.run ≤ limit) extents found.0 below found.1))),
+      numbers_long limit,
+    )
+
+-- extents of at least one track are no more than their tracks
+extents_few : (extents : List Extent) → All (λ extent. 1 ≤ extent.run.len) extents → length extents ≤ length (tracks_of extents)
+extents_few [] some = omega arith
+extents_few (extent ∷ extents) some =
+    omega (
+      arith,
+      All-head (λ (e : Extent). 1 ≤ e.run.len) extent extents some,
+      extents_few extents (All-tail (λ (e : Extent). 1 ≤ e.run.len) extent extents some),
+      tracks_long extent.run,
+      length-append (tracks_in extent.run) (tracks_of extents),
+    )
+
+-- ---- a row
+
+module _ (volume : Volume) (sound : IsSound volume) (row : Row) (there : Contains volume.rows row) where
+  known : IsLoadedRow volume row
+  known = sound_row volume sound row there
+
+  facts : (extent : Field) → Contains row.extents extent → (end_of (run_of (heads_of volume.device) (field_of extent)) ≤ 65535) × (1 ≤ (run_of (heads_of volume.device) (field_of extent)).len)
+  facts extent c =
+      let is = run_facts (heads_of volume.device) volume.usable (field_of extent) (All-contains (λ (e : Field). is_run (heads_of volume.device) volume.usable (field_of e) ≡ true) row.extents extent known.ranges c) in
+      (omega (arith, is.0, usable_small (from_slots sound.3)), is.1)
+
+  each : (P : Extent → Type 0) → ((extent : Field) → Contains row.extents extent → P (on volume.device extent)) → All P (extents_from volume.device row.extents)
+  each P h = all_from P (extents_from volume.device row.extents) (λ e c. let found = from_map (on volume.device) row.extents e c in subst P found.2 (h found.0 found.1))
+
+  pub row_tracks_few : length (tracks_of (extents_from volume.device row.extents)) ≤ 65535
+  row_tracks_few =
+      tracks_few 65535 (extents_from volume.device row.extents) (subst AreApart (sym (runs_in_row (heads_of volume.device) row.extents)) known.apart)
+      (each (λ e. end_of e.run ≤ 65535) (λ extent c. (facts extent c).0))
+
+  pub row_extents_few : length row.extents ≤ 65535
+  row_extents_few =
+      omega (
+        arith,
+        row_tracks_few,
+        extents_few (extents_from volume.device row.extents) (each (λ e. 1 ≤ e.run.len) (λ extent c. (facts extent c).1)),
+        length-map row.extents (on volume.device),
+      )
+
+-- ---- the first extents
+
+pub first_tracks_few : (device : Device) (extents : List Field) (k : ℕ)
+    → length (tracks_of (extents_from device (take k extents))) ≤ length (tracks_of (extents_from device extents))
+first_tracks_few device extents k =
+    let front = extents_from device (take k extents) in
+    let back = extents_from device (drop k extents) in
+    let joined : extents_from device extents ≡ front ++ back = ap (extents_from device) (sym (take-append-drop k extents)) ∙ map-append (on device) (take k extents) (drop k extents) in
+    omega (
+      arith,
+      ap (λ (l : List Extent). length (tracks_of l)) joined,
+      ap length (flat_map-append (λ (e : Extent). tracks_in e.run) front back),
+      length-append (tracks_of front) (tracks_of back),
+    )
+
+-- one more of them
+pub next_few : (device : Device) (extents : List Field) (k count long : ℕ) (d : Field) → length (tracks_of (extents_from device extents)) ≤ 65535 → k < length extents
+    → long ≡ long_at device (get_or extents k d) → count ≡ length (tracks_of (extents_from device (take k extents))) → count + long ≤ 65535
+next_few device extents k count long d few less is so_far = omega (arith, few, summed device extents k count long d less is so_far, first_tracks_few device extents (k + 1))

@@ -1,0 +1,5 @@
+pub mod OneName
+pub mod Wholes
+pub mod KeptFields
+pub mod Counts
+pub mod Picks
