@@ -1,0 +1,72 @@
+-- How a statement ends, from how what it does ends.
+use Rattle.std.proofs.Common.{◌≡◌, ◌⊎◌, inl, inr, List, [], ◌∷◌, take, None, Ok, Err, sym, ap, subst, ◌∙◌}
+use Rattle.by_rules.specs.declared.day.Day.{Day}
+use Rattle.dasd_pool.specs.declared.pool.Pool.{Ghosts}
+use Rattle.enq_table.specs.declared.hold.Hold.{Hold}
+use Rattle.sysin_lang.specs.declared.command.Command.{Command}
+use Rattle.move_core.specs.declared.steps.Step.{Step}
+use Rattle.move_core.specs.Facts.{shown}
+use Rattle.move_core.specs.Runs.{IsRun}
+use Rattle.unit_session.specs.Sessions.{SessionView}
+use Rattle.job_steps.specs.declared.cut.Cut.{Cut}
+use Rattle.job_steps.specs.declared.cut.Cut.TheVariants as cuts
+use Rattle.job_steps.specs.Carried.{IsShort}
+use Rattle.job_lines.specs.declared.message.Message.{Message}
+use Rattle.job_lines.specs.declared.message.Message.TheVariants as messages
+use Rattle.job_lines.specs.Severity.{greatest_code}
+use Rattle.job_ops.specs.declared.outcome.Outcome.{Outcome}
+use Rattle.job_ops.specs.declared.outcome.Outcome.TheVariants as outcomes
+use Rattle.job_ops.specs.Ends.{KeepsFacts, Ends, EndsStatement, IsCutOutcome, IsDoneOutcome}
+use Rattle.job_ops.specs.Meaning.{MeansWhole, IsCutCommand, verb_of}
+use Rattle.job_ops.specs.Setting.{setting_of}
+
+module _ {P : Type 0} (pools : Ghosts P) (session : SessionView P) where
+  module _ (next : SessionView P) (command : Command) (held : List Hold) (today : Day) (before after : List Step) (said : List Message)
+      (ends : Ends pools (MeansWhole (setting_of pools session held today) command) (IsCutCommand (setting_of pools session held today) command) session before after [] said (Ok next)) where
+    pub ends_done : (outcome : Outcome P) → IsDoneOutcome next after said outcome → EndsStatement pools session command held today before outcome
+    ends_done (outcomes.Done kept report steps) is = (
+      ends.added,
+      is.1 ∙ ends.steps_are,
+      subst (λ (s : SessionView P). KeepsFacts pools session s) (sym is.0) ends.facts,
+      subst (λ (s : SessionView P). IsRun pools.tells (shown pools session.pool) (shown pools s.pool) (Unit {0}) ends.added None) (sym is.0) ends.run,
+      λ told units settled. record {
+        means = subst (λ (l : List Message). MeansWhole (setting_of pools session held today) command units ends.added l) (sym (is.2 ∙ ends.messages_are)) (ends.ended told units settled);
+        code_is = is.3 ∙ ap (λ (l : List Message). greatest_code l) (sym is.2);
+      },
+    )
+    ends_done (outcomes.Halted broken report steps) is = absurd is
+    ends_done (outcomes.Short kept report steps) is = absurd is
+
+  module _ (cut : Cut P) (command : Command) (held : List Hold) (today : Day) (before after : List Step) (said : List Message)
+      (ends : Ends pools (MeansWhole (setting_of pools session held today) command) (IsCutCommand (setting_of pools session held today) command) session before after [] said (Err cut))
+      (begins : ((said ≡ []) × IsShort cut) ⊎ (take 1 said ≡ messages.Started (verb_of command) ∷ [])) where
+    says : (told : List Message) → told ≡ take 1 said → (told ≡ []) ⊎ (told ≡ messages.Started (verb_of command) ∷ [])
+    says told is = elim begins [
+      | inl none ↦ inl (is ∙ ap (λ (l : List Message). take 1 l) none.0)
+      | inr started ↦ inr (is ∙ started)
+    ]
+
+    starts : ¬ IsShort cut → take 1 said ≡ messages.Started (verb_of command) ∷ []
+    starts failed = elim begins [
+      | inl none ↦ absurd (failed none.1)
+      | inr started ↦ started
+    ]
+
+    EndsAs : Cut P → Type 0
+    EndsAs c = Ends pools (MeansWhole (setting_of pools session held today) command) (IsCutCommand (setting_of pools session held today) command) session before after [] said (Err c)
+
+    pub ends_cut : (outcome : Outcome P) → IsCutOutcome cut after said outcome → EndsStatement pools session command held today before outcome
+    unfolding EndsAs
+    ends_cut (outcomes.Done kept report steps) is = absurd is
+    ends_cut (outcomes.Halted broken report steps) is =
+        let was : EndsAs (cuts.Halted broken) = subst EndsAs is.0 ends in (
+          was.added,
+          is.1 ∙ was.steps_are,
+          was.run.cause (λ short. short),
+          is.2 ∙ starts (λ short. subst (λ (c : Cut P). IsShort c) is.0 short),
+          was.run,
+          was.cut,
+        )
+    ends_cut (outcomes.Short kept report steps) is =
+        let was : EndsAs (cuts.Short kept) = subst EndsAs is.0 ends in
+        (was.added, is.1 ∙ was.steps_are, was.facts, says report.messages is.2, was.run, was.cut)

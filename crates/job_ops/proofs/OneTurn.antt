@@ -1,0 +1,123 @@
+-- The turn of a data set: what was asked of it, and what became of it.
+use Rattle.std.proofs.Common.{◌≡◌, inl, ℕ, ◌+◌, ◌<◌, length, drop, get_or, All, List, [], ◌∷◌, ◌++◌, Option, Some, None, refl, sym, ap, subst, ◌∙◌}
+use Rattle.std.specs.Prelude.{Result, Ok, Err, IfOk, IfErr}
+use Rattle.std.proofs.Math.Numerals.{add-one}
+use Rattle.std.proofs.Math.Seq.{drop-cons}
+use Rattle.std.proofs.lemmas.List.{append-nil}
+use Rattle.std.proofs.lemmas.List.Elements.{All-nil, All-cons, All-head, All-tail, All-weaker}
+use Rattle.dasd_pool.specs.Count.{Rose}
+use Rattle.dasd_pool.specs.declared.pool.Pool.{Ghosts}
+use Rattle.dsn_filter.specs.declared.dsn.Dsn.{Dsn}
+use Rattle.enq_table.specs.declared.hold.Hold.{Hold}
+use Rattle.volume_model.specs.Unit.{UnitModel}
+use Rattle.move_core.specs.declared.steps.Step.{Step}
+use Rattle.move_core.specs.Facts.{shown}
+use Rattle.move_core.specs.Runs.{IsRun}
+use Rattle.move_core.proofs.Running.{run_less}
+use Rattle.vtoc_core.specs.declared.volume.Row.{Row}
+use Rattle.unit_load.specs.declared.state.UnitState.{UnitState}
+use Rattle.unit_steps.specs.Plans.{HasRow}
+use Rattle.unit_session.specs.Sessions.{SessionView, BrokenView, IsSameSession}
+use Rattle.job_lines.specs.declared.message.Message.{Message}
+use Rattle.job_lines.specs.declared.message.Message.TheVariants as messages
+use Rattle.job_lines.specs.declared.message.Reason.{Reason}
+use Rattle.job_lines.specs.declared.severity.Severity.TheVariants as severities
+use Rattle.job_steps.specs.declared.cut.Cut.{Cut}
+use Rattle.job_steps.specs.declared.cut.Cut.TheVariants as cuts
+use Rattle.job_ops.specs.declared.release.Candidate.{Candidate}
+use Rattle.job_ops.specs.Asked.{MayRelease, IsSeen, IsReasonBefore}
+use Rattle.job_ops.specs.Ends.{ForUnits, Ends}
+use Rattle.job_ops.specs.Release.{ReleasesSet}
+use Rattle.job_ops.specs.Shrinking.{StaysChangeable}
+use Rattle.job_ops.specs.Turns.{Action, IsCutAction}
+use Rattle.job_ops.proofs.SameSessions.{for_new, keeps_same, ends_after, ends_said}
+
+-- a reason is told
+pub reason_told : (held : List Hold) {unit : ℕ} {name : Dsn} {candidate : Candidate} {units : List UnitModel} (reason : Reason) → IsSeen unit name candidate units
+    → IsReasonBefore held unit name (Some reason) units → ReleasesSet held unit name units [] (messages.NotProcessed candidate.name reason severities.Error ∷ [])
+reason_told held {unit} {name} {candidate} {units} reason seen before = record {
+  volume = seen.volume;
+  online_is = seen.set_is.online_is;
+  set = seen.set;
+  there = seen.set_is.there;
+  name_is = seen.set_is.name_is;
+  outcome = inl (reason, before seen.volume seen.set seen.set_is, refl, ap (λ (n : List ℕ). messages.NotProcessed n reason severities.Error ∷ []) seen.name_is);
+}
+
+module _ {P : Type 0} (pools : Ghosts P) {old new : SessionView P} (run : IsRun pools.tells (shown pools old.pool) (shown pools new.pool) (Unit {0}) [] None) (same : IsSameSession pools old new) where
+  -- the data set isn't processed
+  pub refused : (held : List Hold) {unit : ℕ} {name : Dsn} {candidate : Candidate} {steps_before steps_after : List Step} {messages_before messages_after : List Message} (reason : Reason)
+      (found : Option Reason) (result : Result (SessionView P) (Cut P)) → found ≡ Some reason → ForUnits pools old (IsSeen unit name candidate) → ForUnits pools old (IsReasonBefore held unit name found)
+      → steps_after ≡ steps_before → IfOk result (λ next. (next ≡ new) × (messages_after ≡ messages_before ++ (messages.NotProcessed candidate.name reason severities.Error ∷ [])))
+      → IfErr result (λ cut. (cut ≡ cuts.Short new) × (messages_after ≡ messages_before))
+      → Ends pools (ReleasesSet held unit name) (IsCutAction (ReleasesSet held unit name)) old steps_before steps_after messages_before messages_after result
+  refused held {unit} {name} {candidate} {steps_before} {steps_after} {messages_before} {messages_after} reason found result is seen before steps ok err =
+      let told_before : ForUnits pools old (IsReasonBefore held unit name (Some reason)) = subst (λ (o : Option Reason). ForUnits pools old (IsReasonBefore held unit name o)) is before in
+      ends_after pools run same
+      (ends_said pools (messages.NotProcessed candidate.name reason severities.Error ∷ []) result steps ok err
+      (for_new pools same (λ told units settled. reason_told held reason (seen told units settled) (told_before told units settled))) (λ units. inl (refl, refl)))
+
+  -- the pool failed
+  pub halted : {Means : Action} {steps : List Step} {messages : List Message} (broken : BrokenView P) → Rose (pools.faults old.pool) (pools.faults new.pool) → broken.pool ≡ new.pool → broken.pending ≡ None
+      → Ends pools Means (IsCutAction Means) old steps steps messages messages (Err (cuts.Halted broken))
+  halted {Means} {steps} {messages} broken rose pool none = record {
+    added = [];
+    said = [];
+    steps_are = sym (append-nil steps);
+    messages_are = sym (append-nil messages);
+    run =
+        subst (λ (p : P). IsRun pools.tells (shown pools old.pool) (shown pools p) ⊥ [] broken.pending) (sym pool)
+        (subst (λ (step : Option Step). IsRun pools.tells (shown pools old.pool) (shown pools new.pool) ⊥ [] step) (sym none) (run_less (λ never. tt {0}) (λ never. rose) run));
+    facts = tt;
+    ended = tt;
+    cut = λ told units settled. inl (refl, none);
+  }
+
+  -- memory ran out
+  pub short : {Means : Action} {steps : List Step} {messages : List Message} → Ends pools Means (IsCutAction Means) old steps steps messages messages (Err (cuts.Short new))
+  short {Means} {steps} {messages} = record {
+    added = [];
+    said = [];
+    steps_are = sym (append-nil steps);
+    messages_are = sym (append-nil messages);
+    run = run;
+    facts = keeps_same pools same;
+    ended = tt;
+    cut = λ told units settled. inl (refl, refl);
+  }
+
+-- ---- what can be changed then
+
+module _ {P : Type 0} (pools : Ghosts P) {old new : SessionView P} (same : IsSameSession pools old new) (unit : ℕ) where
+  pub refused_stays : (messages_before messages_after said : List Message) (result : Result (SessionView P) (Cut P)) → IfOk result (λ next. (next ≡ new) × (messages_after ≡ messages_before ++ said))
+      → IfOk result (λ next. StaysChangeable old.room old.units next.units unit)
+  refused_stays messages_before messages_after said (Ok next) ok =
+      subst (λ (units : List UnitState). StaysChangeable old.room old.units units unit) (sym (ap (λ (s : SessionView P). s.units) ok.0 ∙ same.units)) (λ may. (may, λ name row has. (row, has)))
+  refused_stays messages_before messages_after said (Err cut) ok = tt
+
+  pub stays_after : (result : Result (SessionView P) (Cut P)) → IfOk result (λ next. StaysChangeable new.room new.units next.units unit)
+      → IfOk result (λ next. StaysChangeable old.room old.units next.units unit)
+  stays_after (Ok next) stays =
+      subst (λ (room : ℕ). StaysChangeable room old.units next.units unit) same.room (subst (λ (units : List UnitState). StaysChangeable new.room units next.units unit) same.units stays)
+  stays_after (Err cut) stays = tt
+
+-- ---- the names that are left
+
+pub may_one : {room : ℕ} {units : List UnitState} {unit : ℕ} (name : Dsn) (left later : List Dsn) → left ≡ name ∷ later → MayRelease room units unit left → MayRelease room units unit (name ∷ [])
+may_one {room} {units} {unit} name left later is may =
+    let Has : Dsn → Type 0 = λ other. (row : Row) × HasRow may.may.volume other row in
+    record { may = may.may; sets = All-cons Has name [] (All-head Has name later (subst (All Has) is may.sets)) (All-nil Has) }
+
+pub may_later : {room after : ℕ} {units next : List UnitState} {unit : ℕ} (name : Dsn) (left later : List Dsn) → left ≡ name ∷ later → MayRelease room units unit left
+    → StaysChangeable room units next unit → after ≡ room → MayRelease after next unit later
+may_later {room} {after} {units} {next} {unit} name left later is may stays same =
+    let Has : Dsn → Type 0 = λ other. (row : Row) × HasRow may.may.volume other row in
+    let new = stays may.may in
+    subst (λ (r : ℕ). MayRelease r next unit later) (sym same) (record {
+      may = new.0;
+      sets =
+          All-weaker Has (λ other. (row : Row) × HasRow new.0.volume other row) (λ other has. new.1 other has.0 has.1) later (All-tail Has name later (subst (All Has) is may.sets));
+    })
+
+pub first_left : (names : List Dsn) (index : ℕ) (d : Dsn) → index < length names → drop index names ≡ get_or names index d ∷ drop (index + 1) names
+first_left names index d less = drop-cons names index d less ∙ ap (λ (n : ℕ). get_or names index d ∷ drop n names) (sym (add-one index))

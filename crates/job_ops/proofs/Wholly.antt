@@ -1,0 +1,130 @@
+-- A whole statement, from how what it does ends.
+use Rattle.std.proofs.Common.{◌≡◌, inl, inr, ℕ, List, [], ◌∷◌, ◌++◌, None, refl, sym, ap, subst, ◌∙◌}
+use Rattle.std.specs.Prelude.{Result, Ok, Err, IfOk, IfErr}
+use Rattle.std.proofs.lemmas.List.{append-nil}
+use Rattle.std.proofs.lemmas.Result.{IfOk-weaker, IfErr-weaker}
+use Rattle.by_rules.specs.declared.day.Day.{Day}
+use Rattle.dasd_pool.specs.declared.pool.Pool.{Ghosts}
+use Rattle.dsn_filter.specs.declared.dsn.Dsn.{Dsn}
+use Rattle.enq_table.specs.declared.hold.Hold.{Hold}
+use Rattle.sysin_lang.specs.declared.command.Command.{Command}
+use Rattle.sysin_lang.specs.declared.command.Command.TheVariants as commands
+use Rattle.volume_model.specs.Unit.{UnitModel}
+use Rattle.move_core.specs.declared.steps.Step.{Step}
+use Rattle.move_core.specs.Facts.{Facts}
+use Rattle.move_core.proofs.Running.{run_idle}
+use Rattle.unit_session.specs.Sessions.{SessionView}
+use Rattle.job_lines.specs.declared.message.Message.{Message}
+use Rattle.job_lines.specs.declared.message.Message.TheVariants as messages
+use Rattle.job_lines.specs.Severity.{greatest_code}
+use Rattle.job_steps.specs.declared.cut.Cut.{Cut}
+use Rattle.job_steps.specs.declared.cut.Cut.TheVariants as cuts
+use Rattle.job_ops.specs.Ends.{Ends}
+use Rattle.job_ops.specs.Meaning.{Means, MeansWhole, IsCutCommand, verb_of}
+use Rattle.job_ops.specs.Setting.{Setting, setting_of}
+use Rattle.job_ops.specs.Turns.{Action, Turns, AreCutTurns}
+use Rattle.job_ops.proofs.Codes.{code_started}
+use Rattle.job_ops.proofs.SameSessions.{no_change, ends_told, told_grows}
+
+-- ---- what may be cut
+
+-- a command may be cut before it did anything
+cut_before : (setting : Setting) (command : Command) (units : List UnitModel) → IsCutCommand setting command units [] None
+cut_before setting (commands.PrintVtoc unit) units = (refl, refl)
+cut_before setting (commands.Release filter unit) units = inl (refl, refl)
+cut_before setting (commands.Consolidate filter unit) units = (refl, refl)
+cut_before setting (commands.Defrag unit index limit) units = (refl, refl)
+cut_before setting (commands.Copy filter unit to delete purge replace rename tolerate) units = (refl, refl)
+cut_before setting (commands.DumpDataset filter unit outs reset delete purge tolerate) units = (refl, refl)
+cut_before setting (commands.DumpFull unit outs) units = (refl, refl)
+cut_before setting (commands.RestoreDataset filter input to purge replace rename) units = (refl, refl)
+cut_before setting (commands.RestoreFull input to purge) units = (refl, refl)
+
+-- turns that all ended may be cut behind the last
+turns_cut : (facts : Facts) (Turn : Dsn → Action) (names : List Dsn) (units : List UnitModel) (steps : List Step) (said : List Message)
+    → Turns facts Turn names units steps said → AreCutTurns facts Turn names units steps None
+turns_cut facts Turn [] units steps said turns = (turns.0, refl)
+turns_cut facts Turn (name ∷ names) units steps said (done, more, first, told, after, ends, rest, steps_are, said_are) =
+    inr (done, more, first, after, ends, turns_cut facts Turn names after more told rest, steps_are)
+
+-- so may a command
+cut_behind : (setting : Setting) (command : Command) (units : List UnitModel) (steps : List Step) (said : List Message)
+    → Means setting command units steps said → IsCutCommand setting command units steps None
+cut_behind setting (commands.PrintVtoc unit) units steps said means = (means.0, refl)
+cut_behind setting (commands.Release filter unit) units steps said (inl (message, refused, none, is)) = inl (none, refl)
+cut_behind setting (commands.Release filter unit) units steps said (inr (place, names, goes, inl (no_names, none, is))) = inl (none, refl)
+cut_behind setting (commands.Release filter unit) units steps said (inr (place, names, goes, inr (some, turns))) =
+    inr (place, names, goes, turns_cut setting.facts _ names units steps said turns)
+cut_behind setting (commands.Consolidate filter unit) units steps said means = absurd means
+cut_behind setting (commands.Defrag unit index limit) units steps said means = absurd means
+cut_behind setting (commands.Copy filter unit to delete purge replace rename tolerate) units steps said means = absurd means
+cut_behind setting (commands.DumpDataset filter unit outs reset delete purge tolerate) units steps said means = absurd means
+cut_behind setting (commands.DumpFull unit outs) units steps said means = absurd means
+cut_behind setting (commands.RestoreDataset filter input to purge replace rename) units steps said means = absurd means
+cut_behind setting (commands.RestoreFull input to purge) units steps said means = absurd means
+
+-- ---- the statement
+
+module _ {P : Type 0} (pools : Ghosts P) (command : Command) (held : List Hold) (today : Day) (session : SessionView P) where
+  -- what the command does ends so
+  abbrev pub EndsWithin : SessionView P → List Step → List Step → List Message → List Message → Result (SessionView P) (Cut P) → Type 0
+  EndsWithin from before after first last result =
+      Ends pools (Means (setting_of pools from held today) command) (IsCutCommand (setting_of pools from held today) command) from before after first last result
+
+  -- the whole statement does
+  abbrev pub EndsWholly : List Step → List Step → List Message → Result (SessionView P) (Cut P) → Type 0
+  EndsWholly before after last result =
+      Ends pools (MeansWhole (setting_of pools session held today) command) (IsCutCommand (setting_of pools session held today) command) session before after [] last result
+
+  -- it couldn't say that it started
+  pub not_started : (steps : List Step) (last : List Message) (cut : Cut P) → cut ≡ cuts.Short session → last ≡ [] → EndsWholly steps steps last (Err cut)
+  not_started steps last cut short none =
+      subst (λ (k : Cut P). EndsWholly steps steps last (Err k)) (sym short) (record {
+        added = [];
+        said = [];
+        steps_are = sym (append-nil steps);
+        messages_are = none;
+        run = run_idle (tt {0});
+        facts = no_change pools session;
+        ended = tt;
+        cut = λ told units settled. cut_before (setting_of pools session held today) command units;
+      })
+
+  -- what it does was cut
+  pub cut_within : (from : SessionView P) (before after : List Step) (first last : List Message) (cut : Cut P) → from ≡ session → first ≡ messages.Started (verb_of command) ∷ []
+      → EndsWithin from before after first last (Err cut) → EndsWholly before after last (Err cut)
+  cut_within from before after first last cut is started given =
+      let ends = subst (λ (s : SessionView P). EndsWithin s before after first last (Err cut)) is given in
+      record {
+        added = ends.added;
+        said = messages.Started (verb_of command) ∷ ends.said;
+        steps_are = ends.steps_are;
+        messages_are = ends.messages_are ∙ ap (λ (l : List Message). l ++ ends.said) started;
+        run = ends.run;
+        facts = ends.facts;
+        ended = tt;
+        cut = ends.cut;
+      }
+
+  -- it ended, and said so, or couldn't
+  pub ended_wholly : (from next : SessionView P) (before after : List Step) (first between last : List Message) (code : ℕ) (result : Result (SessionView P) (Cut P)) → from ≡ session
+      → first ≡ messages.Started (verb_of command) ∷ [] → EndsWithin from before after first between (Ok next) → code ≡ greatest_code between
+      → IfOk result (λ kept. (kept ≡ next) × (last ≡ between ++ (messages.Ended (verb_of command) code ∷ [])))
+      → IfErr result (λ cut. (cut ≡ cuts.Short next) × (last ≡ between)) → EndsWholly before after last result
+  ended_wholly from next before after first between last code result is started given code_is ok err =
+      let setting = setting_of pools session held today in
+      let verb = verb_of command in
+      let ends = subst (λ (s : SessionView P). EndsWithin s before after first between (Ok next)) is given in
+      let between_is : between ≡ messages.Started verb ∷ ends.said = ends.messages_are ∙ ap (λ (l : List Message). l ++ ends.said) started in
+      let code_told : code ≡ greatest_code ends.said = code_is ∙ ap (λ (l : List Message). greatest_code l) between_is ∙ code_started verb ends.said in
+      let whole = messages.Started verb ∷ (ends.said ++ (messages.Ended verb (greatest_code ends.said) ∷ [])) in
+      let grown = told_grows (λ kept. kept ≡ next) (λ cut. cut ≡ cuts.Short next) between last (messages.Ended verb code ∷ []) result ok err in
+      ends_told pools whole result ends.run ends.facts ends.steps_are
+      (IfOk-weaker result _ _ (λ kept p. (
+        p.0,
+        p.1 ∙ ap (λ (l : List Message). l ++ (messages.Ended verb code ∷ [])) between_is ∙ ap (λ (c : ℕ). messages.Started verb ∷ (ends.said ++ (messages.Ended verb c ∷ []))) code_told,
+      )) ok)
+      (IfErr-weaker result _ _ (λ cut p. p.0) err)
+      (messages.Started verb ∷ (ends.said ++ grown.0), grown.1 ∙ ap (λ (l : List Message). l ++ grown.0) between_is)
+      (λ told units settled. (ends.said, ends.ended told units settled, refl))
+      (λ told units settled. cut_behind setting command units ends.added ends.said (ends.ended told units settled))

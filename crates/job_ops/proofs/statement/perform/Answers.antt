@@ -1,0 +1,47 @@
+use Rattle.std.proofs.Common.{[], Ok, Err, refl, sym, subst}
+use Rattle.std.proofs.lemmas.List.{append-nil}
+use Rattle.sysin_lang.specs.declared.command.Command.{Command}
+use Rattle.move_core.proofs.Running.{run_idle}
+use Rattle.job_steps.specs.declared.cut.Cut.TheVariants as cuts
+use Rattle.job_ops.specs.Ends.{Ends}
+use Rattle.job_ops.specs.Meaning.{Means, IsCutCommand}
+use Rattle.job_ops.specs.Setting.{setting_of}
+use Rattle.job_ops.proofs.statement.perform.Goals as goal
+
+pub returns-in-Ok : goal.returns-in-Ok
+returns-in-Ok g c =
+    let setting = setting_of g.P.Pool c.args.session c.args.held.now c.args.today in
+    let told = c.in-Ok.ensures.listed in
+    subst (λ (command : Command). Ends g.P.Pool (Means setting command) (IsCutCommand setting command) c.args.session c.args.log.now.steps.items c.args.log.now.steps.items
+    c.args.log.now.messages.items c.print.new.messages.items (Ok c.args.session)) (sym c.in-PrintVtoc.is) (record {
+      added = [];
+      said = told.0;
+      steps_are = sym (append-nil c.args.log.now.steps.items);
+      messages_are = told.1;
+      run = run_idle (tt {0});
+      facts = record { shape = refl; names = refl; room = refl };
+      ended = told.2 setting refl;
+      cut = tt;
+    })
+
+pub returns-in-Err : goal.returns-in-Err
+returns-in-Err g c =
+    let setting = setting_of g.P.Pool c.args.session c.args.held.now c.args.today in
+    let told = c.in-Err.ensures.grows in
+    subst (λ (command : Command). Ends g.P.Pool (Means setting command) (IsCutCommand setting command) c.args.session c.args.log.now.steps.items c.args.log.now.steps.items
+    c.args.log.now.messages.items c.print.new.messages.items (Err (cuts.Short c.args.session))) (sym c.in-PrintVtoc.is) (record {
+      added = [];
+      said = told.0;
+      steps_are = sym (append-nil c.args.log.now.steps.items);
+      messages_are = told.1;
+      run = run_idle (tt {0});
+      facts = record { shape = refl; names = refl; room = refl };
+      ended = tt;
+      cut = λ tells units settled. (refl, refl);
+    })
+
+pub returns-in-Release : goal.returns-in-Release
+returns-in-Release g c =
+    let setting = setting_of g.P.Pool c.args.session c.args.held.now c.args.today in
+    subst (λ (command : Command). Ends g.P.Pool (Means setting command) (IsCutCommand setting command) c.args.session c.args.log.now.steps.items c.release.new.log.steps.items
+    c.args.log.now.messages.items c.release.new.log.messages.items c.release.result) (sym c.in-Release.is) c.release.ensures

@@ -1,0 +1,85 @@
+-- How a part of a statement ends, and how a statement does.
+use Rattle.std.specs.Prelude.{◌≡◌, ◌⊎◌, List, [], ◌∷◌, ◌++◌, take, Option, None, Result, Ok, Err, IfOk, IfErr}
+use Rattle.by_rules.specs.declared.day.Day.{Day}
+use Rattle.dasd_pool.specs.Count.{Rose}
+use Rattle.dasd_pool.specs.declared.pool.Pool.{Ghosts}
+use Rattle.enq_table.specs.declared.hold.Hold.{Hold}
+use Rattle.sysin_lang.specs.declared.command.Command.{Command}
+use Rattle.volume_model.specs.Unit.{UnitModel}
+use Rattle.move_core.specs.declared.steps.Step.{Step}
+use Rattle.move_core.specs.Facts.{shown}
+use Rattle.move_core.specs.Runs.{IsRun}
+use Rattle.move_core.specs.Stands.{IsSettled}
+use Rattle.unit_session.specs.Sessions.{SessionView}
+use Rattle.job_steps.specs.declared.cut.Cut.{Cut}
+use Rattle.job_steps.specs.declared.cut.Cut.TheVariants as cuts
+use Rattle.job_steps.specs.Carried.{pool_left, pending_left, pending_cut, Continues}
+use Rattle.job_lines.specs.declared.message.Message.{Message}
+use Rattle.job_lines.specs.declared.message.Message.TheVariants as messages
+use Rattle.job_lines.specs.Severity.{greatest_code}
+use Rattle.job_ops.specs.declared.report.Report.{Report}
+use Rattle.job_ops.specs.declared.outcome.Outcome.{Outcome}
+use Rattle.job_ops.specs.declared.outcome.Outcome.TheVariants as outcomes
+use Rattle.job_ops.specs.Meaning.{verb_of, MeansStatement, IsCutCommand}
+use Rattle.job_ops.specs.Setting.{facts_of, setting_of}
+use Rattle.job_ops.specs.Turns.{Action}
+
+-- for all units that the session's pool stands for, where it tells
+abbrev pub ForUnits : {P : Type 0} → Ghosts P → SessionView P → (List UnitModel → Type 0) → Type 0
+ForUnits pools session Holds = pools.tells → (units : List UnitModel) → IsSettled (facts_of pools session) (pools.disk session.pool).state units → Holds units
+
+-- what never changes of the session stays
+pub record KeepsFacts {P : Type 0} (pools : Ghosts P) (old new : SessionView P) : Type 0 where
+  pub shape : pools.shape new.pool ≡ pools.shape old.pool
+  pub names : new.names ≡ old.names
+  pub room : new.room ≡ old.room
+
+abbrev pub LeavesFacts : {P : Type 0} → Ghosts P → SessionView P → Result (SessionView P) (Cut P) → Type 0
+LeavesFacts pools session (Ok next) = KeepsFacts pools session next
+LeavesFacts pools session (Err (cuts.Short kept)) = KeepsFacts pools session kept
+LeavesFacts pools session (Err (cuts.Halted broken)) = Unit {0}
+
+-- What a part of a statement does that goes on from a session: its steps are added to those of the run, and its messages to those of the statement. They are
+-- those of an action, or it was cut within them.
+pub record Ends {P : Type 0} (pools : Ghosts P) (Means : Action) (IsCut : List UnitModel → List Step → Option Step → Type 0) (session : SessionView P)
+    (steps_before steps_after : List Step) (messages_before messages_after : List Message) (result : Result (SessionView P) (Cut P)) : Type 0 where
+  pub added : List Step
+  pub said : List Message
+  pub steps_are : steps_after ≡ steps_before ++ added
+  pub messages_are : messages_after ≡ messages_before ++ said
+  pub run : IsRun pools.tells (shown pools session.pool) (shown pools (pool_left result)) (Continues result) added (pending_left result)
+  pub facts : LeavesFacts pools session result
+  pub ended : IfOk result (λ next. ForUnits pools session (λ units. Means units added said))
+  pub cut : IfErr result (λ cut. ForUnits pools session (λ units. IsCut units added (pending_cut cut)))
+
+-- ---- a statement
+
+-- it is cut short: it says only that it started, or nothing where there was no memory for that
+abbrev pub SaysStarted : Command → Report → Type 0
+SaysStarted command report = report.messages ≡ messages.Started (verb_of command) ∷ []
+
+-- How a statement ended. The steps are those of the run before it and those that it added.
+abbrev pub EndsStatement : {P : Type 0} → Ghosts P → SessionView P → Command → List Hold → Day → List Step → Outcome P → Type 0
+EndsStatement pools session command held today before (outcomes.Done next report steps) =
+    (added : List Step) × (steps.items ≡ before ++ added) × KeepsFacts pools session next
+    × IsRun pools.tells (shown pools session.pool) (shown pools next.pool) (Unit {0}) added None
+    × ForUnits pools session (λ units. MeansStatement (setting_of pools session held today) command units added report)
+EndsStatement pools session command held today before (outcomes.Halted broken report steps) =
+    (added : List Step) × (steps.items ≡ before ++ added) × Rose (pools.faults session.pool) (pools.faults broken.pool) × SaysStarted command report
+    × IsRun pools.tells (shown pools session.pool) (shown pools broken.pool) ⊥ added broken.pending
+    × ForUnits pools session (λ units. IsCutCommand (setting_of pools session held today) command units added broken.pending)
+EndsStatement pools session command held today before (outcomes.Short kept report steps) =
+    (added : List Step) × (steps.items ≡ before ++ added) × KeepsFacts pools session kept × ((report.messages ≡ []) ⊎ SaysStarted command report)
+    × IsRun pools.tells (shown pools session.pool) (shown pools kept.pool) (Unit {0}) added None
+    × ForUnits pools session (λ units. IsCutCommand (setting_of pools session held today) command units added None)
+
+-- a statement that was cut ended so, with these steps and the first of its messages
+abbrev pub IsCutOutcome : {P : Type 0} → Cut P → List Step → List Message → Outcome P → Type 0
+IsCutOutcome cut steps messages (outcomes.Done next report done) = ⊥
+IsCutOutcome cut steps messages (outcomes.Halted broken report done) = (cut ≡ cuts.Halted broken) × (done.items ≡ steps) × (report.messages ≡ take 1 messages)
+IsCutOutcome cut steps messages (outcomes.Short kept report done) = (cut ≡ cuts.Short kept) × (done.items ≡ steps) × (report.messages ≡ take 1 messages)
+
+abbrev pub IsDoneOutcome : {P : Type 0} → SessionView P → List Step → List Message → Outcome P → Type 0
+IsDoneOutcome session steps messages (outcomes.Done next report done) =
+    (next ≡ session) × (done.items ≡ steps) × (report.messages ≡ messages) × (report.code ≡ greatest_code messages)
+IsDoneOutcome session steps messages _ = ⊥

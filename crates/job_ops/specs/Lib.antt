@@ -1,0 +1,10 @@
+pub mod Setting
+pub mod Refusal
+pub mod Reasons
+pub mod Turns
+pub mod Listing
+pub mod Release
+pub mod Meaning
+pub mod Ends
+pub mod Asked
+pub mod Shrinking

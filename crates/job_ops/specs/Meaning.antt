@@ -1,0 +1,47 @@
+-- What a statement means.
+use Rattle.std.specs.Prelude.{◌≡◌, List, [], ◌∷◌, ◌++◌, Option, None}
+use Rattle.sysin_words.specs.declared.lead.Verb.{Verb}
+use Rattle.sysin_lang.specs.declared.command.Command.{Command}
+use Rattle.sysin_lang.specs.declared.command.Command.TheVariants as commands
+use Rattle.sysin_forms.specs.Form.{form_of, verb_of_form}
+use Rattle.volume_model.specs.Unit.{UnitModel}
+use Rattle.move_core.specs.declared.steps.Step.{Step}
+use Rattle.job_lines.specs.declared.message.Message.{Message}
+use Rattle.job_lines.specs.declared.message.Message.TheVariants as messages
+use Rattle.job_lines.specs.Severity.{greatest_code}
+use Rattle.job_ops.specs.declared.report.Report.{Report}
+use Rattle.job_ops.specs.Setting.{Setting}
+use Rattle.job_ops.specs.Listing.{Prints}
+use Rattle.job_ops.specs.Release.{Releases, IsCutRelease}
+use Rattle.job_ops.specs.Turns.{Action}
+
+-- the commands that are built
+abbrev pub IsBuilt : Command → Type 0
+IsBuilt (commands.PrintVtoc unit) = Unit {0}
+IsBuilt (commands.Release filter unit) = Unit {0}
+IsBuilt _ = ⊥
+
+-- what a command does and says between the line that it started and the line that it ended
+abbrev pub Means : Setting → Command → List UnitModel → List Step → List Message → Type 0
+Means setting (commands.PrintVtoc serial) units steps said = Prints setting serial units steps said
+Means setting (commands.Release filter serial) units steps said = Releases setting filter serial units steps said
+Means setting _ units steps said = ⊥
+
+-- what it had done where it was cut
+abbrev pub IsCutCommand : Setting → Command → List UnitModel → List Step → Option Step → Type 0
+IsCutCommand setting (commands.Release filter serial) units steps pending = IsCutRelease setting filter serial units steps pending
+IsCutCommand setting _ units steps pending = (steps ≡ []) × (pending ≡ None)
+
+abbrev pub verb_of : Command → Verb
+verb_of command = verb_of_form (form_of command)
+
+-- the same, with the line that it started before, and behind it the line that it ended, with the code of its gravest message
+abbrev pub MeansWhole : Setting → Command → Action
+MeansWhole setting command units steps whole =
+    (said : List Message) × Means setting command units steps said
+    × (whole ≡ messages.Started (verb_of command) ∷ (said ++ (messages.Ended (verb_of command) (greatest_code said) ∷ [])))
+
+-- the report of a whole statement
+pub record MeansStatement (setting : Setting) (command : Command) (units : List UnitModel) (steps : List Step) (report : Report) : Type 0 where
+  pub means : MeansWhole setting command units steps report.messages
+  pub code_is : report.code ≡ greatest_code report.messages

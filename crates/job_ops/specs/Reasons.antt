@@ -1,0 +1,34 @@
+-- Why a data set that was selected isn't processed.
+use Rattle.std.specs.Prelude.{◌≡◌, ◌⊎◌, true, List, [], ◌∷◌, Any}
+use Rattle.dsn_filter.specs.declared.dsn.Dsn.{Dsn}
+use Rattle.enq_table.specs.declared.hold.Hold.{Hold}
+use Rattle.enq_table.specs.Table.{Conflicts}
+use Rattle.volume_model.specs.Unit.{DataSet, OnlineVolume}
+use Rattle.step_room.specs.Room.{IsFullFor}
+use Rattle.job_lines.specs.declared.message.Reason.{Reason}
+use Rattle.job_lines.specs.declared.message.Reason.TheVariants as reasons
+use Rattle.job_ops.specs.Refusal.{IsFirst}
+
+-- the reasons, in the order in which they are judged
+abbrev pub in_order : List Reason
+in_order =
+    reasons.NewNameTooLong ∷ reasons.Pinned ∷ reasons.Held ∷ reasons.NotExpired ∷ reasons.NameExists ∷ reasons.BadTrack ∷ reasons.NotRelocatable
+    ∷ reasons.BlockTooLong ∷ reasons.NoSpace ∷ reasons.VtocFull ∷ []
+
+-- the one that is told: the first whose condition holds
+abbrev pub IsReason : (Reason → Type 0) → Reason → Type 0
+IsReason Prevents reason = IsFirst Prevents in_order reason
+
+abbrev pub HasNoReason : (Reason → Type 0) → Type 0
+HasNoReason Prevents = (reason : Reason) → ¬ Prevents reason
+
+-- ---- conditions
+
+-- somebody holds the name, so that it can't be changed
+abbrev pub IsHeld : List Hold → Dsn → Type 0
+IsHeld held name = Any (Conflicts name true) held
+
+-- The VTOC has no room for a change; or, where the free space isn't stated, none for stating it, which comes first. Whether it is stated makes no difference to
+-- the room for another change.
+abbrev pub LacksRoomFor : OnlineVolume → List DataSet → List DataSet → Type 0
+LacksRoomFor volume gone put = ((volume.repair ≡ true) × IsFullFor volume [] []) ⊎ IsFullFor volume gone put

@@ -1,0 +1,18 @@
+//! Statements: what each command does to the volumes of a session, and what it says of it (DFSMSdss Storage Administration).
+#![tactic(auto)]
+
+mod listing;
+mod log;
+mod outcome;
+mod release;
+mod report;
+mod shrinking;
+mod statement;
+mod units;
+
+pub use job_lines::{Message, Reason, Severity, line_of};
+pub use job_select::select;
+pub use outcome::Outcome;
+pub use report::{Messages, Report};
+pub use statement::run_statement;
+pub use units::UnitUse;

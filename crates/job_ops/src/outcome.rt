@@ -1,0 +1,27 @@
+//! How a statement ended.
+
+use crate::report::Report;
+use dasd_pool::Pool;
+use move_core::Step;
+use unit_session::{Broken, Session};
+
+/// How a statement ended: it was done, its pool failed, or memory ran out. The steps are those of the run before it, and behind them those that it did.
+#[derive(Drop)]
+pub enum Outcome<P: Pool> {
+    Done {
+        session: Session<P>,
+        report: Report,
+        steps: Vec<Step>,
+    },
+    /// The pool that failed knows which step was under way.
+    Halted {
+        broken: Broken<P>,
+        report: Report,
+        steps: Vec<Step>,
+    },
+    Short {
+        session: Session<P>,
+        report: Report,
+        steps: Vec<Step>,
+    },
+}

@@ -1,0 +1,171 @@
+//! A statement over a session.
+
+ghost use Rattle.std.specs.Prelude.{◌≡◌, ◌⊎◌, ◌∷◌, [], take, IfErr};
+ghost use Rattle.by_rules.specs.Day.{IsToday};
+ghost use Rattle.job_lines.specs.Severity.{greatest_code as greatest_code_of};
+ghost use Rattle.job_steps.specs.Carried.{IsShort};
+ghost use Rattle.job_ops.specs.Ends.{Ends, EndsStatement, IsCutOutcome, IsDoneOutcome};
+ghost use Rattle.job_ops.specs.Meaning.{IsBuilt, Means, MeansWhole, IsCutCommand, verb_of as verb_in};
+ghost use Rattle.job_ops.specs.Setting.{setting_of};
+
+use crate::listing::print;
+use crate::log::{Log, say};
+use crate::outcome::Outcome;
+use crate::release::release;
+use crate::report::Report;
+use by_rules::Day;
+use ckd_image::Listed;
+use dasd_pool::Pool;
+use enq_table::Held;
+use job_lines::Message;
+use job_steps::Cut;
+use move_core::Step;
+use std::alloc::Global;
+use sysin_lang::{Command, Statement};
+use sysin_words::Verb;
+use unit_session::Session;
+
+fn verb_of(command: &Command) -> Verb
+    ensures { result ≡ verb_in command.now }
+{
+    match command {
+        Command::PrintVtoc { .. } => Verb::Print,
+        Command::Release { .. } => Verb::Release,
+        Command::Consolidate { .. } => Verb::Consolidate,
+        Command::Defrag { .. } => Verb::Defrag,
+        Command::Copy { .. } => Verb::Copy,
+        Command::DumpDataset { .. } | Command::DumpFull { .. } => Verb::Dump,
+        Command::RestoreDataset { .. } | Command::RestoreFull { .. } => Verb::Restore,
+    }
+}
+
+/// The condition code of a statement that said these.
+fn greatest_code(messages: &[Message]) -> u8
+    ensures { result ≡ greatest_code_of messages.now }
+{
+    let mut code = 0;
+    for message in messages {
+        code = message.severity().code().max(code);
+    }
+    code
+}
+
+/// Does what a command asks for.
+fn perform<P: Pool>(
+    alloc: Global,
+    session: Session<P>,
+    command: &Command,
+    held: &Held,
+    today: Day,
+    log: &mut Log,
+) -> Result<Session<P>, Cut<P>>
+    requires built { IsBuilt command.now }
+    requires today { IsToday today }
+    ensures { Ends P.Pool (Means (setting_of P.Pool session held.now today) command.now) (IsCutCommand (setting_of P.Pool session held.now today) command.now) session
+        log.old.steps.items log.new.steps.items log.old.messages.items log.new.messages.items result }
+{
+    match command {
+        Command::PrintVtoc { unit } => match print(&session, *unit, &mut log.messages) {
+            Ok(()) => Ok(session),
+            Err(_) => Err(Cut::Short(session)),
+        },
+        Command::Release { filter, unit } => {
+            release(alloc, session, filter, *unit, held, today, log)
+        }
+        _ => unreachable!(),
+    }
+}
+
+/// What a statement says that was cut: that it started, if it says anything.
+fn cut_report(messages: Vec<Message>) -> Report
+    ensures { result.messages ≡ take 1 messages.items }
+{
+    let mut messages = messages;
+    messages.truncate(1);
+    Report {
+        messages: Listed::from_vec(messages),
+        code: 0,
+    }
+}
+
+/// How a statement ended that was cut.
+fn cut_short<P: Pool>(cut: Cut<P>, log: Log) -> Outcome<P>
+    ensures { IsCutOutcome cut log.steps.items log.messages.items result }
+{
+    let Log { steps, messages } = log;
+    let report = cut_report(messages);
+    match cut {
+        Cut::Halted(broken) => Outcome::Halted {
+            broken,
+            report,
+            steps,
+        },
+        Cut::Short(session) => Outcome::Short {
+            session,
+            report,
+            steps,
+        },
+    }
+}
+
+/// Says that a statement started, does it, and says that it ended, with its code.
+fn whole<P: Pool>(
+    alloc: Global,
+    session: Session<P>,
+    command: &Command,
+    held: &Held,
+    today: Day,
+    log: &mut Log,
+) -> Result<Session<P>, Cut<P>>
+    requires built { IsBuilt command.now }
+    requires today { IsToday today }
+    requires start { log.old.messages.items ≡ [] }
+    ensures ends { Ends P.Pool (MeansWhole (setting_of P.Pool session held.now today) command.now) (IsCutCommand (setting_of P.Pool session held.now today) command.now) session
+        log.old.steps.items log.new.steps.items [] log.new.messages.items result }
+    ensures begins { IfErr result (λ cut. ((log.new.messages.items ≡ []) × IsShort cut) ⊎ (take 1 log.new.messages.items ≡ Message.Started (verb_in command.now) ∷ [])) }
+{
+    let verb = verb_of(command);
+    let session = say(session, &mut log.messages, Message::Started(verb))?;
+    let session = perform(alloc, session, command, held, today, log)?;
+    let code = greatest_code(&log.messages);
+    say(session, &mut log.messages, Message::Ended(verb, code))
+}
+
+/// How a statement ended that was done.
+fn done<P: Pool>(session: Session<P>, log: Log) -> Outcome<P>
+    ensures { IsDoneOutcome session log.steps.items log.messages.items result }
+{
+    let Log { steps, messages } = log;
+    let code = greatest_code(&messages);
+    Outcome::Done {
+        session,
+        report: Report {
+            messages: Listed::from_vec(messages),
+            code,
+        },
+        steps,
+    }
+}
+
+/// Runs a statement over the volumes of a session. `steps` are those of the run so far.
+pub fn run_statement<P: Pool>(
+    alloc: Global,
+    session: Session<P>,
+    statement: &Statement,
+    held: &Held,
+    today: Day,
+    steps: Vec<Step>,
+) -> Outcome<P>
+    requires built { IsBuilt statement.now.command }
+    requires today { IsToday today }
+    ensures { EndsStatement P.Pool session statement.now.command held.now today steps.items result }
+{
+    let mut log = Log {
+        steps,
+        messages: Vec::new(alloc),
+    };
+    match whole(alloc, session, &statement.command, held, today, &mut log) {
+        Ok(session) => done(session, log),
+        Err(cut) => cut_short(cut, log),
+    }
+}
