@@ -1,0 +1,5 @@
+//! Tests: texts of SYSIN.
+#![tactic(auto)]
+
+#[cfg(test)]
+mod tests;

@@ -1,0 +1,17 @@
+pub mod Samples
+pub mod Around
+pub mod Opening
+pub mod Words
+pub mod Blocks
+pub mod Ending
+pub mod Lines
+pub mod Moving
+pub mod Taking
+pub mod Going
+pub mod Completing
+pub mod Counting
+pub mod Refusing
+pub mod Finishing
+pub mod Columns
+pub mod Places
+pub mod OneText

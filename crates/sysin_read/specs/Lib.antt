@@ -1,0 +1,7 @@
+pub mod Statement
+pub mod Rest
+pub mod Reading
+pub mod Why
+pub mod Progress
+pub mod Refusal
+pub mod Laws
