@@ -1,0 +1,5 @@
+//! Tests: the words of the command line.
+#![tactic(auto)]
+
+#[cfg(test)]
+mod tests;

@@ -1,0 +1,9 @@
+pub mod Signs
+pub mod Lists
+pub mod Options
+pub mod OneRun
+pub mod Ends
+pub mod Chosen
+pub mod Fronts
+pub mod Passed
+pub mod Refused
