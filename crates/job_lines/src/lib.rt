@@ -10,4 +10,5 @@ mod words;
 
 pub use line::line_of;
 pub use message::{ExtentSummary, Message, Reason, SetSummary, VolumeSummary};
+pub use names::{printed_byte, trimmed};
 pub use severity::Severity;

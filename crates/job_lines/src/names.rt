@@ -8,7 +8,7 @@ use std::alloc::{AllocError, Global};
 use vol_label::{BLANK, to_ascii};
 
 /// The bytes without trailing blanks.
-pub(crate) fn trimmed(bytes: &[u8]) -> &[u8]
+pub fn trimmed(bytes: &[u8]) -> &[u8]
     ensures text { result.now ≡ trimmed_bytes bytes.now }
     ensures short { length result.now ≤ length bytes.now }
 {
@@ -20,7 +20,7 @@ pub(crate) fn trimmed(bytes: &[u8]) -> &[u8]
 }
 
 /// A byte of the code page in ASCII; a question mark for what the code page lacks.
-pub(crate) fn printed_byte(byte: u8) -> u8
+pub fn printed_byte(byte: u8) -> u8
     ensures value { result ≡ unwrap_or (ascii_of byte) 63 }
     ensures ascii { result < 128 }
 {

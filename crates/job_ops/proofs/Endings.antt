@@ -1,5 +1,6 @@
 -- How a statement ends, from how what it does ends.
-use Rattle.std.proofs.Common.{◌≡◌, ◌⊎◌, inl, inr, List, [], ◌∷◌, take, None, Ok, Err, sym, ap, subst, ◌∙◌}
+use Rattle.std.proofs.Common.{◌≡◌, ◌⊎◌, inl, inr, List, [], ◌∷◌, take, None, Ok, Err, refl, sym, ap, subst, ◌∙◌}
+use Rattle.std.specs.Prelude.{Result, IfOk, IfErr}
 use Rattle.by_rules.specs.declared.day.Day.{Day}
 use Rattle.dasd_pool.specs.declared.pool.Pool.{Ghosts}
 use Rattle.enq_table.specs.declared.hold.Hold.{Hold}
@@ -16,7 +17,7 @@ use Rattle.job_lines.specs.declared.message.Message.TheVariants as messages
 use Rattle.job_lines.specs.Severity.{greatest_code}
 use Rattle.job_ops.specs.declared.outcome.Outcome.{Outcome}
 use Rattle.job_ops.specs.declared.outcome.Outcome.TheVariants as outcomes
-use Rattle.job_ops.specs.Ends.{KeepsFacts, Ends, EndsStatement, IsCutOutcome, IsDoneOutcome}
+use Rattle.job_ops.specs.Ends.{KeepsFacts, Ends, EndsStatement, IsCutOutcome, IsDoneOutcome, LeavesSession, IsUnchanged}
 use Rattle.job_ops.specs.Meaning.{MeansWhole, IsCutCommand, verb_of}
 use Rattle.job_ops.specs.Setting.{setting_of}
 
@@ -33,6 +34,7 @@ module _ {P : Type 0} (pools : Ghosts P) (session : SessionView P) where
         means = subst (λ (l : List Message). MeansWhole (setting_of pools session held today) command units ends.added l) (sym (is.2 ∙ ends.messages_are)) (ends.ended told units settled);
         code_is = is.3 ∙ ap (λ (l : List Message). greatest_code l) (sym is.2);
       },
+      is.3 ∙ ap (λ (l : List Message). greatest_code l) (sym is.2),
     )
     ends_done (outcomes.Halted broken report steps) is = absurd is
     ends_done (outcomes.Short kept report steps) is = absurd is
@@ -70,3 +72,28 @@ module _ {P : Type 0} (pools : Ghosts P) (session : SessionView P) where
     ends_cut (outcomes.Short kept report steps) is =
         let was : EndsAs (cuts.Short kept) = subst EndsAs is.0 ends in
         (was.added, is.1 ∙ was.steps_are, was.facts, says report.messages is.2, was.run, was.cut)
+
+-- ---- what only reads
+
+pub unchanged_done : {P : Type 0} (session next : SessionView P) (steps : List Step) (said : List Message) → next ≡ session → (outcome : Outcome P) → IsDoneOutcome next steps said outcome
+    → IsUnchanged session outcome
+unchanged_done session next steps said same (outcomes.Done kept report all) is = is.0 ∙ same
+unchanged_done session next steps said same (outcomes.Halted broken report all) is = absurd is
+unchanged_done session next steps said same (outcomes.Short kept report all) is = absurd is
+
+pub unchanged_cut : {P : Type 0} (session : SessionView P) (cut : Cut P) (steps : List Step) (said : List Message) → LeavesSession session (Err cut) → (outcome : Outcome P)
+    → IsCutOutcome cut steps said outcome → IsUnchanged session outcome
+unchanged_cut session cut steps said leaves (outcomes.Done kept report all) is = absurd is
+unchanged_cut {P} session cut steps said leaves (outcomes.Halted broken report all) is = subst (λ (c : Cut P). LeavesSession session (Err c)) is.0 leaves
+unchanged_cut {P} session cut steps said leaves (outcomes.Short kept report all) is = subst (λ (c : Cut P). LeavesSession session (Err c)) is.0 leaves
+
+pub short_leaves : {P : Type 0} (session : SessionView P) (cut : Cut P) → cut ≡ cuts.Short session → LeavesSession session (Err cut)
+short_leaves {P} session cut is = subst (λ (c : Cut P). LeavesSession session (Err c)) (sym is) refl
+
+pub leaves_first : {P : Type 0} (session middle : SessionView P) (result : Result (SessionView P) (Cut P)) → middle ≡ session → LeavesSession middle result → LeavesSession session result
+leaves_first {P} session middle result same leaves = subst (λ (s : SessionView P). LeavesSession s result) same leaves
+
+pub say_leaves : {P : Type 0} (session middle : SessionView P) (result : Result (SessionView P) (Cut P)) → middle ≡ session → IfOk result (λ next. next ≡ middle)
+    → IfErr result (λ cut. cut ≡ cuts.Short middle) → LeavesSession session result
+say_leaves session middle (Ok next) same ok short = ok ∙ same
+say_leaves session middle (Err cut) same ok short = leaves_first session middle (Err cut) same (short_leaves middle cut short)

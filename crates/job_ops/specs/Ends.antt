@@ -5,6 +5,7 @@ use Rattle.dasd_pool.specs.Count.{Rose}
 use Rattle.dasd_pool.specs.declared.pool.Pool.{Ghosts}
 use Rattle.enq_table.specs.declared.hold.Hold.{Hold}
 use Rattle.sysin_lang.specs.declared.command.Command.{Command}
+use Rattle.sysin_lang.specs.declared.command.Command.TheVariants as commands
 use Rattle.volume_model.specs.Unit.{UnitModel}
 use Rattle.move_core.specs.declared.steps.Step.{Step}
 use Rattle.move_core.specs.Facts.{shown}
@@ -52,6 +53,25 @@ pub record Ends {P : Type 0} (pools : Ghosts P) (Means : Action) (IsCut : List U
   pub ended : IfOk result (λ next. ForUnits pools session (λ units. Means units added said))
   pub cut : IfErr result (λ cut. ForUnits pools session (λ units. IsCut units added (pending_cut cut)))
 
+-- ---- what only reads
+
+-- a command that changes nothing
+abbrev pub OnlyReads : Command → Type 0
+OnlyReads (commands.PrintVtoc serial) = Unit {0}
+OnlyReads _ = ⊥
+
+-- a part of a statement leaves its session as it was
+abbrev pub LeavesSession : {P : Type 0} → SessionView P → Result (SessionView P) (Cut P) → Type 0
+LeavesSession session (Ok next) = next ≡ session
+LeavesSession session (Err (cuts.Short kept)) = kept ≡ session
+LeavesSession session (Err (cuts.Halted broken)) = ⊥
+
+-- a statement does
+abbrev pub IsUnchanged : {P : Type 0} → SessionView P → Outcome P → Type 0
+IsUnchanged session (outcomes.Done next report steps) = next ≡ session
+IsUnchanged session (outcomes.Halted broken report steps) = ⊥
+IsUnchanged session (outcomes.Short kept report steps) = kept ≡ session
+
 -- ---- a statement
 
 -- it is cut short: it says only that it started, or nothing where there was no memory for that
@@ -64,6 +84,7 @@ EndsStatement pools session command held today before (outcomes.Done next report
     (added : List Step) × (steps.items ≡ before ++ added) × KeepsFacts pools session next
     × IsRun pools.tells (shown pools session.pool) (shown pools next.pool) (Unit {0}) added None
     × ForUnits pools session (λ units. MeansStatement (setting_of pools session held today) command units added report)
+    × (report.code ≡ greatest_code report.messages)
 EndsStatement pools session command held today before (outcomes.Halted broken report steps) =
     (added : List Step) × (steps.items ≡ before ++ added) × Rose (pools.faults session.pool) (pools.faults broken.pool) × SaysStarted command report
     × IsRun pools.tells (shown pools session.pool) (shown pools broken.pool) ⊥ added broken.pending

@@ -14,5 +14,5 @@ pub use job_lines::{Message, Reason, Severity, line_of};
 pub use job_select::select;
 pub use outcome::Outcome;
 pub use report::{Messages, Report};
-pub use statement::run_statement;
+pub use statement::{is_built, run_statement, verb_of};
 pub use units::UnitUse;

@@ -1,10 +1,10 @@
 //! A statement over a session.
 
-ghost use Rattle.std.specs.Prelude.{◌≡◌, ◌⊎◌, ◌∷◌, [], take, IfErr};
+ghost use Rattle.std.specs.Prelude.{◌≡◌, ◌↔◌, ◌⊎◌, ◌∷◌, [], take, IsTrue, IfErr};
 ghost use Rattle.by_rules.specs.Day.{IsToday};
 ghost use Rattle.job_lines.specs.Severity.{greatest_code as greatest_code_of};
 ghost use Rattle.job_steps.specs.Carried.{IsShort};
-ghost use Rattle.job_ops.specs.Ends.{Ends, EndsStatement, IsCutOutcome, IsDoneOutcome};
+ghost use Rattle.job_ops.specs.Ends.{Ends, EndsStatement, IsCutOutcome, IsDoneOutcome, LeavesSession, IsUnchanged, OnlyReads};
 ghost use Rattle.job_ops.specs.Meaning.{IsBuilt, Means, MeansWhole, IsCutCommand, verb_of as verb_in};
 ghost use Rattle.job_ops.specs.Setting.{setting_of};
 
@@ -25,7 +25,8 @@ use sysin_lang::{Command, Statement};
 use sysin_words::Verb;
 use unit_session::Session;
 
-fn verb_of(command: &Command) -> Verb
+/// The verb of a command.
+pub fn verb_of(command: &Command) -> Verb
     ensures { result ≡ verb_in command.now }
 {
     match command {
@@ -36,6 +37,16 @@ fn verb_of(command: &Command) -> Verb
         Command::Copy { .. } => Verb::Copy,
         Command::DumpDataset { .. } | Command::DumpFull { .. } => Verb::Dump,
         Command::RestoreDataset { .. } | Command::RestoreFull { .. } => Verb::Restore,
+    }
+}
+
+/// Whether a command is built.
+pub fn is_built(command: &Command) -> bool
+    ensures { IsTrue result ↔ IsBuilt command.now }
+{
+    match command {
+        Command::PrintVtoc { .. } | Command::Release { .. } => true,
+        _ => false,
     }
 }
 
@@ -61,8 +72,9 @@ fn perform<P: Pool>(
 ) -> Result<Session<P>, Cut<P>>
     requires built { IsBuilt command.now }
     requires today { IsToday today }
-    ensures { Ends P.Pool (Means (setting_of P.Pool session held.now today) command.now) (IsCutCommand (setting_of P.Pool session held.now today) command.now) session
+    ensures ends { Ends P.Pool (Means (setting_of P.Pool session held.now today) command.now) (IsCutCommand (setting_of P.Pool session held.now today) command.now) session
         log.old.steps.items log.new.steps.items log.old.messages.items log.new.messages.items result }
+    ensures reads { OnlyReads command.now → LeavesSession session result }
 {
     match command {
         Command::PrintVtoc { unit } => match print(&session, *unit, &mut log.messages) {
@@ -123,6 +135,7 @@ fn whole<P: Pool>(
     ensures ends { Ends P.Pool (MeansWhole (setting_of P.Pool session held.now today) command.now) (IsCutCommand (setting_of P.Pool session held.now today) command.now) session
         log.old.steps.items log.new.steps.items [] log.new.messages.items result }
     ensures begins { IfErr result (λ cut. ((log.new.messages.items ≡ []) × IsShort cut) ⊎ (take 1 log.new.messages.items ≡ Message.Started (verb_in command.now) ∷ [])) }
+    ensures reads { OnlyReads command.now → LeavesSession session result }
 {
     let verb = verb_of(command);
     let session = say(session, &mut log.messages, Message::Started(verb))?;
@@ -158,7 +171,10 @@ pub fn run_statement<P: Pool>(
 ) -> Outcome<P>
     requires built { IsBuilt statement.now.command }
     requires today { IsToday today }
-    ensures { EndsStatement P.Pool session statement.now.command held.now today steps.items result }
+    ensures ends { EndsStatement P.Pool session statement.now.command held.now today steps.items result }
+
+    // A command that changes nothing leaves the session as it was.
+    ensures reads { OnlyReads statement.now.command → IsUnchanged session result }
 {
     let mut log = Log {
         steps,

@@ -35,6 +35,13 @@ impl Script {
         Script { steps }
     }
 
+    /// Its steps, in the order of the text.
+    pub fn steps(&self) -> &[Step]
+        ensures { plan_of result.now ≡ plan_of_script self.now }
+    {
+        self.steps.as_slice()
+    }
+
     /// The next command to run, and none at the end.
     pub fn next(&self, flow: &mut Flow) -> Option<&Statement>
         ensures { Gives (next_of (left_of self.now flow.old) (codes_of flow.old)) result (left_of self.now flow.new) (codes_of flow.new) }

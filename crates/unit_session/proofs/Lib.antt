@@ -19,3 +19,4 @@ pub mod PlanVolumes
 pub mod CopyDone
 pub mod Prepared
 pub mod SetTexts
+pub mod Registered

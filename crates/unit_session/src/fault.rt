@@ -75,6 +75,15 @@ impl<P> Broken<P> {
         let Broken { pool, .. } = self;
         pool
     }
+
+    /// The pool, and the step that was under way.
+    pub fn into_parts(self) -> (P, Option<Step>)
+        ensures pool { result.0 ≡ self.pool }
+        ensures pending { result.1 ≡ self.pending }
+    {
+        let Broken { pool, pending } = self;
+        (pool, pending)
+    }
 }
 
 impl<P: Pool> From<Session<P>> for Broken<P> {

@@ -113,6 +113,10 @@ impl<P: Pool> Session<P> {
         ensures names { IfOk result (λ session. session.names ≡ names.now) }
         ensures room { IfOk result (λ session. 3 ≤ session.room) }
 
+        // What never changes of the pool is what its registration says.
+        ensures facts { P.tells → IfOk result (λ session. (facts : Facts) (models : List UnitModel) → facts.shape ≡ P.shape session.pool
+            → IsSettled facts (P.disk session.pool).state models → facts ≡ record { shape = P.shape session.pool; names = session.names; room = session.room }) }
+
         // A refusal names the first cause that stands against the opening, and at no moment was anything written.
         ensures allowed { P.tells → OnOk result (MayOpen (P.shape pool) (P.disk pool).state.contents names.now) }
         ensures refused { P.tells → IfErr result (λ stop. IsOpenFault (P.shape pool) (P.disk pool).state.contents names.now stop.cause) }

@@ -3,13 +3,13 @@ use Rattle.std.proofs.lemmas.List.{append-nil}
 use Rattle.sysin_lang.specs.declared.command.Command.{Command}
 use Rattle.move_core.proofs.Running.{run_idle}
 use Rattle.job_steps.specs.declared.cut.Cut.TheVariants as cuts
-use Rattle.job_ops.specs.Ends.{Ends}
+use Rattle.job_ops.specs.Ends.{Ends, OnlyReads}
 use Rattle.job_ops.specs.Meaning.{Means, IsCutCommand}
 use Rattle.job_ops.specs.Setting.{setting_of}
 use Rattle.job_ops.proofs.statement.perform.Goals as goal
 
-pub returns-in-Ok : goal.returns-in-Ok
-returns-in-Ok g c =
+pub returns-in-Ok-clause-ends : goal.returns-in-Ok-clause-ends
+returns-in-Ok-clause-ends g c =
     let setting = setting_of g.P.Pool c.args.session c.args.held.now c.args.today in
     let told = c.in-Ok.ensures.listed in
     subst (λ (command : Command). Ends g.P.Pool (Means setting command) (IsCutCommand setting command) c.args.session c.args.log.now.steps.items c.args.log.now.steps.items
@@ -24,8 +24,8 @@ returns-in-Ok g c =
       cut = tt;
     })
 
-pub returns-in-Err : goal.returns-in-Err
-returns-in-Err g c =
+pub returns-in-Err-clause-ends : goal.returns-in-Err-clause-ends
+returns-in-Err-clause-ends g c =
     let setting = setting_of g.P.Pool c.args.session c.args.held.now c.args.today in
     let told = c.in-Err.ensures.grows in
     subst (λ (command : Command). Ends g.P.Pool (Means setting command) (IsCutCommand setting command) c.args.session c.args.log.now.steps.items c.args.log.now.steps.items
@@ -40,8 +40,11 @@ returns-in-Err g c =
       cut = λ tells units settled. (refl, refl);
     })
 
-pub returns-in-Release : goal.returns-in-Release
-returns-in-Release g c =
+pub returns-in-Release-clause-reads : goal.returns-in-Release-clause-reads
+returns-in-Release-clause-reads g c = λ reads. absurd (subst OnlyReads c.in-Release.is reads)
+
+pub returns-in-Release-clause-ends : goal.returns-in-Release-clause-ends
+returns-in-Release-clause-ends g c =
     let setting = setting_of g.P.Pool c.args.session c.args.held.now c.args.today in
     subst (λ (command : Command). Ends g.P.Pool (Means setting command) (IsCutCommand setting command) c.args.session c.args.log.now.steps.items c.release.new.log.steps.items
     c.args.log.now.messages.items c.release.new.log.messages.items c.release.result) (sym c.in-Release.is) c.release.ensures

@@ -1,12 +1,18 @@
-use Rattle.job_ops.proofs.Endings.{ends_done, ends_cut}
+use Rattle.job_ops.proofs.Endings.{ends_done, ends_cut, unchanged_done, unchanged_cut}
 use Rattle.job_ops.proofs.statement.run_statement.Goals as goal
 
-pub returns-in-Ok : goal.returns-in-Ok
-returns-in-Ok g c =
+pub returns-in-Ok-clause-ends : goal.returns-in-Ok-clause-ends
+returns-in-Ok-clause-ends g c =
     ends_done g.P.Pool c.args.session c.in-Ok.session c.args.statement.now.command c.args.held.now c.args.today c.args.steps.items c.whole.new.log.steps.items
     c.whole.new.log.messages.items c.in-Ok.ensures.ends c.done.result c.done.ensures
 
-pub returns-in-Err : goal.returns-in-Err
-returns-in-Err g c =
+pub returns-in-Ok-clause-reads : goal.returns-in-Ok-clause-reads
+returns-in-Ok-clause-reads g c = λ reads. unchanged_done c.args.session c.in-Ok.session _ _ (c.in-Ok.ensures.reads reads) c.done.result c.done.ensures
+
+pub returns-in-Err-clause-reads : goal.returns-in-Err-clause-reads
+returns-in-Err-clause-reads g c = λ reads. unchanged_cut c.args.session c.in-Err.cut _ _ (c.in-Err.ensures.reads reads) c.cut_short.result c.cut_short.ensures
+
+pub returns-in-Err-clause-ends : goal.returns-in-Err-clause-ends
+returns-in-Err-clause-ends g c =
     ends_cut g.P.Pool c.args.session c.in-Err.cut c.args.statement.now.command c.args.held.now c.args.today c.args.steps.items c.whole.new.log.steps.items
     c.whole.new.log.messages.items c.in-Err.ensures.ends c.in-Err.ensures.begins c.cut_short.result c.cut_short.ensures

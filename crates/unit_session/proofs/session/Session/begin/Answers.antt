@@ -8,6 +8,7 @@ use Rattle.unit_session.specs.Sessions.{IsFree}
 use Rattle.unit_session.proofs.Beginning.{pool_cause, opened_reads}
 use Rattle.unit_session.proofs.Loading.{still_free, still_rest, still_loaded, still_kept, still_vtocs}
 use Rattle.unit_session.proofs.Modelling.{models_at}
+use Rattle.unit_session.proofs.Registered.{registered}
 use Rattle.unit_session.proofs.session.Session.begin.Goals as goal
 
 pub returns-in-Err-clause-run : goal.returns-in-Err-clause-run
@@ -50,6 +51,12 @@ returns-in-Ok-loaded-clause-units g c told facts models same settled =
     (still_free (reads.shape ∙ does.shape) refl refl free)
     (found.count ∙ ap (λ (s : Shape). journal_of s) (sym reads.shape))
     (still_loaded units reads.shape (reads.same told) (found.loaded told))
+
+pub returns-in-Ok-loaded-clause-facts : goal.returns-in-Ok-loaded-clause-facts
+returns-in-Ok-loaded-clause-facts g c told facts models same settled =
+    let does = c.in-Ok.ensures in
+    let reads = c.loaded.ensures.reads in
+    registered (does.opened told) (reads.shape ∙ does.shape) (reads.same told) c.in-Ok-loaded.ensures.names reads.status.room same settled
 
 pub returns-in-Ok-loaded-clause-runs : goal.returns-in-Ok-loaded-clause-runs
 returns-in-Ok-loaded-clause-runs g c told = opened_reads (c.in-Ok.ensures.runs told) (c.loaded.ensures.reads.runs told)
