@@ -1,0 +1,6 @@
+pub mod Fronts
+pub mod Ones
+pub mod Plans
+pub mod Printing
+pub mod Rans
+pub mod Stacks

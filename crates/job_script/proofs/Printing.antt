@@ -1,0 +1,48 @@
+-- Lines that are written one after the other.
+use Rattle.std.proofs.Common.{◌≡◌, ℕ, ◌+◌, ◌<◌, ◌≤◌, List, ◌++◌, take, drop, length, get_or, Option, sym, ap, subst, ◌∙◌, append_assoc}
+use Rattle.std.proofs.lemmas.List.{drop_more, drop_all, take-append-le}
+use Rattle.dasd_pool.specs.Stream.{Appends, AppendsSome}
+use Rattle.job_lines.specs.declared.message.Message.{Message}
+use Rattle.job_lines.specs.Lines.{line}
+use Rattle.job_script.specs.Runs.{lines_in}
+use Rattle.run_lines.proofs.Appending.{HasWritten, appends_then, written_more, written_some, written_all}
+
+-- the next piece of a text was written
+pub written_piece : (old mid new : Option (List ℕ)) (text piece rest : List ℕ) → HasWritten old mid text (piece ++ rest) → Appends mid new piece → HasWritten old new text rest
+written_piece old mid new text piece rest h p = record {
+  done = h.done ++ piece;
+  parts = h.parts ∙ sym (append_assoc h.done piece rest);
+  appends = appends_then old mid new h.done piece h.appends p;
+}
+
+-- a front of it was
+pub written_front : (old mid new : Option (List ℕ)) (text piece rest : List ℕ) → HasWritten old mid text (piece ++ rest) → AppendsSome mid new piece → AppendsSome old new text
+written_front old mid new text piece rest h q =
+    let P : List ℕ → Type 0 = λ some. Appends mid new some in
+    let front : Appends mid new (take q.0 (piece ++ rest)) = subst P (sym (take-append-le q.0 piece rest q.1)) q.2 in
+    written_some old new text (drop q.0 (piece ++ rest)) (written_more old mid new text (piece ++ rest) q.0 h front)
+
+-- from a message on, its line comes first
+pub next_line : (statement : ℕ) (said : List Message) (place : ℕ) (default : Message) → place < length said
+    → lines_in statement (drop place said) ≡ line statement (get_or said place default) ++ lines_in statement (drop (place + 1) said)
+next_line statement said place default lt = ap (λ (left : List Message). lines_in statement left) (drop_more said place default lt)
+
+-- the lines from a place on are left
+abbrev pub HasLines : Option (List ℕ) → Option (List ℕ) → ℕ → List Message → ℕ → Type 0
+HasLines old new statement said place = HasWritten old new (lines_in statement said) (lines_in statement (drop place said))
+
+pub lines_next : (old mid new : Option (List ℕ)) (statement : ℕ) (said : List Message) (place : ℕ) (default : Message) → place < length said
+    → HasLines old mid statement said place → Appends mid new (line statement (get_or said place default)) → HasLines old new statement said (place + 1)
+lines_next old mid new statement said place default lt h p =
+    let P : List ℕ → Type 0 = λ left. HasWritten old mid (lines_in statement said) left in
+    written_piece old mid new (lines_in statement said) (line statement (get_or said place default)) (lines_in statement (drop (place + 1) said)) (subst P (next_line statement said place default lt) h) p
+
+pub lines_front : (old mid new : Option (List ℕ)) (statement : ℕ) (said : List Message) (place : ℕ) (default : Message) → place < length said
+    → HasLines old mid statement said place → AppendsSome mid new (line statement (get_or said place default)) → AppendsSome old new (lines_in statement said)
+lines_front old mid new statement said place default lt h q =
+    let P : List ℕ → Type 0 = λ left. HasWritten old mid (lines_in statement said) left in
+    written_front old mid new (lines_in statement said) (line statement (get_or said place default)) (lines_in statement (drop (place + 1) said)) (subst P (next_line statement said place default lt) h) q
+
+pub lines_all : (old new : Option (List ℕ)) (statement : ℕ) (said : List Message) (place : ℕ) → length said ≤ place → HasLines old new statement said place → Appends old new (lines_in statement said)
+lines_all old new statement said place le h =
+    written_all old new (lines_in statement said) (lines_in statement (drop place said)) h (ap (λ (left : List Message). lines_in statement left) (drop_all place said le))

@@ -1,0 +1,5 @@
+pub mod Built
+pub mod Backward
+pub mod Runs
+pub mod Ends
+pub mod One

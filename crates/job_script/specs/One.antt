@@ -1,0 +1,64 @@
+-- How one statement of a run ends: words that link the parts of a run.
+use Rattle.std.specs.Prelude.{◌≡◌, ◌⊎◌, ℕ, ◌≤◌, List, [], ◌∷◌, ◌++◌, Option, Some, None, Result, Ok, Err}
+use Rattle.by_rules.specs.declared.day.Day.{Day}
+use Rattle.dasd_pool.specs.Count.{Rose}
+use Rattle.dasd_pool.specs.Stream.{Appends, AppendsSome}
+use Rattle.dasd_pool.specs.declared.pool.Pool.{Ghosts}
+use Rattle.enq_table.specs.declared.hold.Hold.{Hold}
+use Rattle.move_core.specs.declared.steps.Step.{Step}
+use Rattle.move_core.specs.Facts.{shown}
+use Rattle.move_core.specs.Runs.{IsRun}
+use Rattle.sysin_lang.specs.declared.command.Statement.{Statement}
+use Rattle.unit_session.specs.Sessions.{SessionView}
+use Rattle.job_lines.specs.Severity.{greatest_code}
+use Rattle.job_ops.specs.declared.report.Report.{Report}
+use Rattle.job_ops.specs.Ends.{ForUnits, KeepsFacts, OnlyReads}
+use Rattle.job_ops.specs.Meaning.{MeansStatement}
+use Rattle.job_ops.specs.Setting.{setting_of}
+use Rattle.run_lines.specs.declared.ending.RunEnd.{RunEnd}
+use Rattle.run_lines.specs.declared.ending.RunEnd.TheVariants as ends
+use Rattle.job_script.specs.declared.left.Left.{Left}
+use Rattle.job_script.specs.declared.run.Between.{Between}
+use Rattle.job_script.specs.Ends.{LeavesAfter, after_of}
+use Rattle.job_script.specs.Runs.{Ran, lines_in}
+
+-- the lines of a statement that ended were all taken, and the run goes on; or it was stopped within them, by the sink or by want of memory
+abbrev pub EndsReport : {P : Type 0} → Option (List ℕ) → Option (List ℕ) → ℕ → ℕ → Statement → Report → SessionView P → List Step → Result (Between P) (Left P) → Type 0
+EndsReport before after faults_before faults_after statement said session steps (Ok between) =
+    (between.session ≡ session) × (between.steps.items ≡ steps) × (between.code ≡ said.code)
+    × Appends before after (lines_in statement.number said.messages) × (faults_before ≤ faults_after)
+EndsReport before after faults_before faults_after statement said session steps (Err left) =
+    (left.pool ≡ session.pool) × (left.steps.items ≡ steps) × (left.pending ≡ None)
+    × AppendsSome before after (lines_in statement.number said.messages) × (faults_before ≤ faults_after)
+    × (((left.end ≡ ends.Sink) × Rose faults_before faults_after) ⊎ (left.end ≡ ends.Memory))
+
+-- The statement ended, with these steps and this report, and the run goes on.
+pub record GoesOn {P : Type 0} (pools : Ghosts P) (before : Between P) (statement : Statement) (held : List Hold) (today : Day) (taken_before taken_after : Option (List ℕ))
+    (faults_before faults_after : ℕ) (next : Between P) : Type 0 where
+  pub added : List Step
+  pub said : Report
+  pub steps_are : next.steps.items ≡ before.steps.items ++ added
+  pub code_is : next.code ≡ said.code
+  pub gravest : said.code ≡ greatest_code said.messages
+  pub taken : Appends taken_before taken_after (lines_in statement.number said.messages)
+  pub later : faults_before ≤ faults_after
+  pub facts : KeepsFacts pools before.session next.session
+  pub run : IsRun pools.tells (shown pools before.session.pool) (shown pools next.session.pool) (Unit {0}) added None
+  pub quiet : OnlyReads statement.command → next.session.pool ≡ before.session.pool
+  pub means : ForUnits pools before.session (λ units. MeansStatement (setting_of pools before.session held today) statement.command units added said)
+
+-- what a run is to be stopped by within a statement: the statement ended, or it was cut, or it didn't begin
+abbrev pub IsStoppedIn : Statement → List Ran → Option Statement → RunEnd → Type 0
+IsStoppedIn statement ran under wanted =
+    (((one : Ran) × (one.statement ≡ statement) × (ran ≡ one ∷ [])) × (under ≡ None) × ((wanted ≡ ends.Sink) ⊎ (wanted ≡ ends.Memory)))
+    ⊎ (((ran ≡ []) × (under ≡ Some statement) × ((wanted ≡ ends.Pool) ⊎ (wanted ≡ ends.Memory)))
+    ⊎ ((ran ≡ []) × (under ≡ None) × (wanted ≡ ends.Memory)))
+
+-- how a statement of a run ended
+abbrev pub EndsOne : {P : Type 0} → Ghosts P → Between P → Statement → List Hold → Day → Option (List ℕ) → Option (List ℕ) → ℕ → ℕ → Result (Between P) (Left P) → Type 0
+EndsOne pools before statement held today taken_before taken_after faults_before faults_after (Ok next) =
+    GoesOn pools before statement held today taken_before taken_after faults_before faults_after next
+EndsOne pools before statement held today taken_before taken_after faults_before faults_after (Err left) =
+    (ran : List Ran) × (under : Option Statement) × (wanted : RunEnd) × IsStoppedIn statement ran under wanted
+    × LeavesAfter pools before.session held today before.steps.items
+    (record { before = taken_before; after = taken_after; faults_before = faults_before; faults_after = faults_after }) ran under wanted (after_of left)

@@ -1,0 +1,161 @@
+//! A run of a script.
+
+ghost use Rattle.std.specs.Prelude.{◌≡◌, ◌≢◌, ◌⊎◌, ◌∷◌, ◌++◌, ◌≤◌, [], List, None, Some, IfOk, IfErr, string_bytes};
+ghost use Rattle.by_rules.specs.Day.{IsToday};
+ghost use Rattle.dasd_pool.specs.Stream.{Appends, AppendsSome};
+ghost use Rattle.sysin_lang.specs.Script.{plan_of_script};
+ghost use Rattle.job_ops.specs.Meaning.{IsBuilt, verb_of as verb_in};
+ghost use Rattle.run_lines.specs.Endings.{last_line};
+ghost use Rattle.run_lines.specs.Texts.{Tells};
+ghost use Rattle.job_script.specs.Built.{AreBuilt};
+ghost use Rattle.job_script.specs.Ends.{EndsScript, after_of};
+ghost use Rattle.job_script.specs.One.{EndsOne, EndsReport};
+ghost use Rattle.job_script.specs.Runs.{started_line};
+
+use crate::left::Left;
+use crate::lines::{LinesFault, write_messages};
+use by_rules::Day;
+use dasd_pool::{Pool, Sink};
+use enq_table::Held;
+use job_lines::{Message, line_of};
+use job_ops::{Outcome, Report, run_statement, verb_of};
+use move_core::Step;
+use run_lines::{RunEnd, close, tell_behind, write_all};
+use std::alloc::Global;
+use sysin_lang::{Flow, Script, Statement};
+use unit_session::{Broken, Session};
+
+/// A run between two statements: the session, the steps so far, and the code of the last statement.
+#[derive(Drop)]
+struct Between<P: Pool> {
+    session: Session<P>,
+    steps: Vec<Step>,
+    code: u8,
+}
+
+/// What a run leaves whose session goes on: nothing is under way.
+fn stopped<P: Pool>(session: Session<P>, steps: Vec<Step>, end: RunEnd) -> Left<P>
+    ensures pool { result.pool ≡ session.pool }
+    ensures steps { result.steps.items ≡ steps.items }
+    ensures pending { result.pending ≡ None }
+    ensures end { result.end ≡ end }
+{
+    Left {
+        pool: session.into_pool(),
+        steps,
+        pending: None,
+        end,
+    }
+}
+
+/// Writes what a statement said that ended.
+fn report<O: Sink, P: Pool>(
+    alloc: Global,
+    out: &mut O,
+    statement: &Statement,
+    said: &Report,
+    session: Session<P>,
+    steps: Vec<Step>,
+) -> Result<Between<P>, Left<P>>
+    ensures { EndsReport (O.taken out.old) (O.taken out.new) (O.faults out.old) (O.faults out.new) statement.now said.now session steps.items result }
+{
+    match write_messages(alloc, out, statement.number, said.messages.as_slice()) {
+        Ok(()) => Ok(Between {
+            session,
+            steps,
+            code: said.code,
+        }),
+        Err(LinesFault::Sink) => Err(stopped(session, steps, RunEnd::Sink)),
+        Err(LinesFault::NoMemory) => Err(stopped(session, steps, RunEnd::Memory)),
+    }
+}
+
+/// Tries to write that a statement started whose pool failed, and the run's last line.
+fn halted<O: Sink, P: Pool>(
+    out: &mut O,
+    started: &str,
+    broken: Broken<P>,
+    steps: Vec<Step>,
+) -> Left<P>
+    ensures pool { result.pool ≡ broken.pool }
+    ensures pending { result.pending ≡ broken.pending }
+    ensures steps { result.steps.items ≡ steps.items }
+    ensures end { result.end ≡ RunEnd.Pool }
+    ensures told { Tells (O.taken out.old) (O.taken out.new) (O.faults out.old) (O.faults out.new) (started.now ++ last_line RunEnd.Pool) }
+    ensures later { O.faults out.old ≤ O.faults out.new }
+{
+    tell_behind(out, started.as_bytes(), RunEnd::Pool);
+    let (pool, pending) = broken.into_parts();
+    Left {
+        pool,
+        steps,
+        pending,
+        end: RunEnd::Pool,
+    }
+}
+
+/// Runs a statement, and writes its lines once it has ended.
+fn run_one<O: Sink, P: Pool>(
+    alloc: Global,
+    before: Between<P>,
+    statement: &Statement,
+    held: &Held,
+    today: Day,
+    out: &mut O,
+) -> Result<Between<P>, Left<P>>
+    requires built { IsBuilt statement.now.command }
+    requires today { IsToday today }
+    ensures { EndsOne P.Pool before statement.now held.now today (O.taken out.old) (O.taken out.new) (O.faults out.old) (O.faults out.new) result }
+{
+    let Between { session, steps, .. } = before;
+    let verb = verb_of(&statement.command);
+    // That line is made beforehand, since a pool that failed has to be told of without memory.
+    let started = match line_of(alloc, statement.number, &Message::Started(verb)) {
+        Ok(started) => started,
+        Err(_) => return Err(stopped(session, steps, RunEnd::Memory)),
+    };
+    match run_statement(alloc, session, statement, held, today, steps) {
+        Outcome::Done {
+            session,
+            report: said,
+            steps,
+        } => report(alloc, out, statement, &said, session, steps),
+        Outcome::Halted { broken, steps, .. } => Err(halted(out, started.as_str(), broken, steps)),
+        Outcome::Short { session, steps, .. } => {
+            let _ = write_all(out, started.as_str().as_bytes());
+            Err(stopped(session, steps, RunEnd::Memory))
+        }
+    }
+}
+
+/// Runs the statements of a script, each where the codes of those before it say so. The lines of a statement are written once it has ended.
+pub fn run_script<O: Sink, P: Pool>(
+    alloc: Global,
+    session: Session<P>,
+    script: &Script,
+    held: &Held,
+    today: Day,
+    out: &mut O,
+) -> Left<P>
+    requires built { AreBuilt (plan_of_script script.now) }
+    requires today { IsToday today }
+    ensures { EndsScript P.Pool session (plan_of_script script.now) held.now today
+        (record { before = O.taken out.old; after = O.taken out.new; faults_before = O.faults out.old; faults_after = O.faults out.new }) (after_of result) }
+{
+    let mut flow = Flow::new();
+    let mut between = Between {
+        session,
+        steps: Vec::new(alloc),
+        code: 0,
+    };
+    'statements: while let Some(statement) = script.next(&mut flow) {
+        between = match run_one(alloc, between, statement, held, today, out) {
+            Ok(between) => between,
+            Err(left) => return left,
+        };
+        script.after(&mut flow, between.code);
+    }
+    let Between { session, steps, .. } = between;
+    let end = close(out, RunEnd::Whole(flow.maxcc()));
+    stopped(session, steps, end)
+}
