@@ -1,80 +1,60 @@
--- What the words name, as the code holds it, and what the parts of a run do.
-use Rattle.std.specs.Prelude.{◌≡◌, ◌≢◌, ◌⊎◌, ℕ, List, [], ◌∷◌, ◌++◌, Option, Some, codes}
-use Rattle.dasd_pool.specs.Count.{Rose}
-use Rattle.dasd_pool.specs.Disk.{Shape, State}
-use Rattle.dasd_pool.specs.Stream.{Appends, AppendsSome}
-use Rattle.move_core.specs.declared.steps.Step.{Step}
-use Rattle.vol_label.specs.Serial.{IsSerialName}
-use Rattle.redo_core.specs.declared.fault.JournalFault.{JournalFault}
-use Rattle.redo_core.specs.declared.fault.JournalFault.TheVariants.{Pool, NoMemory}
-use Rattle.adr_top.specs.declared.words.UnitWords.{UnitWords}
-use Rattle.adr_top.specs.declared.words.FormatWords.{FormatWords}
-use Rattle.adr_top.specs.Words.{Named, FormatNamed}
-use Rattle.adr_top.specs.declared.statement.Statement.{Statement}
-use Rattle.adr_top.specs.Form.{AsksSome, IsOtherUnit, IsOutsideForm}
-use Rattle.adr_top.specs.Listed.{Tells}
-use Rattle.adr_top.specs.Causes.{last_line}
-use Rattle.adr_top.specs.Journals.{refusal_line, MakesJournal, RefusesJournal, RefusesOpening}
-use Rattle.adr_top.specs.Meaning.{Means, MeansText, IsCutShort, last_lines}
+-- What the parts of a run do: words that link them.
+use Rattle.std.specs.Prelude.{◌≡◌, ◌≢◌, ◌⊎◌, ℕ, ◌≤◌, List, Option}
+use Rattle.by_rules.specs.declared.day.Day.{Day}
+use Rattle.dasd_pool.specs.declared.outside.Sink.{Ghosts as SinkGhosts}
+use Rattle.dasd_pool.specs.Disk.{Shape}
+use Rattle.dasd_pool.specs.declared.pool.Pool.{Ghosts}
+use Rattle.enq_table.specs.declared.hold.Hold.{Hold}
+use Rattle.vol_label.specs.declared.serial.Serial.{Serial}
+use Rattle.move_core.specs.Facts.{shown}
+use Rattle.move_core.specs.Runs.{IsRun}
+use Rattle.sysin_lang.specs.Flow.{Plan}
+use Rattle.redo_core.specs.Opening.{AreNames}
+use Rattle.run_words.specs.declared.run.Run.{Run}
+use Rattle.run_words.specs.declared.run.Run.TheVariants.{Jobs, Format, Make}
+use Rattle.run_lines.specs.declared.ending.RunEnd.{RunEnd}
+use Rattle.run_lines.specs.declared.ending.RunEnd.TheVariants as ends
+use Rattle.job_script.specs.Ends.{SinkSeen, After}
+use Rattle.adr_top.specs.Asked.{serials_of}
+use Rattle.adr_top.specs.Ends.{DidNothing, Formats, OpensNot, RunsText}
+use Rattle.adr_top.specs.Texts.{SourceSeen, IsUncalled, Texts, AreReady, StopsTexts, TakesTexts}
 
--- six words, of which the first four name a unit and a journal
-pub record NameFiles (words : List (List ℕ)) (name path journal option value : List ℕ) : Type 0 where
-  pub spelled : words ≡ codes "--unit" ∷ (name ++ (61 ∷ path)) ∷ codes "--journal" ∷ journal ∷ option ∷ value ∷ []
-  pub serial : IsSerialName name
-  pub some_path : path ≢ []
-  pub some_journal : journal ≢ []
+-- a sink before and after a call
+abbrev pub sink_seen : {O : Type 0} → SinkGhosts O → O → O → SinkSeen
+sink_seen sinks old new = record { before = sinks.taken old; after = sinks.taken new; faults_before = sinks.faults old; faults_after = sinks.faults new }
 
-abbrev pub named_by : UnitWords → Named
-named_by parts = record { name = parts.files.name.now; path = parts.files.path.now; journal = parts.files.journal.now; sysin = parts.sysin.now }
+-- a run ended that did nothing to its pool
+pub record IsRefused {P : Type 0} (out : SinkSeen) (pool : P) (end : RunEnd) (left : After P) : Type 0 where
+  pub end_is : left.end ≡ end
+  pub same : left.pool ≡ pool
+  pub did : DidNothing out left
 
-abbrev pub format_named_by : FormatWords → FormatNamed
-format_named_by parts = record { name = parts.files.name.now; path = parts.files.path.now; journal = parts.files.journal.now; room = parts.room }
+-- a journal was to be made, or there was no memory for the serials
+abbrev pub EndsFormatting : {P : Type 0} → Ghosts P → SinkSeen → P → List Serial → ℕ → After P → Type 0
+EndsFormatting pools out pool serials room left = Formats pools out pool serials room left ⊎ IsRefused out pool ends.Memory left
 
--- the status of a run whose journal isn't made, and its last line
-abbrev pub fault_status : JournalFault → ℕ
-fault_status Pool = 16
-fault_status NoMemory = 32
-fault_status fault = 20
+-- the pool was called for texts that were ready
+pub record Opens {P : Type 0} (pools : Ghosts P) (out : SinkSeen) (pool : P) (serials : List Serial) (table : List Hold) (today : Day) (plan : Plan) (left : After P) : Type 0 where
+  pub run : IsRun pools.tells (shown pools pool) (shown pools left.pool) (left.end ≢ ends.Pool) left.steps left.pending
+  pub how : OpensNot pools out pool serials left ⊎ RunsText pools out pool serials table today plan left
 
-abbrev pub fault_line : JournalFault → List ℕ
-fault_line Pool = last_line 16
-fault_line NoMemory = last_line 32
-fault_line fault = refusal_line fault
+-- the texts weren't ready, or they were and the pool was called for them
+abbrev pub EndsJobs : {P : Type 0} → Ghosts P → Option (List ℕ) → SourceSeen → SourceSeen → SinkSeen → P → List Serial → Day → After P → Type 0
+EndsJobs pools path held sysin out pool serials today left =
+    TakesTexts path held sysin
+    × ((StopsTexts path held sysin left.end × IsRefused out pool left.end left)
+    ⊎ ((texts : Texts) × (table : List Hold) × (plan : Plan) × AreReady path held sysin texts table plan × Opens pools out pool serials table today plan left))
 
--- what a run did that makes a journal, by its status: the pool's state and count, what the sink took and its count, each before and after
-pub record Formats (status : ℕ) (words : List (List ℕ)) (tells : Type 0) (shape : Shape) (old new : State) (pool_before pool_now : ℕ) (before after : Option (List ℕ)) (sink_before sink_now : ℕ) : Type 0 where
-  pub known : (status ≡ 0) ⊎ (status ≡ 16) ⊎ (status ≡ 20) ⊎ (status ≡ 28) ⊎ (status ≡ 32)
-  pub done : status ≡ 0 → (line : List ℕ) × MakesJournal words tells shape old new line × Appends before after line
-  pub cut : status ≡ 28 → (line : List ℕ) × MakesJournal words tells shape old new line × AppendsSome before after line
-  pub pool : status ≡ 16 → Rose pool_before pool_now
-  pub sink : status ≡ 28 → Rose sink_before sink_now
-  pub refused : status ≡ 20 → RefusesJournal words tells shape old before after sink_before sink_now
-  pub told : status ≢ 0 → status ≢ 20 → status ≢ 28 → Tells before after sink_before sink_now (last_line status)
+-- ---- by what is asked
 
--- How a statement over an open journal ended, by its status: what the sink took and its count, each before and after, the steps that
--- were done, and the one that was under way.
-pub record EndsStatement (statement : Statement) (status : ℕ) (name : List ℕ) (tells : Type 0) (shape : Shape) (state : State)
-    (before after : Option (List ℕ)) (sink_before sink_now : ℕ) (steps : List Step) (pending : Option Step) : Type 0 where
-  pub known : (status ≡ 0) ⊎ (status ≡ 4) ⊎ (status ≡ 16) ⊎ (status ≡ 28) ⊎ (status ≡ 32) ⊎ (status ≡ 48)
-  pub done : (status ≡ 0) ⊎ (status ≡ 4) → (text : List ℕ) × (tells → Means statement name shape state.contents status steps text) × Appends before after text
-  pub cut : status ≡ 28 → (code : ℕ) × (text : List ℕ) × (tells → Means statement name shape state.contents code steps text) × AppendsSome before after text
-  pub sink : status ≡ 28 → Rose sink_before sink_now
-  pub outside : status ≡ 48 → tells → IsOtherUnit name statement shape state.contents
-  pub undone : status ≢ 0 → status ≢ 28 → steps ≡ []
-  pub under_way : (step : Step) → pending ≡ Some step → (status ≡ 16) × ((text : List ℕ) × (tells → Means statement name shape state.contents 0 (step ∷ []) text))
-  pub told : status ≢ 0 → status ≢ 4 → status ≢ 28 → Tells before after sink_before sink_now (last_lines status pending)
+-- the volumes that a run names have serials under which the pool's journal may be opened or made, and its room is one
+abbrev pub IsLawful : Shape → Run → Type 0
+IsLawful shape (Jobs volumes journal sysin path outs ins) = AreNames shape (serials_of volumes)
+IsLawful shape (Format volumes journal room) = AreNames shape (serials_of volumes) × (3 ≤ room) × (room ≤ 8191)
+IsLawful shape (Make number) = Unit {0}
 
--- How a run of a text ended, by its status: besides, the source's count before and after.
-pub record EndsRun (status : ℕ) (words : List (List ℕ)) (sysin : Option (List ℕ)) (tells : Type 0) (shape : Shape) (state : State) (source_before source_now : ℕ)
-    (before after : Option (List ℕ)) (sink_before sink_now : ℕ) (steps : List Step) (pending : Option Step) : Type 0 where
-  pub known : (status ≡ 0) ⊎ (status ≡ 4) ⊎ (status ≡ 16) ⊎ (status ≡ 20) ⊎ (status ≡ 24) ⊎ (status ≡ 28) ⊎ (status ≡ 32) ⊎ (status ≡ 48)
-  pub done : (status ≡ 0) ⊎ (status ≡ 4) → (text : List ℕ) × MeansText words sysin tells shape state.contents status steps text × Appends before after text
-  pub cut : status ≡ 28 → (code : ℕ) × (text : List ℕ) × MeansText words sysin tells shape state.contents code steps text × AppendsSome before after text
-  pub source : status ≡ 24 → Rose source_before source_now
-  pub sink : status ≡ 28 → Rose sink_before sink_now
-  pub asked : status ≡ 16 → AsksSome words sysin
-  pub outside : status ≡ 48 → IsOutsideForm words sysin tells shape state.contents
-  pub refused : status ≡ 20 → RefusesOpening words sysin tells shape state before after sink_before sink_now
-  pub undone : status ≢ 0 → status ≢ 28 → steps ≡ []
-  pub under_way : (step : Step) → pending ≡ Some step → IsCutShort words sysin tells shape state.contents status step
-  pub told : status ≢ 0 → status ≢ 4 → status ≢ 20 → status ≢ 28 → Tells before after sink_before sink_now (last_lines status pending)
+abbrev pub EndsAsked : {P : Type 0} → Ghosts P → Run → SourceSeen → SourceSeen → SinkSeen → P → Day → After P → Type 0
+EndsAsked pools (Jobs volumes journal text path outs ins) held sysin out pool today left = EndsJobs pools path held sysin out pool (serials_of volumes) today left
+EndsAsked pools (Format volumes journal room) held sysin out pool today left =
+    (IsUncalled held × IsUncalled sysin) × EndsFormatting pools out pool (serials_of volumes) room left
+EndsAsked pools (Make number) held sysin out pool today left = (IsUncalled held × IsUncalled sysin) × IsRefused out pool ends.NotBuilt left

@@ -1,28 +1,14 @@
-//! One run of `adrdssu`: words and text in, lines and a status out (DFSMSdss Storage Administration).
+//! One run of `adrdssu`: words and texts in, lines and a status out (DFSMSdss Storage Administration).
 #![tactic(auto)]
 
-mod built;
+mod agreement;
 mod format;
-mod left;
-mod line;
-mod listing;
+mod jobs;
 mod lists;
-mod load;
-mod names;
-mod perform;
-mod print;
-mod releasable;
-mod release;
-mod released;
 mod runner;
-mod statement;
-mod stop;
-mod stream;
-mod tracks;
-mod words;
+mod texts;
 
-pub use built::asks_some;
 pub use lists::{Day, InDd, OutDd, OutState};
 pub use move_core::{DdName, Dsn, Origin, Runs, Step};
+pub use run_words::{DdPaths, Run, UnitPaths, WordsFault, read_words};
 pub use runner::{Ended, batch};
-pub use words::{DdPaths, Run, UnitPaths, WordsFault, read_words};

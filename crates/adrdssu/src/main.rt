@@ -1,18 +1,22 @@
 //! The program `adrdssu`: it opens the files that its words name, runs its text over them, and ends with the run's status.
 #![tactic(auto)]
 
+mod clock;
 mod descriptors;
 mod files;
 mod journal_file;
 mod say;
 
+ghost use Rattle.by_rules.specs.Day.{IsToday};
+
+use crate::clock::today;
 use crate::descriptors::{NULL_DEVICE, take_closed};
 use crate::files::{add, named, open_alone, open_volumes};
 use crate::journal_file::{JournalFile, journal_file};
-use crate::say::{Outside, is_other_text, say, say_end, say_file, say_outside, say_usage};
+use crate::say::{say, say_end, say_file, say_not_built, say_usage};
 use adr_top::{Day, Ended, Run, UnitPaths, WordsFault, batch, read_words};
-use ckd_image::{Bytes, NoMemory, Word};
-use dasd_pool::{FilePool, FileSink, FileSource, MemorySink, MemorySource, Sink, Source};
+use ckd_image::{Bytes, Word};
+use dasd_pool::{FilePool, FileSink, FileSource, MemorySource, Source};
 use std::alloc::Global;
 use std::fs::{self, File};
 use std::process::ExitCode;
@@ -20,9 +24,6 @@ use std::{env, io};
 
 /// The last line where a file can't be opened.
 const CANNOT_OPEN: &str = "ADR552T (000) RUN ENDED WITH STATUS 52";
-
-/// The day of a run, which nothing depends on that is built.
-const DAY: Day = Day { year: 1900, day: 1 };
 
 /// The words after the program's name.
 fn words(rt: &HostRuntime) -> io::Result<Vec<Word>> {
@@ -45,105 +46,98 @@ pub struct Finished {
     pub status: u8,
 }
 
-/// Runs words over a pool and a text.
-fn run<S: Source + Drop>(
-    rt: &HostRuntime,
-    words: &[Word],
-    pool: FilePool<File>,
-    sysin: S,
-) -> Finished {
-    run_to(rt, words, pool, sysin, FileSink::new(io::writer(rt)))
+/// The words of a run, and its day.
+#[derive(Clone, Copy)]
+struct Line<'a> {
+    words: &'a [Word],
+    today: Day,
 }
 
-/// Runs words over a pool and a text, and writes the lines to a sink.
-fn run_to<S: Source + Drop, O: Sink + Drop>(
+/// Runs words over a pool and texts. No outputs and inputs are handed in.
+fn run<S: Source + Drop, H: Source + Drop>(
     rt: &HostRuntime,
-    words: &[Word],
+    line: Line<'_>,
     pool: FilePool<File>,
     mut sysin: S,
-    mut out: O,
-) -> Finished {
+    mut held: H,
+) -> Finished
+    requires { IsToday line.today }
+{
     let alloc = rt.alloc();
-    let mut held = no_text(alloc);
+    let mut out = FileSink::new(io::writer(rt));
+    let (outs, ins) = (Vec::new(alloc), Vec::new(alloc));
     let Ended { pool, status, .. } = batch(
-        alloc,
-        words,
-        &mut sysin,
-        &mut held,
-        &mut out,
-        pool,
-        Vec::new(alloc),
-        Vec::new(alloc),
-        DAY,
+        alloc, line.words, &mut sysin, &mut held, &mut out, pool, outs, ins, line.today,
     );
     Finished { pool, status }
 }
 
-/// Runs words that aren't of the form.
-fn refuse(rt: &HostRuntime, words: &[Word]) -> u8 {
+/// Runs words for which no file is opened: over a pool without units.
+fn run_without_files(rt: &HostRuntime, line: Line<'_>) -> u8
+    requires { IsToday line.today }
+{
     let alloc = rt.alloc();
-    run(rt, words, FilePool::new(alloc), no_text(alloc)).status
+    run(
+        rt,
+        line,
+        FilePool::new(alloc),
+        no_text(alloc),
+        no_text(alloc),
+    )
+    .status
+}
+
+/// Runs the text of a file over volumes, under the holds of a file or none.
+fn run_over<S: Source + Drop>(
+    rt: &HostRuntime,
+    line: Line<'_>,
+    pool: FilePool<File>,
+    sysin: S,
+    held: &Option<Word>,
+) -> io::Result<Finished>
+    requires { IsToday line.today }
+{
+    let Some(path) = held else {
+        return Ok(run(rt, line, pool, sysin, no_text(rt.alloc())));
+    };
+    let path = path.as_str();
+    let text = named(rt, path, File::open(rt, path))?;
+    Ok(run(rt, line, pool, sysin, FileSource::new(text)))
 }
 
 /// Runs the text of a file over volumes.
 fn run_jobs(
     rt: &HostRuntime,
-    words: &[Word],
+    line: Line<'_>,
     units: &UnitPaths,
     journal: &str,
     sysin: &str,
-) -> io::Result<u8> {
+    held: &Option<Word>,
+) -> io::Result<u8>
+    requires { IsToday line.today }
+{
     let mut pool = open_volumes(rt, units)?;
     add(rt, &mut pool, journal, open_alone(rt, journal))?;
     let text = named(rt, sysin, File::open(rt, sysin))?;
-    let ended = run(rt, words, pool, FileSource::new(text));
-    say_end(rt, &ended, units, journal);
-    if ended.status == 48 {
-        say_outside(rt, outside(rt, words, ended.pool, sysin));
-        return Ok(48);
-    }
-    Ok(ended.status)
-}
-
-/// What has a form that isn't built: the text, or else the volume where it isn't listed either, or else what is to be released.
-fn outside(rt: &HostRuntime, words: &[Word], pool: FilePool<File>, sysin: &str) -> Outside {
-    match is_other_text(rt, words, sysin) {
-        None => return Outside::Unknown,
-        Some(true) => return Outside::Text,
-        Some(false) => {}
-    }
-    match is_listed(rt, words, pool) {
-        Ok(true) => Outside::Release,
-        Ok(false) => Outside::Volume,
-        Err(NoMemory) => Outside::Unknown,
-    }
-}
-
-/// Whether the volume that words name is listed. The lines are for nobody.
-fn is_listed(rt: &HostRuntime, words: &[Word], pool: FilePool<File>) -> Result<bool, NoMemory> {
-    let alloc = rt.alloc();
-    let Some((name, _)) = words.get(1).and_then(|unit| unit.as_str().split_once('=')) else {
-        return Ok(false);
-    };
-    let text = format!(in alloc; " PRINT VTOC INDDNAME({name})")?;
-    let text = Bytes::from_slice(alloc, text.as_str().as_bytes())?;
-    let sysin = MemorySource::new(text, Vec::new(alloc));
-    let out = MemorySink::new(alloc, 0, Vec::new(alloc))?;
-    Ok(matches!(run_to(rt, words, pool, sysin, out).status, 0 | 28))
+    let finished = run_over(rt, line, pool, FileSource::new(text), held)?;
+    say_end(rt, &finished, units, journal);
+    Ok(finished.status)
 }
 
 /// Makes a journal for volumes. A file that was made for a journal that is refused goes again, while this run still holds it.
 fn run_format(
     rt: &HostRuntime,
-    words: &[Word],
+    line: Line<'_>,
     units: &UnitPaths,
     journal: &str,
     room: u32,
-) -> io::Result<u8> {
+) -> io::Result<u8>
+    requires { IsToday line.today }
+{
     let pool = open_volumes(rt, units)?;
     let JournalFile { file, made } = named(rt, journal, journal_file(rt, journal, room))?;
     let _held = file.try_clone();
-    let status = format_in(rt, words, units, journal, pool, file);
+    let status = format_in(rt, line, units, journal, pool, file);
     if !matches!(status, Ok(0 | 28)) {
         take_away(rt, made);
     }
@@ -160,33 +154,46 @@ fn take_away(rt: &HostRuntime, made: Option<String>) {
 /// Makes a journal in a file for the volumes of a pool.
 fn format_in(
     rt: &HostRuntime,
-    words: &[Word],
+    line: Line<'_>,
     units: &UnitPaths,
     journal: &str,
     mut pool: FilePool<File>,
     file: File,
-) -> io::Result<u8> {
+) -> io::Result<u8>
+    requires { IsToday line.today }
+{
     add(rt, &mut pool, journal, Ok(file))?;
-    let ended = run(rt, words, pool, no_text(rt.alloc()));
-    say_end(rt, &ended, units, journal);
-    Ok(ended.status)
+    let alloc = rt.alloc();
+    let finished = run(rt, line, pool, no_text(alloc), no_text(alloc));
+    say_end(rt, &finished, units, journal);
+    Ok(finished.status)
 }
 
-/// Does what the words ask for, over the files that they name.
-fn run_words(rt: &HostRuntime, words: &[Word], asked: &Run) -> io::Result<u8> {
+/// Does what the words ask for, over the files that they name. Dump outputs and inputs are refused, for which nothing is built yet.
+fn run_line(rt: &HostRuntime, line: Line<'_>, asked: &Run) -> io::Result<u8>
+    requires { IsToday line.today }
+{
     match asked {
+        Run::Jobs { outs, ins, .. } if outs.len() > 0 || ins.len() > 0 => {
+            say(rt, "no command that reads or writes dumps is built yet");
+            Ok(run_without_files(rt, line))
+        }
         Run::Jobs {
             units,
             journal,
             sysin,
+            held,
             ..
-        } => run_jobs(rt, words, units, journal.as_str(), sysin.as_str()),
+        } => run_jobs(rt, line, units, journal.as_str(), sysin.as_str(), held),
         Run::Format {
             units,
             journal,
             room,
-        } => run_format(rt, words, units, journal.as_str(), *room),
-        Run::Make { .. } => Ok(refuse(rt, words)),
+        } => run_format(rt, line, units, journal.as_str(), *room),
+        Run::Make { .. } => {
+            say_not_built(rt);
+            Ok(run_without_files(rt, line))
+        }
     }
 }
 
@@ -202,29 +209,46 @@ fn status_of(rt: &HostRuntime, ended: io::Result<u8>) -> u8 {
     }
 }
 
-/// Runs the words of the command line.
-fn run_line(rt: &HostRuntime) -> u8 {
+/// Runs the words of the command line on a day.
+fn run_on(rt: &HostRuntime, today: Day) -> u8
+    requires { IsToday today }
+{
     let words = match words(rt) {
         Ok(words) => words,
         Err(error) if error.kind() == io::ErrorKind::InvalidData => {
             say(rt, "a word isn't UTF-8");
-            return refuse(rt, &[]);
+            return run_without_files(rt, Line { words: &[], today });
         }
         Err(_) => return 32,
     };
+    let line = Line {
+        words: &words,
+        today,
+    };
     match read_words(rt.alloc(), &words) {
-        Ok(asked) => status_of(rt, run_words(rt, &words, &asked)),
-        Err(WordsFault::BadWords) => {
+        Ok(asked) => status_of(rt, run_line(rt, line, &asked)),
+        Err(WordsFault::Words) => {
             say_usage(rt, &words);
-            refuse(rt, &words)
+            run_without_files(rt, line)
         }
         Err(WordsFault::NoMemory) => 32,
     }
 }
 
+/// Runs the words of the command line today.
+fn run_today(rt: &HostRuntime) -> u8 {
+    match today(rt) {
+        Some(today) => run_on(rt, today),
+        None => {
+            say(rt, "the clock tells no day of the years 1900 to 2155");
+            status_of(rt, Err(io::Error::from(io::ErrorKind::Other)))
+        }
+    }
+}
+
 fn main(rt: HostRuntime) -> ExitCode {
     let status = match take_closed(&rt) {
-        Ok(_taken) => run_line(&rt),
+        Ok(_taken) => run_today(&rt),
         Err(error) => {
             say_file(&rt, NULL_DEVICE, &error);
             status_of(&rt, Err(error))

@@ -1,22 +1,31 @@
 //! What a status can't say, on standard error. That it can't be written changes nothing.
 
-ghost use Rattle.std.specs.Prelude.{◌≤◌, IfOk};
-
 use crate::Finished;
-use adr_top::{UnitPaths, asks_some, read_words};
-use ckd_image::{NoMemory, Word};
+use adr_top::UnitPaths;
+use ckd_image::Word;
 use dasd_pool::FilePool;
-use std::fs::{self, File};
-use std::io::{self, Read};
-
-/// A text of so many bytes is longer than any that is built.
-const LONG_TEXT: usize = 129;
+use run_words::Name;
+use std::fs::File;
+use std::io;
 
 /// The words of a run.
 const USAGE: &str = "\
-usage: adrdssu --unit SERIAL=IMAGE --journal JOURNAL --sysin TEXT
-       adrdssu --unit SERIAL=IMAGE --journal JOURNAL --format-journal ROOM
-The words stand in this order. SERIAL is a volume serial in capitals, and ROOM a number from 3 to 8191.";
+usage: adrdssu --unit SERIAL=IMAGE .. --journal JOURNAL --sysin TEXT [--held HOLDS]
+       adrdssu --unit SERIAL=IMAGE .. --journal JOURNAL --format-journal ROOM
+The words stand in any order, as `--name value` or `--name=value`. From 1 to 64 units are named, each by its volume serial
+in capitals; ROOM is a number from 3 to 8191.";
+
+/// The names of all options.
+const NAMES: [Name; 8] = [
+    Name::Unit,
+    Name::Journal,
+    Name::Sysin,
+    Name::Held,
+    Name::Out,
+    Name::In,
+    Name::FormatJournal,
+    Name::Make,
+];
 
 /// Says a line.
 pub fn say(rt: &HostRuntime, line: &str) {
@@ -32,57 +41,73 @@ pub fn say_file(rt: &HostRuntime, path: &str, error: &io::Error) {
     };
 }
 
-/// Says which word can't stand where it stands, and which words can.
+/// Says which word is no option, or that a word is missing or wrong, and which words can stand.
 pub fn say_usage(rt: &HostRuntime, words: &[Word]) {
-    let _ = match first_wrong(rt, words) {
-        Ok(Some(word)) => {
-            let word = word.as_str();
-            eprintln!(rt; "adrdssu: the word {word:?} can't stand here")
-        }
-        _ => eprintln!(rt; "adrdssu: words are missing"),
+    let _ = match first_unknown(words) {
+        Some(word) => eprintln!(rt;
+            "adrdssu: the word {word:?} is no option, or an option without its value"
+        ),
+        None => eprintln!(rt;
+            "adrdssu: a word is missing, stands twice, or has a value that isn't of its form"
+        ),
     };
     let _ = eprintln!(rt; "{USAGE}");
 }
 
-/// The first word that no further words make right.
-fn first_wrong<'a>(rt: &HostRuntime, words: &'a [Word]) -> Result<Option<&'a Word>, NoMemory> {
-    for (place, word) in words.iter().enumerate() {
-        if !begins_words(rt, &words[..=place])? {
-            return Ok(Some(word));
+/// Whether a word is the name of an option.
+fn is_name(word: &str) -> bool {
+    NAMES.iter().any(|name| name.spelling() == word)
+}
+
+/// The words behind an option and its value at the front of words. None where none stands there.
+fn behind_option(words: &[Word]) -> Option<&[Word]> {
+    let (first, rest) = words.split_first()?;
+    if let Some((name, value)) = first.as_str().split_once('=') {
+        return if is_name(name) && !value.starts_with('-') {
+            Some(rest)
+        } else {
+            None
+        };
+    }
+    let (value, rest) = rest.split_first()?;
+    if is_name(first.as_str()) && !value.as_str().starts_with('-') {
+        Some(rest)
+    } else {
+        None
+    }
+}
+
+/// The first word that begins no option with its value.
+fn first_unknown(words: &[Word]) -> Option<&str> {
+    let mut left = words;
+    for _ in 0..words.len() {
+        match behind_option(left) {
+            Some(rest) => left = rest,
+            None => break,
         }
     }
-    Ok(None)
+    left.first().map(|word| word.as_str())
 }
 
-/// Whether further words make these right.
-fn begins_words(rt: &HostRuntime, front: &[Word]) -> Result<bool, NoMemory> {
-    let text = ["--unit", "A=A", "--journal", "A", "--sysin", "A"];
-    let journal = ["--unit", "A=A", "--journal", "A", "--format-journal", "3"];
-    Ok(is_right_with(rt, front, &text)? || is_right_with(rt, front, &journal)?)
-}
-
-/// Whether words are right with the rest of others behind them.
-fn is_right_with(rt: &HostRuntime, front: &[Word], others: &[&str]) -> Result<bool, NoMemory> {
-    let mut words = Vec::new(rt.alloc());
-    for word in front {
-        words.push(Word::copy_of(rt.alloc(), word.as_str())?)?;
-    }
-    for word in others.iter().skip(front.len()) {
-        words.push(Word::copy_of(rt.alloc(), word)?)?;
-    }
-    Ok(read_words(rt.alloc(), &words).is_ok())
+/// Says that a sample volume or a command is asked for that isn't built.
+pub fn say_not_built(rt: &HostRuntime) {
+    say(
+        rt,
+        "PRINT and RELEASE are the commands that are built yet, and no sample volume is",
+    );
 }
 
 /// Says why a run ended, where its status and its lines don't.
 pub fn say_end(rt: &HostRuntime, ended: &Finished, units: &UnitPaths, journal: &str) {
     match ended.status {
         16 => say_failure(rt, &ended.pool, units, journal),
-        24 => say(rt, "the text can't be read"),
+        24 => say(rt, "a text can't be read"),
         28 => say(
             rt,
             "standard output takes no further lines; what was done stands",
         ),
         32 => say(rt, "memory ran out"),
+        48 => say_not_built(rt),
         _ => {}
     }
 }
@@ -96,49 +121,4 @@ fn say_failure(rt: &HostRuntime, pool: &FilePool<File>, units: &UnitPaths, journ
         };
         say_file(rt, path, &failure.reason);
     }
-}
-
-/// What of a run has a form that isn't built.
-#[derive(Clone, Copy)]
-pub enum Outside {
-    Text,
-    Volume,
-    Release,
-    Unknown,
-}
-
-/// Says what of a run has a form that isn't built.
-pub fn say_outside(rt: &HostRuntime, outside: Outside) {
-    let line = match outside {
-        Outside::Text => "the text is no statement that is built yet",
-        Outside::Volume => "the volume doesn't pass its checks",
-        Outside::Release => "the volume or the data set has a form whose release isn't built yet",
-        Outside::Unknown => "the text, the volume or the data set has a form that isn't built yet",
-    };
-    say(rt, line);
-}
-
-/// Whether a text, as far as it can be read once more, is no statement that is built. None where it can't be read.
-pub fn is_other_text(rt: &HostRuntime, words: &[Word], sysin: &str) -> Option<bool> {
-    let mut text = [0; LONG_TEXT];
-    let count = read_again(rt, sysin, &mut text).ok()?;
-    Some(!asks_some(words, &text[..count]))
-}
-
-/// Reads the front of a text once more, where it is a plain file, and says how much that is.
-fn read_again(rt: &HostRuntime, path: &str, text: &mut [u8; LONG_TEXT]) -> io::Result<usize>
-    ensures { IfOk result (λ count. count ≤ 129) }
-{
-    if !fs::metadata(rt, path)?.is_file() {
-        return Err(io::Error::from(io::ErrorKind::Unsupported));
-    }
-    let mut file = File::open(rt, path)?;
-    let mut count = 0usize;
-    for _ in 0..LONG_TEXT {
-        let Some(rest) = text.get_mut(count..) else {
-            break;
-        };
-        count = count.saturating_add(file.read(rest)?);
-    }
-    Ok(count.min(LONG_TEXT))
 }

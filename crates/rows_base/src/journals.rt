@@ -1,4 +1,4 @@
-//! What stands where the journal of a volume is.
+//! What stands where the journal of volumes is.
 
 use crate::fault::RowsFault;
 use ckd_image::Bytes;
@@ -30,6 +30,32 @@ pub const REGISTERED: [Change; 16] = [
     (19, 0xf0),
     (20, 0xf0),
     (21, 0xf1),
+];
+
+/// A registration of VOL001 and VOL002 with room 64.
+pub const REGISTERED_TWO: [Change; 22] = [
+    (0, b'A'),
+    (1, b'D'),
+    (2, b'R'),
+    (3, b'R'),
+    (4, b'E'),
+    (5, b'G'),
+    (6, b'0'),
+    (7, b'1'),
+    (11, 2),
+    (15, 64),
+    (16, 0xe5),
+    (17, 0xd6),
+    (18, 0xd3),
+    (19, 0xf0),
+    (20, 0xf0),
+    (21, 0xf1),
+    (22, 0xe5),
+    (23, 0xd6),
+    (24, 0xd3),
+    (25, 0xf0),
+    (26, 0xf0),
+    (27, 0xf2),
 ];
 
 /// Changes bytes, where they are there.

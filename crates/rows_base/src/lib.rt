@@ -8,7 +8,7 @@ mod slots;
 mod volumes;
 
 pub use fault::RowsFault;
-pub use journals::{Change, JOURNAL_BLOCK, REGISTERED, journal};
-pub use machine::{Job, LISTING_WORDS, Machine, Ran};
+pub use journals::{Change, JOURNAL_BLOCK, REGISTERED, REGISTERED_TWO, journal};
+pub use machine::{HELD_WORDS, Job, LISTING_WORDS, Machine, Ran, WORDS_OF_TWO};
 pub use slots::{LABEL, SLOT, VOL001, label_slot, vtoc_slot};
-pub use volumes::{BASE, GIVEN, Given, Vtoc, WITH_SET, volume};
+pub use volumes::{BASE, GIVEN, Given, SECOND, Vtoc, WITH_SET, volume};

@@ -1,33 +1,62 @@
-//! Runs over a volume and its journal in memory. No clause speaks of them: a test looks at what comes out.
+//! Runs over volumes and their journal in memory. No clause speaks of them: a test looks at what comes out.
 
 ghost use Rattle.std.specs.Prelude.{◌<◌};
 
 use crate::fault::RowsFault;
-use crate::journals::{REGISTERED, journal};
+use crate::journals::{REGISTERED, REGISTERED_TWO, journal};
 use crate::volumes::{Given, volume};
 use adr_top::{Day, Step, batch};
 use ckd_image::{Bytes, Word};
 use dasd_pool::{MemoryPool, MemorySink, MemorySource, Pool, Tear, UnitText};
 use std::alloc::Global;
 
-/// A volume and what stands where its journal is.
+/// Volumes and what stands where their journal is.
 #[derive(Debug, Drop)]
 pub struct Machine {
     pool: MemoryPool,
 }
 
-/// What a run is given beside its machine: its words and its text, and the numbers of the reads of the text and of the writes of
-/// lines that fail, each counted from 0.
+/// What a run is given beside its machine: its words, its text and its held text, and the numbers of the reads of each text and of the
+/// writes of lines that fail, each counted from 0.
 #[derive(Clone, Copy, Debug)]
 pub struct Job<'a> {
     pub words: &'a [&'a str],
     pub text: &'a [u8],
+    pub held: &'a [u8],
     pub failing_reads: &'a [u64],
+    pub failing_held: &'a [u64],
     pub failing_writes: &'a [u64],
 }
 
 /// The words of a text over VOL001.
 pub const LISTING_WORDS: [&str; 6] = ["--unit", "VOL001=a", "--journal", "b", "--sysin", "c"];
+
+/// Those of a text and a held text over VOL001.
+pub const HELD_WORDS: [&str; 8] = [
+    "--unit",
+    "VOL001=a",
+    "--journal",
+    "b",
+    "--sysin",
+    "c",
+    "--held",
+    "h",
+];
+
+/// Those of a text over VOL001 and VOL002.
+pub const WORDS_OF_TWO: [&str; 8] = [
+    "--unit",
+    "VOL001=a",
+    "--unit",
+    "VOL002=d",
+    "--journal",
+    "b",
+    "--sysin",
+    "c",
+];
+
+/// The room of the sink that takes the lines of a run.
+const ROOM_FOR_LINES: u32 = 8000;
 
 /// What a run leaves.
 #[derive(Drop)]
@@ -45,7 +74,9 @@ impl<'a> Job<'a> {
         Job {
             words: &LISTING_WORDS,
             text,
+            held: &[],
             failing_reads: &[],
+            failing_held: &[],
             failing_writes: &[],
         }
     }
@@ -60,6 +91,12 @@ fn words_of(alloc: Global, words: &[&str]) -> Result<Vec<Word>, RowsFault> {
     Ok(list)
 }
 
+/// A source of a text, of which the reads with these numbers fail.
+fn source_of(alloc: Global, text: &[u8], failing: &[u64]) -> Result<MemorySource, RowsFault> {
+    let text = Bytes::from_slice(alloc, text)?;
+    Ok(MemorySource::new(text, failing.to_vec(alloc)?))
+}
+
 /// The text that a sink took.
 fn lines_of(alloc: Global, out: &MemorySink) -> Result<String, RowsFault> {
     match String::from_utf8(out.text().to_vec(alloc)?) {
@@ -69,16 +106,18 @@ fn lines_of(alloc: Global, out: &MemorySink) -> Result<String, RowsFault> {
 }
 
 impl Machine {
-    /// A volume and its journal, all synced. It keeps its first calls, so many, and fails at the calls with these numbers.
+    /// Volumes and their journal, all synced. It keeps its first calls, so many, and fails at the calls with these numbers.
     pub fn new(
         alloc: Global,
-        volume: UnitText,
+        volumes: &[Given],
         journal: UnitText,
         failing: &[u64],
         keep: u32,
     ) -> Result<Machine, RowsFault> {
         let mut units = Vec::new(alloc);
-        units.push(volume)?;
+        for given in volumes {
+            units.push(volume(alloc, *given)?)?;
+        }
         units.push(journal)?;
         let pool = MemoryPool::new(alloc, units, failing.to_vec(alloc)?, keep)?;
         Ok(Machine { pool })
@@ -87,22 +126,27 @@ impl Machine {
     /// A volume and a journal that is registered for it, with room 64.
     pub fn of(alloc: Global, given: Given, keep: u32) -> Result<Machine, RowsFault> {
         let journal = journal(alloc, 68, &REGISTERED)?;
-        Machine::new(alloc, volume(alloc, given)?, journal, &[], keep)
+        Machine::new(alloc, &[given], journal, &[], keep)
     }
 
-    /// The same, which keeps no call and fails at the calls with these numbers.
+    /// Two volumes and a journal that is registered for VOL001 and VOL002, with room 64.
+    pub fn of_two(alloc: Global, volumes: [Given; 2]) -> Result<Machine, RowsFault> {
+        let journal = journal(alloc, 68, &REGISTERED_TWO)?;
+        Machine::new(alloc, &volumes, journal, &[], 0)
+    }
+
+    /// A volume and a journal that is registered for it, with room 64, which keeps no call and fails at the calls with these numbers.
     pub fn failing(alloc: Global, given: Given, calls: &[u64]) -> Result<Machine, RowsFault> {
         let journal = journal(alloc, 68, &REGISTERED)?;
-        Machine::new(alloc, volume(alloc, given)?, journal, calls, 0)
+        Machine::new(alloc, &[given], journal, calls, 0)
     }
 
-    /// Runs words and text.
+    /// Runs words and texts.
     pub fn run(self, alloc: Global, job: Job<'_>) -> Result<Ran, RowsFault> {
         let words = words_of(alloc, job.words)?;
-        let text = Bytes::from_slice(alloc, job.text)?;
-        let mut sysin = MemorySource::new(text, job.failing_reads.to_vec(alloc)?);
-        let mut held = MemorySource::new(Bytes::new(alloc), Vec::new(alloc));
-        let mut out = MemorySink::new(alloc, 1000, job.failing_writes.to_vec(alloc)?)?;
+        let mut sysin = source_of(alloc, job.text, job.failing_reads)?;
+        let mut held = source_of(alloc, job.held, job.failing_held)?;
+        let mut out = MemorySink::new(alloc, ROOM_FOR_LINES, job.failing_writes.to_vec(alloc)?)?;
         let (outs, ins) = (Vec::new(alloc), Vec::new(alloc));
         let today = Day { year: 2024, day: 1 };
         let ended = batch(
@@ -117,7 +161,7 @@ impl Machine {
         })
     }
 
-    /// Status and lines of a run of words and text.
+    /// Status and lines of a run of words and texts.
     pub fn ends(self, alloc: Global, job: Job<'_>) -> Result<(u8, String), RowsFault> {
         let ran = self.run(alloc, job)?;
         Ok((ran.status, ran.lines))

@@ -1,58 +1,94 @@
 -- What a run that ended well did.
-use Rattle.std.proofs.Common.{◌≡◌, ◌⊎◌, ⊎_elim, inl, inr, ℕ, List, [], Option, slice_index_or, ap, subst, arith}
-use Rattle.std.specs.Prelude.{codes}
-use Rattle.dasd_pool.specs.Disk.{Image, Shape, State}
+use Rattle.std.proofs.Common.{◌≡◌, ◌≢◌, inl, inr, ℕ, List, [], Option, sym, ap, subst, ◌∙◌, arith}
+use Rattle.dasd_pool.specs.declared.pool.Pool.{Ghosts}
+use Rattle.redo_core.specs.declared.fault.JournalFault.{JournalFault}
+use Rattle.redo_core.specs.declared.fault.JournalFault.TheVariants as faults
 use Rattle.move_core.specs.declared.steps.Step.{Step}
 use Rattle.move_core.specs.Facts.{Shown}
 use Rattle.move_core.specs.Steps.{Reaches}
 use Rattle.move_core.specs.Runs.{IsRun}
 use Rattle.move_core.specs.Stands.{IsSettled}
-use Rattle.dsn_filter.specs.declared.dsn.Dsn.{Dsn}
-use Rattle.adr_top.specs.Listed.{ListsUnit}
-use Rattle.adr_top.specs.Released.{ReleasesUnit}
-use Rattle.adr_top.specs.Meaning.{Means, MeansText, Does}
-use Rattle.adr_top.specs.Words.{Named, FormatNamed, AreUnitWords, AreFormatWords}
-use Rattle.adr_top.proofs.SixWords.{unit_files, no_format_option}
-use Rattle.rows_headline.specs.Made.{IsMade, HasListed, StaysSettled}
+use Rattle.run_words.specs.declared.run.Run.{Run}
+use Rattle.run_words.specs.declared.run.Run.TheVariants.{Jobs, Format}
+use Rattle.run_words.proofs.OneRun as runs
+use Rattle.run_lines.specs.declared.ending.RunEnd.{RunEnd}
+use Rattle.run_lines.specs.declared.ending.RunEnd.TheVariants as ends
+use Rattle.run_lines.specs.Endings.{status_of, end_of}
+use Rattle.job_script.specs.Ends.{After}
+use Rattle.adr_top.specs.Asked.{AskFor, AsksForJournal}
+use Rattle.adr_top.specs.Ends.{Given, StopsBefore, EndsRun}
+use Rattle.adr_top.specs.Texts.{SourceSeen, StopsTexts}
+use Rattle.rows_headline.specs.Made.{MakesNoJournal, IsMade, StaysSettled}
 
-other_option : codes "--sysin" ≡ codes "--format-journal" → ⊥
-other_option e =
-    let third : ◌≡◌ {A = ℕ} 115 102 = ap (λ (t : List ℕ). slice_index_or t 2 0) e in
-    omega (arith, third)
+-- ---- what words ask for
 
-not_both : (words : List (List ℕ)) (named : Named) → AreUnitWords words named → (format : FormatNamed) → ¬ AreFormatWords words format
-not_both words named h =
-    no_format_option words named.name named.path named.journal (codes "--sysin") named.sysin (unit_files words named h) other_option
+-- words that ask for another run don't ask for a journal
+pub no_journal : (words : List (List ℕ)) (run : Run) → AskFor words run → MakesNoJournal run → ¬ AsksForJournal words
+no_journal words run asked other journal =
+    let same : run ≡ Format journal.0 journal.1 journal.2 =
+    runs.words_have_one_run words asked.0 journal.3.0 run (Format journal.0 journal.1 journal.2) asked.1 asked.2 journal.3.1 journal.3.2 in
+    subst (λ (r : Run). MakesNoJournal r) same other
 
--- a statement lists the unit, or releases a data set on it
-lists_or_releases : (name text : List ℕ) (shape : Shape) (contents : Image) (code : ℕ) (steps : List Step) (statement : _) → Means statement name shape contents code steps text
-    → ListsUnit name shape contents text ⊎ ((dsn : Dsn) × ReleasesUnit name dsn shape contents code steps text)
-lists_or_releases name text shape contents code steps statement means = grind arith
+-- ---- ends with another status than 0
 
-module _ (words : List (List ℕ)) (sysin : Option (List ℕ)) (tells : Type 0) (told : tells) (shape : Shape) (old new : State) (code : ℕ) (steps : List Step) (Taken : List ℕ → Type 0) where
-  pub is_made : (named : FormatNamed) → AreFormatWords words named → Does words sysin tells shape old new code steps Taken → IsMade shape old new
-  is_made named asked (inl does) = absurd (not_both words does.1.named does.1.asked.0 named asked)
-  is_made named asked (inr makes) = record {
-    names = makes.1.names;
-    room = makes.1.named.room;
-    allowed = makes.1.allowed told;
-    formatted = makes.1.formatted told;
-  }
+fault_status : (fault : JournalFault) → status_of (end_of fault) ≢ 0
+fault_status faults.Pool is = omega (arith, is)
+fault_status (faults.BadJournal rule) is = omega (arith, is)
+fault_status (faults.WrongUnit unit kept found) is = omega (arith, is)
+fault_status (faults.JournalSmall need have) is = omega (arith, is)
+fault_status faults.NoMemory is = omega (arith, is)
 
-  listed_of : (name text : List ℕ) → ListsUnit name shape old.contents text → HasListed shape old
-  listed_of name text m = record { name = name; reading = m.reading; reads = m.reads; named = (m.lists.volume, m.lists.stands) }
+texts_status : (path : Option (List ℕ)) (held sysin : SourceSeen) (end : RunEnd) → StopsTexts path held sysin end → status_of end ≢ 0
+texts_status path held sysin (ends.Whole code) stops is = absurd stops
+texts_status path held sysin (ends.Formatted units room) stops is = absurd stops
+texts_status path held sysin ends.Pool stops is = absurd stops
+texts_status path held sysin (ends.BadJournal rule) stops is = absurd stops
+texts_status path held sysin (ends.WrongUnit unit kept found) stops is = absurd stops
+texts_status path held sysin (ends.JournalSmall need have) stops is = absurd stops
+texts_status path held sysin (ends.Source input) stops is = omega (arith, is)
+texts_status path held sysin ends.Sink stops is = absurd stops
+texts_status path held sysin ends.Memory stops is = omega (arith, is)
+texts_status path held sysin ends.Words stops is = absurd stops
+texts_status path held sysin (ends.Long input) stops is = omega (arith, is)
+texts_status path held sysin (ends.Wrong input line column) stops is = omega (arith, is)
+texts_status path held sysin ends.NotBuilt stops is = omega (arith, is)
 
-  released_of : (name text : List ℕ) (dsn : Dsn) → ReleasesUnit name dsn shape old.contents code steps text → HasListed shape old
-  released_of name text dsn m = record { name = name; reading = m.reading; reads = m.reads; named = (m.volume, record { stands = m.stands.stands; serial = m.stands.serial }) }
+before_status : (given : Given) (end : RunEnd) → StopsBefore given end → status_of end ≢ 0
+before_status given end stops is = elim stops [
+  | inl words ↦
+      let status : status_of end ≡ 36 = ap (λ (e : RunEnd). status_of e) words.0.0 in
+      omega (arith, is, status)
+  | inr later ↦ elim later [
+    | inl make ↦
+        let status : status_of end ≡ 48 = ap (λ (e : RunEnd). status_of e) make.0.0 in
+        omega (arith, is, status)
+    | inr last ↦ elim last [
+      | inl memory ↦
+          let status : status_of end ≡ 32 = ap (λ (e : RunEnd). status_of e) memory.0 in
+          omega (arith, is, status)
+      | inr texts ↦ texts_status texts.1 given.held given.sysin end texts.3 is
+    ]
+  ]
+]
 
-  means_listed : (text : List ℕ) → MeansText words sysin tells shape old.contents code steps text → HasListed shape old
-  means_listed text means =
-      ⊎_elim (λ lists. listed_of means.named.name text lists) (λ releases. released_of means.named.name text releases.0 releases.1)
-      (lists_or_releases means.named.name text shape old.contents code steps means.statement (means.means told))
+-- ---- what was done
 
-  pub has_listed : ((named : FormatNamed) → ¬ AreFormatWords words named) → Does words sysin tells shape old new code steps Taken → HasListed shape old
-  has_listed none (inl does) = means_listed does.0 does.1
-  has_listed none (inr makes) = absurd (none makes.1.named makes.1.asked)
+module _ {P : Type 0} (pools : Ghosts P) (given : Given) (pool : P) (left : After P) where
+  -- words that ask for a journal, and a run that ended with 0
+  pub is_made : AsksForJournal given.words → EndsRun pools given pool left → status_of left.end ≡ 0 → pools.tells
+      → IsMade (pools.shape pool) (pools.disk pool).state (pools.disk left.pool).state
+  is_made asked run zero told = elim run [
+    | inl before ↦ absurd (before_status given left.end before.why zero)
+    | inr later ↦ elim later [
+      | inl format ↦ elim format.formats.made [
+        | inl made ↦ record { names = _; room = _; allowed = made.allowed told; formatted = made.formatted told }
+        | inr not ↦ absurd (fault_status not.fault (ap (λ (e : RunEnd). status_of e) (sym not.end_is) ∙ zero))
+      ]
+      | inr ready ↦
+          let text = ready.ready.asked in
+          absurd (no_journal given.words (Jobs ready.volumes text.0 text.1 ready.ready.path text.2 text.3) text.4.0 tt asked)
+    ]
+  ]
 
 -- a run without a step
 pub stays_settled : (tells : Type 0) (old new : Shown) (ended : Type 0) (steps : List Step) (pending : Option Step) → IsRun tells old new ended steps pending

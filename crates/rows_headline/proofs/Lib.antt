@@ -1,4 +1,5 @@
 pub mod Forms
 pub mod Frames
+pub mod Looking
 pub mod Settling
 pub mod Stopping

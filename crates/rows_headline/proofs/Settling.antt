@@ -1,4 +1,4 @@
--- A volume that is listed is what its blocks mean, once each of its tracks was looked at.
+-- A volume that is online is what its blocks mean, once each of its tracks was looked at.
 use Rattle.std.proofs.Common.{◌≡◌, inl, inr, ℕ, zero, suc, ◌-◌, ◌<◌, ◌≤◌, List, [], ◌∷◌, map, take, length, All, Option, Some, None, false, refl, sym, ap, subst, ◌∙◌, arith}
 use Rattle.std.specs.Prelude.{not, slice_get, IfSome}
 use Rattle.std.specs.List.{AllByRecursion}
@@ -24,7 +24,7 @@ use Rattle.move_core.proofs.Below.{IsRunBelow, RowHasRuns, run_below, sound_rows
 use Rattle.move_core.proofs.Frames.{tracks_all}
 use Rattle.move_core.proofs.OneVtoc.{heads_15}
 use Rattle.move_core.proofs.Resuming.{formatted_settled}
-use Rattle.rows_headline.specs.Made.{IsSettledVolume, AreTold, IsMade, HasListed, StaysSettled}
+use Rattle.rows_headline.specs.Made.{IsSettledVolume, AreTold, IsMade, HasVolume, StaysSettled}
 
 -- ---- its data sets
 
@@ -127,17 +127,17 @@ module _ (shape : Shape) (volumes : Image) (names : List Serial) (room : ℕ) (v
   means_that : shape.units ≡ 2 → Means shape (new_reading volumes names room) (online volume ∷ [])
   means_that two = record { found = online volume ∷ []; found_are = record { count = omega (arith, two); each = each_unit }; after = refl }
 
--- A journal was made for a volume that is listed, and each of its tracks was looked at: the pool is settled.
-pub settled_there : (shape : Shape) (old made : State) → shape.units ≡ 2 → AreTold 15 (old.contents 0) (shape.blocks 0) → IsMade shape old made → HasListed shape made → IsSettledVolume shape made
-settled_there shape old made two told journal listed =
+-- A journal was made for a volume that is online, and each of its tracks was looked at: the pool is settled.
+pub settled_there : (shape : Shape) (old made : State) → shape.units ≡ 2 → AreTold 15 (old.contents 0) (shape.blocks 0) → IsMade shape old made → HasVolume shape made → IsSettledVolume shape made
+settled_there shape old made two told journal online_is =
     let some : 0 < journal_of shape = omega (arith, two) in
     let facts : Facts = record { shape = shape; names = journal.names; room = journal.room } in
-    let same : (b : ℕ) → listed.reading.volumes 0 b ≡ old.contents 0 b = λ b. listed.reads.volumes_are 0 b some ∙ sym (journal.formatted.reads.volumes_are 0 b some) in
-    let slots : listed.reading.volumes 0 ≡ old.contents 0 = λ i b. same b i in
-    let P : Slots → Type 0 = λ slots. IsVolume (shape.head 0) (shape.blocks 0) slots false listed.named.0 in
-    let is = subst P slots listed.named.1.stands in
+    let same : (b : ℕ) → online_is.reading.volumes 0 b ≡ old.contents 0 b = λ b. online_is.reads.volumes_are 0 b some ∙ sym (journal.formatted.reads.volumes_are 0 b some) in
+    let slots : online_is.reading.volumes 0 ≡ old.contents 0 = λ i b. same b i in
+    let P : Slots → Type 0 = λ slots. IsVolume (shape.head 0) (shape.blocks 0) slots false online_is.found in
+    let is = subst P slots online_is.stands in
     let Q : ℕ → Type 0 = λ heads. AreTold heads (old.contents 0) (shape.blocks 0) in
-    let volume = online_there (shape.head 0) (shape.blocks 0) (old.contents 0) listed.named.0 is (subst Q (sym (heads_15 listed.named.0.device)) told) in
+    let volume = online_there (shape.head 0) (shape.blocks 0) (old.contents 0) online_is.found is (subst Q (sym (heads_15 online_is.found.device)) told) in
     record {
       facts = facts;
       shape_is = refl;
@@ -147,19 +147,21 @@ settled_there shape old made two told journal listed =
       is_first = refl;
     }
 
--- and so is what comes back from the listing, where one does
-module _ {T : Type 0} (shape_at : T → Shape) (state_at : T → State) (shape : Shape) (old made : State) (two : shape.units ≡ 2) (told : AreTold 15 (old.contents 0) (shape.blocks 0)) (journal : IsMade shape old made) where
-  pub settled_back : (result : Option T) → IfSome result (λ listed. HasListed shape made) → IfSome result (λ listed. StaysSettled shape made (state_at listed))
-      → IfSome result (λ listed. shape_at listed ≡ shape) → IfSome result (λ listed. IsSettledVolume (shape_at listed) (state_at listed))
-  settled_back None named stays same = tt
-  settled_back (Some listed) named stays same =
-      let before = settled_there shape old made two told journal named in
-      subst (λ (s : Shape). IsSettledVolume s (state_at listed)) (sym same)
-      (record {
-        facts = before.facts;
-        shape_is = before.shape_is;
-        units = before.units;
-        settled = stays before.facts before.units before.shape_is before.settled;
-        volume = before.volume;
-        is_first = before.is_first;
-      })
+-- what keeps it settled keeps the volume
+pub kept_volume : (shape : Shape) (old new : State) → StaysSettled shape old new → IsSettledVolume shape old → IsSettledVolume shape new
+kept_volume shape old new stays before = record {
+  facts = before.facts;
+  shape_is = before.shape_is;
+  units = before.units;
+  settled = stays before.facts before.units before.shape_is before.settled;
+  volume = before.volume;
+  is_first = before.is_first;
+}
+
+-- and so is what comes back from a run, where one does
+module _ {T : Type 0} (shape_at : T → Shape) (state_at : T → State) (shape : Shape) (state : State) (before : IsSettledVolume shape state) where
+  pub settled_back : (result : Option T) → IfSome result (λ listed. StaysSettled shape state (state_at listed)) → IfSome result (λ listed. shape_at listed ≡ shape)
+      → IfSome result (λ listed. IsSettledVolume (shape_at listed) (state_at listed))
+  settled_back None stays same = tt
+  settled_back (Some listed) stays same =
+      subst (λ (s : Shape). IsSettledVolume s (state_at listed)) (sym same) (kept_volume shape state (state_at listed) stays before)

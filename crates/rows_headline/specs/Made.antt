@@ -1,16 +1,20 @@
--- A pool whose journal was made for a volume that is listed.
-use Rattle.std.specs.Prelude.{◌≡◌, ℕ, ◌<◌, List, Some, slice_get}
+-- A pool whose journal was made for a volume that is online.
+use Rattle.std.specs.Prelude.{◌≡◌, ℕ, ◌<◌, false, List, Some, slice_get}
 use Rattle.dasd_pool.specs.Disk.{Shape, State}
 use Rattle.vol_label.specs.declared.serial.Serial.{Serial}
 use Rattle.redo_core.specs.Faults.{MayFormat}
 use Rattle.redo_core.specs.Opening.{IsFormatted}
 use Rattle.redo_core.specs.Reading.{Reading, Reads}
 use Rattle.volume_model.specs.Reads.{IsTextAt}
-use Rattle.volume_model.specs.Sound.{Slots}
+use Rattle.vtoc_core.specs.declared.volume.Volume.{Volume as LoadedVolume}
+use Rattle.unit_load.specs.declared.state.UnitState.TheVariants as states
+use Rattle.unit_load.specs.State.{IsStateOf}
+use Rattle.volume_model.specs.Sound.{Slots, Volume, IsVolume}
 use Rattle.volume_model.specs.Unit.{Text, OnlineVolume, UnitModel, online}
+use Rattle.run_words.specs.declared.run.Run.{Run}
+use Rattle.run_words.specs.declared.run.Run.TheVariants.{Format}
 use Rattle.move_core.specs.Facts.{Facts}
 use Rattle.move_core.specs.Stands.{IsSettled}
-use Rattle.adr_top.specs.Form.{HasNamedUnit}
 
 -- a pool of this shape is settled for some units, of which the first is a volume that is online
 pub record IsSettledVolume (shape : Shape) (state : State) : Type 0 where
@@ -33,6 +37,11 @@ IsTold heads slots track = SaysSome heads track (slots track)
 abbrev pub AreTold : ℕ → Slots → ℕ → Type 0
 AreTold heads slots count = (track : ℕ) → track < count → IsTold heads slots track
 
+-- a run is not the making of a journal
+abbrev pub MakesNoJournal : Run → Type 0
+MakesNoJournal (Format units journal room) = ⊥
+MakesNoJournal _ = Unit {0}
+
 -- a journal was made under some names, and nothing stood against it
 pub record IsMade (shape : Shape) (old new : State) : Type 0 where
   pub names : List Serial
@@ -40,12 +49,16 @@ pub record IsMade (shape : Shape) (old new : State) : Type 0 where
   pub allowed : MayFormat shape old.contents names
   pub formatted : IsFormatted shape old names room new
 
--- unit 0 is a volume of some name, as the pool's blocks read
-pub record HasListed (shape : Shape) (state : State) : Type 0 where
-  pub name : List ℕ
+-- a loader finds a volume on unit 0, by the blocks that the pool has
+abbrev pub HasLoaded : Shape → State → Type 0
+HasLoaded shape state = (loaded : LoadedVolume) × IsStateOf (shape.head 0) (shape.blocks 0) (state.contents 0) (states.Online loaded)
+
+-- unit 0 is a volume, as the pool's blocks read
+pub record HasVolume (shape : Shape) (state : State) : Type 0 where
   pub reading : Reading
   pub reads : Reads shape state.contents reading
-  pub named : HasNamedUnit name (shape.head 0) (shape.blocks 0) (reading.volumes 0)
+  pub found : Volume
+  pub stands : IsVolume (shape.head 0) (shape.blocks 0) (reading.volumes 0) false found
 
 -- a pool that was settled for units is settled for them still
 abbrev pub StaysSettled : Shape → State → State → Type 0

@@ -1,6 +1,7 @@
 //! The promise of a run over settled units: that it can be met, and what it says of a stop of a pool in memory.
 #![tactic(auto)]
 
+mod looked;
 mod made;
 mod stopped;
 #[cfg(test)]

@@ -1,9 +1,10 @@
 //! The making of a journal, and a listing behind it.
 
 ghost use Rattle.std.specs.Prelude.{◌≡◌, IsTrue, IfSome};
-ghost use Rattle.adr_top.specs.Words.{FormatNamed, AreFormatWords};
-ghost use Rattle.rows_headline.specs.Made.{IsSettledVolume, IsMade, HasListed, StaysSettled};
+ghost use Rattle.adr_top.specs.Asked.{AsksForJournal};
+ghost use Rattle.rows_headline.specs.Made.{IsSettledVolume, MakesNoJournal, IsMade, StaysSettled};
 
+use crate::looked::look;
 use crate::told::are_told;
 use adr_top::{Day, Run, batch, read_words};
 use ckd_image::Word;
@@ -15,16 +16,26 @@ const TODAY: Day = Day { year: 2024, day: 1 };
 
 /// Whether words ask for a journal.
 fn ask_for_journal(alloc: Global, words: &[Word]) -> bool
-    ensures { IsTrue result → (named : FormatNamed) × AreFormatWords words.now named }
+    ensures { IsTrue result → AsksForJournal words.now }
 {
     matches!(read_words(alloc, words), Ok(Run::Format { .. }))
 }
 
-/// Whether they ask for a text to be run.
-fn ask_for_text(alloc: Global, words: &[Word]) -> bool
-    ensures { IsTrue result → (named : FormatNamed) → ¬ AreFormatWords words.now named }
+/// Whether a run is that of a text.
+fn is_of_text(run: &Run) -> bool
+    ensures { IsTrue result → MakesNoJournal run.now }
 {
-    matches!(read_words(alloc, words), Ok(Run::Jobs { .. }))
+    matches!(run, Run::Jobs { .. })
+}
+
+/// Whether words ask for a text to be run.
+fn ask_for_text(alloc: Global, words: &[Word]) -> bool
+    ensures { IsTrue result → ¬ AsksForJournal words.now }
+{
+    match read_words(alloc, words) {
+        Ok(asked) => is_of_text(&asked),
+        Err(_) => false,
+    }
 }
 
 /// Makes a journal, where the words ask for one. The pool comes back where it was made.
@@ -59,7 +70,6 @@ fn list<S: Source, H: Source, O: Sink, P: Pool + Drop>(
     out: &mut O,
     pool: P,
 ) -> Option<P>
-    ensures listed { P.tells → IfSome result (λ listed. HasListed (P.shape pool) (P.disk pool).state) }
     ensures stays { P.tells → IfSome result (λ listed. StaysSettled (P.shape pool) (P.disk pool).state (P.disk listed).state) }
     ensures shape { IfSome result (λ listed. P.shape listed ≡ P.shape pool) }
 {
@@ -74,7 +84,8 @@ fn list<S: Source, H: Source, O: Sink, P: Pool + Drop>(
     Some(ended.pool)
 }
 
-/// Makes a journal for the volume of a pool, and runs a text that does no step on it. Where both end with 0 the pool comes back.
+/// Makes a journal for the volume of a pool, and runs a text that does no step on it. Where both end with 0, and the volume is online, the
+/// pool comes back.
 ///
 /// So where it comes back, the premises of the promise of a run are met: there are units for which it is settled.
 pub fn make_and_list<S: Source, H: Source, O: Sink, P: Pool + Drop>(
@@ -94,5 +105,6 @@ pub fn make_and_list<S: Source, H: Source, O: Sink, P: Pool + Drop>(
         return None;
     }
     let made = make(alloc, making, sysin, held, out, pool)?;
-    list(alloc, listing, sysin, held, out, made)
+    let looked = look(alloc, listing, made)?;
+    list(alloc, listing, sysin, held, out, looked)
 }

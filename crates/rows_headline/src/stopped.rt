@@ -2,7 +2,8 @@
 
 ghost use Rattle.std.specs.Prelude.{◌≢◌, take, IfOk};
 ghost use Rattle.dasd_pool.specs.Tears.{IsTornFrom};
-ghost use Rattle.adr_top.specs.Words.{FormatNamed, AreFormatWords};
+ghost use Rattle.by_rules.specs.Day.{IsToday};
+ghost use Rattle.adr_top.specs.Asked.{AsksForJournal};
 ghost use Rattle.move_core.specs.Runs.{IsRun, moves_of};
 ghost use Rattle.rows_headline.specs.Again.{shown_of, EachStopIsReady, EachRunsOn};
 ghost use Rattle.rows_headline.specs.Stopped.{EachStopStands};
@@ -46,9 +47,11 @@ pub fn run<S: Source, H: Source, O: Sink>(
     pool: MemoryPool,
     today: Day,
 ) -> Ran
+    requires { IsToday today }
+
     // The promise of a run, in full, where no journal is made: for any units for which the pool was settled, at whatever moment a stop
     // comes, and where it ended.
-    ensures headline { ((named : FormatNamed) → ¬ AreFormatWords words.now named)
+    ensures headline { ¬ AsksForJournal words.now
         → IsRun (Unit {0}) (shown_of pool) (shown_of result.pool) (result.status ≢ 16) result.steps.items result.pending }
 {
     let (outs, ins) = (Vec::new(alloc), Vec::new(alloc));
@@ -73,16 +76,18 @@ pub fn run_and_stop<S: Source, H: Source, O: Sink>(
     calls: u64,
     tear: Tear,
 ) -> Result<Stopped, NoMemory>
+    requires { IsToday today }
+
     // What is left holds the image that the stop leaves.
     ensures left { IfOk result (λ stopped. IsTornFrom tear stopped.ran.pool.units (take calls stopped.ran.pool.calls) stopped.left.units) }
 
     // Where the pool was settled and no journal is made, that image stands for the units after a prefix of the run's steps and the one
     // under way, and after all steps where the run had returned.
-    ensures stands { IfOk result (λ stopped. ((named : FormatNamed) → ¬ AreFormatWords words.now named)
+    ensures stands { IfOk result (λ stopped. ¬ AsksForJournal words.now
         → EachStopStands pool stopped.ran.steps.items stopped.ran.pending stopped.ran.pool calls tear) }
 
     // So it has what this asks for in its turn: it is settled for those units.
-    ensures ready { IfOk result (λ stopped. ((named : FormatNamed) → ¬ AreFormatWords words.now named)
+    ensures ready { IfOk result (λ stopped. ¬ AsksForJournal words.now
         → EachStopIsReady pool stopped.ran.steps.items stopped.ran.pending calls stopped.left) }
 {
     let ran = run(alloc, words, sysin, held, out, pool, today);
@@ -103,9 +108,11 @@ pub fn run_again<S: Source, H: Source, O: Sink>(
     calls: u64,
     tear: Tear,
 ) -> Result<Resumed, NoMemory>
+    requires { IsToday today }
+
     // Each premise of the second run is met by the first: there are units to which a prefix of the first run's steps leads, and from them
     // the second goes on, whatever moment it is stopped at.
-    ensures on { IfOk result (λ resumed. ((named : FormatNamed) → ¬ AreFormatWords words.now named)
+    ensures on { IfOk result (λ resumed. ¬ AsksForJournal words.now
         → EachRunsOn pool (moves_of resumed.steps.items resumed.pending) calls resumed.second.pool (resumed.second.status ≢ 16)
         resumed.second.steps.items resumed.second.pending) }
 {

@@ -126,15 +126,15 @@ fn a_run_goes_on_where_a_stop_left_the_one_before(rt: HostRuntime) -> Result<(),
         "before its first call"
     );
     assert!(rt;
-        is_listed(rt.alloc(), 21, Tear::Old, BEFORE)?,
+        is_listed(rt.alloc(), 22, Tear::Old, BEFORE)?,
         "the gate is written"
     );
     assert!(rt;
-        is_listed(rt.alloc(), 21, Tear::New, AFTER)?,
+        is_listed(rt.alloc(), 22, Tear::New, AFTER)?,
         "the gate is open"
     );
     assert!(rt;
-        is_listed(rt.alloc(), 23, Tear::Zero, AFTER)?,
+        is_listed(rt.alloc(), 24, Tear::Zero, AFTER)?,
         "the VTOC is torn"
     );
     assert!(rt;

@@ -40,7 +40,7 @@ fn unit_at(alloc: Global, place: Place) -> Result<UnitText, RowsFault> {
     }
 }
 
-/// Makes a journal with this room. The text can't be read.
+/// Makes a journal with this room. The texts can't be read.
 fn format_on(alloc: Global, machine: Machine, room: &str) -> Result<Ran, RowsFault> {
     let job = Job {
         words: &[
@@ -51,15 +51,15 @@ fn format_on(alloc: Global, machine: Machine, room: &str) -> Result<Ran, RowsFau
             "--format-journal",
             room,
         ],
-        text: b"",
         failing_reads: &[0],
-        failing_writes: &[],
+        failing_held: &[0],
+        ..Job::of_text(b"")
     };
     machine.run(alloc, job)
 }
 
 fn machine_of(alloc: Global, given: Given, place: Place) -> Result<Machine, RowsFault> {
-    Machine::new(alloc, volume(alloc, given)?, unit_at(alloc, place)?, &[], 0)
+    Machine::new(alloc, &[given], unit_at(alloc, place)?, &[], 0)
 }
 
 const ZEROS: Place = Place::Journal(68, &[]);

@@ -1,4 +1,4 @@
-//! Tests: listings of volumes, and volumes that aren't listed.
+//! Tests: listings of volumes, and volumes that are offline.
 #![tactic(auto)]
 
 #[cfg(test)]

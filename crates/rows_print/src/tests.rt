@@ -41,8 +41,6 @@ ADR102I (001) PRINT ENDED CODE 0
 ADR103I (000) MAXIMUM CODE 0
 ";
 
-const NOT_OF_THE_FORM: &str = "ADR548T (000) RUN ENDED WITH STATUS 48\n";
-
 /// Where the bytes of the first DSCBs begin among those of the unit.
 const FOUR: usize = SLOT + 29;
 
@@ -76,7 +74,7 @@ ADR102I (001) PRINT ENDED CODE 0
 ADR103I (000) MAXIMUM CODE 0
 ";
 
-/// Volumes that a release doesn't take yet, and their listings.
+/// Volumes that have more than the simplest form, and their listings.
 const OTHERS: [(Given, &str); 4] = [
     // with an index
     (
@@ -144,7 +142,7 @@ const OTHERS: [(Given, &str); 4] = [
 ];
 
 #[test]
-fn a_volume_that_no_release_takes_is_listed(rt: HostRuntime) -> Result<(), Fail> {
+fn a_volume_of_another_form_is_listed(rt: HostRuntime) -> Result<(), Fail> {
     for (given, want) in OTHERS {
         let (status, lines) = ends(rt.alloc(), TEXT, given)?;
         assert_eq!(rt; status, 0);
@@ -296,49 +294,127 @@ fn with_head(head: &'static [(usize, u8)]) -> Given {
     Given { head, ..GIVEN }
 }
 
-/// Whether a volume has the status 48 and its line alone.
-fn is_refused(alloc: Global, given: Given) -> Result<bool, RowsFault> {
+/// The words behind OFFLINE.
+type Offline = (Given, &'static str);
+
+/// The lines of a listing of a volume that is offline.
+fn offline_lines(alloc: Global, why: &str) -> Result<String, RowsFault> {
+    Ok(format!(in alloc;
+        "ADR101I (001) PRINT STARTED
+ADR401T (001) UNIT VOL001 OFFLINE: {why}
+ADR102I (001) PRINT ENDED CODE 12
+ADR103I (000) MAXIMUM CODE 12
+"
+    )?)
+}
+
+/// Whether a volume is told to be offline, with these words and no others.
+fn is_offline(alloc: Global, (given, why): Offline) -> Result<bool, RowsFault> {
+    let want = offline_lines(alloc, why)?;
     let (status, lines) = ends(alloc, TEXT, given)?;
-    Ok(status == 48 && lines.as_str() == NOT_OF_THE_FORM)
+    Ok(status == 12 && lines.as_str() == want.as_str())
 }
 
 #[test]
-fn other_heads_and_labels_are_refused_with_one_line(rt: HostRuntime) -> Result<(), Fail> {
+fn other_heads_and_labels_are_offline(rt: HostRuntime) -> Result<(), Fail> {
     let cases = [
-        with_head(&[(0, 0)]),
-        with_head(&[(16, 0x80), (13, 0xba)]), // a 3380
-        with(&[(4, 1)]), // track 0 at another address
-        with(&[(221, 0)]), // the label's key
-        with(&[(239, 2)]), // its pointer to a track without records
-        with(&[(239, 0)]), // to track 0
-        with(&[(240, 3)]), // to a free record
+        (with_head(&[(0, 0)]), "HEAD 1"),
+        (with_head(&[(16, 0x70)]), "HEAD 2"),
+        (with_head(&[(8, 14)]), "HEAD 3"),
+        (with_head(&[(16, 0x80)]), "HEAD 4"), // a 3380 with slots of a 3390
+        // a 3380, for which the blocks are 17 slots and a rest
+        (with_head(&[(16, 0x80), (13, 0xba)]), "HEAD 6"),
+        (with(&[(4, 1)]), "LABEL 1"), // track 0 at another address
+        (with(&[(221, 0)]), "LABEL 2"), // the label's key
+        (with(&[(229, 0)]), "LABEL 4"), // a serial that is none
+        // the label's pointer to a track without records, to track 0, and to a free record
+        (with(&[(239, 2)]), "VTOC 2 1 NO FORMAT 4"),
+        (with(&[(239, 0)]), "VTOC 0 1 NO FORMAT 4"),
+        (with(&[(240, 3)]), "VTOC 1 3 NO FORMAT 4"),
     ];
-    for given in cases {
-        assert!(rt; is_refused(rt.alloc(), given)?, "{given:?}");
+    for case in cases {
+        assert!(rt; is_offline(rt.alloc(), case)?, "{case:?}");
     }
     Ok(())
 }
 
 #[test]
-fn other_vtocs_are_refused_with_one_line(rt: HostRuntime) -> Result<(), Fail> {
+fn other_vtocs_are_offline(rt: HostRuntime) -> Result<(), Fail> {
     let cases = [
-        with(&[(SLOT + 4, 2)]), // the track at another address
-        with(&[(FIVE - 4, 3)]), // a number twice
-        with(&[(FOUR + 44, 0xf6)]), // no format 4
-        with(&[(FOUR + 63, 0)]), // no cylinders
-        with(&[(FOUR + 65, 14)]), // other heads
-        with(&[(FOUR + 105, 0)]), // no extent
-        with(&[(FOUR + 114, 2)]), // two tracks
-        with(&[(FIVE + 44, 0)]), // no format 5, and bytes that are none
-        with(&[(FIVE + 139, 1)]), // a pointer
-        with(&[(THIRD + 139, 1)]), // a record that is no DSCB
-        with(&[(FIVE + 5, 1), (FIVE + 8, 14)]), // the VTOC is stated free
-        with(&[(FIVE + 5, 3), (FIVE + 8, 12)]), // track 2 is neither used nor free
-        with(&[(FIVE + 8, 14)]), // a track past the end
-        with(&[(FIVE + 10, 14), (FIVE + 13, 1)]), // track 14 is stated twice
+        (with(&[(SLOT + 4, 2)]), "VTOC 1 1 NO FORMAT 4"), // the track at another address
+        (with(&[(FOUR + 44, 0xf6)]), "VTOC 1 1 NO FORMAT 4"),
+        (with(&[(FOUR + 63, 0)]), "VTOC 1 1 GEOMETRY"), // no cylinders
+        (with(&[(FOUR + 65, 14)]), "VTOC 1 1 GEOMETRY"), // other heads
+        (with(&[(FOUR + 105, 0)]), "VTOC 1 1 VTOC EXTENT"), // no extent
+        (with(&[(FIVE - 4, 3)]), "VTOC 1 0 TRACK"), // a number twice
+        // two tracks, of which the second has no record; but that it is stated free stands at the format 4
+        (with(&[(FOUR + 114, 2)]), "VTOC 1 1 FREE"),
+        (
+            with(&[(FOUR + 114, 2), (FIVE + 5, 3), (FIVE + 8, 12)]),
+            "VTOC 2 0 TRACK",
+        ),
+        (with(&[(FIVE + 44, 0)]), "VTOC 1 2 DSCB"), // no format 5, and bytes that are none
+        (with(&[(THIRD + 139, 1)]), "VTOC 1 3 DSCB"), // a free record has a byte
+        (with(&[(FIVE + 139, 1)]), "VTOC 1 2 POINTER"), // to track 0
     ];
-    for given in cases {
-        assert!(rt; is_refused(rt.alloc(), given)?, "{given:?}");
+    for case in cases {
+        assert!(rt; is_offline(rt.alloc(), case)?, "{case:?}");
+    }
+    Ok(())
+}
+
+/// Entries that don't state the free tracks 2 to 14.
+const WRONG_ENTRIES: [&[(u8, u8)]; 5] = [
+    &[(1, 14)], // the VTOC
+    &[(3, 12)], // track 2 is neither used nor free
+    &[(2, 14)], // a track past the end
+    &[(2, 13), (14, 1)], // track 14 twice
+    &[(2, 4), (7, 8)], // not track 6
+];
+
+#[test]
+fn a_volume_whose_free_tracks_are_stated_wrongly_is_offline(rt: HostRuntime) -> Result<(), Fail> {
+    for entries in WRONG_ENTRIES {
+        let given = Given {
+            vtoc: Vtoc { entries, ..BASE },
+            ..GIVEN
+        };
+        assert!(rt;
+            is_offline(rt.alloc(), (given, "VTOC 1 1 FREE"))?,
+            "{entries:?}"
+        );
+    }
+    Ok(())
+}
+
+/// The volume with A.B, of which some bytes of its blocks are others.
+fn with_set(blocks: &'static [(usize, u8)]) -> Given {
+    Given { blocks, ..WITH_SET }
+}
+
+/// The extent of A.B ends at head 15, and all tracks but those of label and VTOC are stated free.
+const NO_SUCH_HEAD: Given = Given {
+    vtoc: BASE,
+    blocks: &[(THIRD + 114, 15)],
+    ..WITH_SET
+};
+
+#[test]
+fn a_volume_with_a_wrong_data_set_is_offline(rt: HostRuntime) -> Result<(), Fail> {
+    let cases = [
+        // its pointer to track 0, and to the format 5
+        (with_set(&[(THIRD + 139, 2)]), "VTOC 1 3 POINTER"),
+        (
+            with_set(&[(THIRD + 138, 1), (THIRD + 139, 2)]),
+            "VTOC 1 3 POINTER",
+        ),
+        // its extent ends at a head that isn't there, and so has no tracks; they are stated free, or not
+        (NO_SUCH_HEAD, "VTOC 1 3 RANGE"),
+        (with_set(&[(THIRD + 114, 15)]), "VTOC 1 1 FREE"),
+        (with_set(&[(THIRD + 110, 1)]), "VTOC 1 3 OVERLAP"), // it begins at the VTOC
+    ];
+    for case in cases {
+        assert!(rt; is_offline(rt.alloc(), case)?, "{case:?}");
     }
     Ok(())
 }

@@ -35,7 +35,17 @@ const STOPPED_BY_THE_POOL: &str = "ADR101I (001) RELEASE STARTED
 ADR516T (000) RUN ENDED WITH STATUS 16
 ";
 
-const NOT_OF_THE_FORM: &str = "ADR548T (000) RUN ENDED WITH STATUS 48\n";
+const PINNED: &str = "ADR101I (001) RELEASE STARTED
+ADR305E (001) A.B NOT PROCESSED: PINNED
+ADR102I (001) RELEASE ENDED CODE 8
+ADR103I (000) MAXIMUM CODE 8
+";
+
+const BAD_TRACK: &str = "ADR101I (001) RELEASE STARTED
+ADR307E (001) A.B NOT PROCESSED: BAD TRACK
+ADR102I (001) RELEASE ENDED CODE 8
+ADR103I (000) MAXIMUM CODE 8
+";
 
 /// Where the DSCB of A.B begins among the bytes of the unit.
 const THIRD: usize = SLOT + 325;
@@ -157,13 +167,13 @@ const UNCHANGED: [Unchanged; 6] = [
     ),
     (RELEASE_OTHER, &[], 4, NOTHING_SELECTED),
     // a direct data set
-    (RELEASE, &[(THIRD + 82, 0x20)], 48, NOT_OF_THE_FORM),
-    // a pinned one
-    (RELEASE, &[(THIRD + 78, 2)], 48, NOT_OF_THE_FORM),
-    // an extent of cylinders
-    (RELEASE, &[(THIRD + 105, 0x81)], 48, NOT_OF_THE_FORM),
+    (RELEASE, &[(THIRD + 82, 0x20)], 8, PINNED),
+    // one that the system manages
+    (RELEASE, &[(THIRD + 78, 2)], 8, PINNED),
+    // an extent of cylinders that isn't whole cylinders
+    (RELEASE, &[(THIRD + 105, 0x81)], 8, PINNED),
     // its fifth track at another address
-    (RELEASE, &[(6 * SLOT + 4, 7)], 48, NOT_OF_THE_FORM),
+    (RELEASE, &[(6 * SLOT + 4, 7)], 8, BAD_TRACK),
 ];
 
 #[test]
@@ -184,8 +194,8 @@ fn other_releases_change_nothing(rt: HostRuntime) -> Result<(), Fail> {
 }
 
 /// The calls of a release before its first write: a sync, three blocks of the journal and the label when it is opened, the label
-/// and the VTOC, and the ten tracks of A.B.
-const FIRST_WRITE: u64 = 17;
+/// and the VTOC, the ten tracks of A.B, and the sync before a commit.
+const FIRST_WRITE: u64 = 18;
 
 #[test]
 fn a_release_whose_first_write_fails_is_pending(rt: HostRuntime) -> Result<(), Fail> {

@@ -37,15 +37,15 @@ const SHRUNK: Given = Given {
 };
 
 /// The calls of the release. Before it writes: a sync, three blocks of the journal and the label when it is opened, the label and
-/// the VTOC, and the ten tracks of A.B. Then image and directory, and a sync; the gate opens, and a sync; the VTOC, and a sync; the gate
-/// closes, and a sync.
-const CALLS: u64 = 17 + 3 + 2 + 2 + 2;
+/// the VTOC, and the ten tracks of A.B; and the sync of new tracks, of which there are none. Then image and directory, and a sync; the
+/// gate opens, and a sync; the VTOC, and a sync; the gate closes, and a sync.
+const CALLS: u64 = 17 + 1 + 3 + 2 + 2 + 2;
 
 /// The call that opens the gate.
-const OPENING: u64 = 21;
+const OPENING: u64 = 22;
 
 /// The call that closes it.
-const CLOSING: u64 = 25;
+const CLOSING: u64 = 26;
 
 /// The calls of a listing: a sync, three blocks of the journal and the label when it is opened, the label and the VTOC.
 const LISTING_CALLS: u64 = 7;

@@ -1,14 +1,9 @@
-use Rattle.std.proofs.Common.{◌≡◌, inl, [], length, sym, ◌∙◌, arith}
+use Rattle.std.proofs.Common.{◌≡◌, [], length, sym, ◌∙◌, arith}
 use Rattle.std.specs.Vec.{vec_len}
 use Rattle.std.proofs.lemmas.Bool.{eqb-true}
 use Rattle.std.proofs.lemmas.List.{nil_from_length}
-use Rattle.rows_headline.proofs.Forms.{has_listed, stays_settled}
+use Rattle.rows_headline.proofs.Forms.{stays_settled}
 use Rattle.rows_headline.proofs.made.list.Goals as goal
-
-pub returns-clause-listed : goal.returns-clause-listed
-returns-clause-listed g c = λ told.
-    let zero : c.batch-ended.result.status ≡ 0 = omega (arith, c.if-ended-ne0.false) in
-    has_listed _ _ _ told _ _ _ _ _ _ (c.ask_for_text.ensures c.if-not-ask_for_text.false) (c.batch-ended.ensures.done (inl zero))
 
 pub returns-clause-stays : goal.returns-clause-stays
 returns-clause-stays g c = λ told.

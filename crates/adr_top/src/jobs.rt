@@ -1,0 +1,92 @@
+//! A run of a text.
+
+ghost use Rattle.std.specs.Prelude.{◌≡◌, ◌⊎◌, IfOk, List};
+ghost use Rattle.by_rules.specs.Day.{IsToday};
+ghost use Rattle.redo_core.specs.Opening.{AreNames};
+ghost use Rattle.sysin_lang.specs.Script.{plan_of_script};
+ghost use Rattle.job_script.specs.Built.{AreBuilt};
+ghost use Rattle.adr_top.specs.Asked.{serials_of};
+ghost use Rattle.job_script.specs.Ends.{after_of};
+ghost use Rattle.adr_top.specs.Parts.{IsRefused, Opens, EndsJobs, sink_seen};
+ghost use Rattle.adr_top.specs.Reading.{source_seen};
+
+use crate::lists::Day;
+use crate::texts::{Ready, prepare};
+use ckd_image::Word;
+use dasd_pool::{Pool, Sink, Source};
+use job_script::{Left, run_script};
+use run_lines::{RunEnd, tell};
+use run_words::UnitPaths;
+use std::alloc::{AllocError, Global};
+use unit_session::Session;
+use vol_label::Serial;
+
+/// What a run leaves that is refused: the pool as it is. Its last line is tried.
+pub(crate) fn refuse<O: Sink, P>(alloc: Global, out: &mut O, pool: P, end: RunEnd) -> Left<P>
+    ensures { IsRefused (sink_seen O.Sink out.old out.new) pool end (after_of result) }
+{
+    tell(out, end);
+    Left {
+        pool,
+        steps: Vec::new(alloc),
+        pending: None,
+        end,
+    }
+}
+
+/// The serials of volumes.
+pub(crate) fn names_of(alloc: Global, volumes: &UnitPaths) -> Result<Vec<Serial>, AllocError>
+    ensures { IfOk result (λ serials. serials.items ≡ serials_of volumes.now) }
+{
+    let mut serials = Vec::new(alloc);
+    for volume in volumes.as_slice() {
+        serials.push(volume.0)?;
+    }
+    Ok(serials)
+}
+
+/// Opens the journal of volumes with these serials, and runs a script over them.
+fn open_and_run<O: Sink, P: Pool>(
+    alloc: Global,
+    serials: &[Serial],
+    ready: &Ready,
+    out: &mut O,
+    pool: P,
+    today: Day,
+) -> Left<P>
+    requires names { AreNames (P.shape pool) serials.now }
+    requires built { AreBuilt (plan_of_script ready.now.script) }
+    requires today { IsToday today }
+    ensures { Opens P.Pool (sink_seen O.Sink out.old out.new) pool serials.now ready.now.held today (plan_of_script ready.now.script) (after_of result) }
+{
+    match Session::begin(alloc, pool, serials) {
+        Ok(session) => run_script(alloc, session, &ready.script, &ready.held, today, out),
+        Err(stop) => refuse(alloc, out, stop.pool, RunEnd::from(stop.cause)),
+    }
+}
+
+/// Reads the texts, and runs what they say over volumes.
+pub(crate) fn run_jobs<S: Source, H: Source, O: Sink, P: Pool>(
+    alloc: Global,
+    volumes: &UnitPaths,
+    path: &Option<Word>,
+    sysin: &mut S,
+    held: &mut H,
+    out: &mut O,
+    pool: P,
+    today: Day,
+) -> Left<P>
+    requires names { AreNames (P.shape pool) (serials_of volumes.now) }
+    requires today { IsToday today }
+    ensures { EndsJobs P.Pool path.now (source_seen H.Source held.old held.new) (source_seen S.Source sysin.old sysin.new) (sink_seen O.Sink out.old out.new)
+        pool (serials_of volumes.now) today (after_of result) }
+{
+    let ready = match prepare(alloc, path, sysin, held) {
+        Ok(ready) => ready,
+        Err(end) => return refuse(alloc, out, pool, end),
+    };
+    match names_of(alloc, volumes) {
+        Ok(serials) => open_and_run(alloc, &serials, &ready, out, pool, today),
+        Err(_) => refuse(alloc, out, pool, RunEnd::Memory),
+    }
+}
