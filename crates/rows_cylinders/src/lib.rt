@@ -1,0 +1,11 @@
+//! Tests: releases on volumes of several cylinders, of whole cylinders and among many runs of free tracks.
+#![tactic(auto)]
+
+#[cfg(test)]
+mod dscbs;
+#[cfg(test)]
+mod runs;
+#[cfg(test)]
+mod tests;
+#[cfg(test)]
+mod volumes;

@@ -1,0 +1,167 @@
+use crate::dscbs::{Contents, Free, Set};
+use crate::runs::run;
+use rows_base::RowsFault;
+use std::alloc::Global;
+use std::test::*;
+
+/// The volume of five cylinders with A.B on cylinders 1 up to this track, and its second run of free tracks.
+fn five(alloc: Global, last: u8, free: Free) -> Result<Contents, RowsFault> {
+    let set = Set {
+        name: [0xc1, 0x4b, 0xc2],
+        extent: Some((0x81, 15, last)),
+        last: [0, 15, 1],
+    };
+    Ok(Contents {
+        cylinders: 5,
+        sets: vec![in alloc; set]?,
+        free: vec![in alloc; (2, 0, 13), free]?,
+    })
+}
+
+const FIFTEEN_RELEASED: &str = "ADR101I (001) RELEASE STARTED
+ADR120I (001) A.B RELEASED 15
+ADR102I (001) RELEASE ENDED CODE 0
+ADR103I (000) MAXIMUM CODE 0
+";
+
+/// Bytes of the VTOC from a place on.
+type Place = (usize, &'static [u8]);
+
+/// The entries of the format 5, and the extent of A.B: cylinder 1 head 0 to cylinder 2 head 14.
+const LEFT_OF_FIVE: [Place; 2] = [
+    (181, &[0, 2, 0, 0, 13, 0, 45, 0, 2, 0, 0, 0, 0, 0, 0]),
+    (430, &[0x81, 0, 0, 1, 0, 0, 0, 2, 0, 14]),
+];
+
+/// Whether these bytes stand at their places.
+fn stand(slot: &[u8], places: &[Place]) -> bool {
+    places.iter().all(|(at, want)| slot.iter().skip(*at).take(want.len()).eq(want.iter()))
+}
+
+#[test]
+fn a_release_of_whole_cylinders_keeps_the_last_used_one(rt: HostRuntime) -> Result<(), Fail> {
+    let given = five(rt.alloc(), 59, (60, 1, 0))?;
+    let after = five(rt.alloc(), 44, (45, 2, 0))?;
+    let text = b" RELEASE DATASET(INCLUDE(A.B)) DDNAME(VOL001)\n";
+    let mut ran = run(rt.alloc(), &given, text)?;
+    assert_eq!(rt; ran.lines.as_str(), FIFTEEN_RELEASED);
+    assert_eq!(rt; ran.status, 0);
+    assert!(rt; stand(&ran.slot(rt.alloc(), 1)?, &LEFT_OF_FIVE));
+    assert_eq!(rt; ran.changed(rt.alloc(), &given)?.as_slice(), [1].as_slice());
+    assert!(rt; ran.changed(rt.alloc(), &after)?.is_empty());
+    Ok(())
+}
+
+/// A data set of tracks, of which no block is used.
+fn set_of(name: [u8; 3], first: u8, last: u8) -> Set {
+    Set {
+        name,
+        extent: Some((1, first, last)),
+        last: [0, 0, 0],
+    }
+}
+
+/// A name of a letter and a number below 100.
+fn numbered(letter: u8, number: u8) -> [u8; 3] {
+    [letter, 0xf0 | number / 10, 0xf0 | number % 10]
+}
+
+/// Adds 26 data sets of two tracks, each behind a free one, and one of the track before them all.
+fn push_small(sets: &mut Vec<Set>) -> Result<(), RowsFault> {
+    for number in 1..27u8 {
+        sets.push(set_of(numbered(0xc4, number), 3 * number, 3 * number + 1))?;
+    }
+    sets.push(set_of(numbered(0xc4, 27), 2, 2))?;
+    Ok(())
+}
+
+/// Adds so many data sets without extents.
+fn push_empty(sets: &mut Vec<Set>, count: u8) -> Result<(), RowsFault> {
+    for number in 0..count.min(99) {
+        sets.push(Set {
+            name: numbered(0xe9, number + 1),
+            extent: None,
+            last: [0, 0, 0],
+        })?;
+    }
+    Ok(())
+}
+
+/// The single free tracks behind each of them but the last.
+const SINGLE: [u8; 25] = [
+    5, 8, 11, 14, 17, 20, 23, 26, 29, 32, 35, 38, 41, 44, 47, 50, 53, 56, 59, 62, 65, 68, 71, 74,
+    77,
+];
+
+/// The single free tracks, and these runs.
+fn free_runs(alloc: Global, others: &[Free]) -> Result<Vec<Free>, RowsFault> {
+    let mut free = Vec::new(alloc);
+    for track in SINGLE {
+        free.push((track, 0, 1))?;
+    }
+    free.extend_from_slice(others)?;
+    Ok(free)
+}
+
+/// The volume of ten cylinders with E1 on track 80 up to this one, so many data sets without extents, and these runs behind E1.
+fn ten(alloc: Global, last: u8, empty: u8, others: &[Free]) -> Result<Contents, RowsFault> {
+    let mut sets = Vec::new(alloc);
+    push_small(&mut sets)?;
+    sets.push(Set {
+        last: [0, 0, 1],
+        ..set_of([0xc5, 0xf1, 0x40], 80, last)
+    })?;
+    sets.push(set_of([0xc5, 0xf2, 0x40], 83, 83))?;
+    push_empty(&mut sets, empty)?;
+    Ok(Contents {
+        cylinders: 10,
+        sets,
+        free: free_runs(alloc, others)?,
+    })
+}
+
+const RELEASE_E1: &[u8] = b" RELEASE DATASET(INCLUDE(E1)) DDNAME(VOL001)\n";
+
+const TWO_RELEASED: &str = "ADR101I (001) RELEASE STARTED
+ADR120I (001) E1 RELEASED 2
+ADR102I (001) RELEASE ENDED CODE 0
+ADR103I (000) MAXIMUM CODE 0
+";
+
+const VTOC_FULL: &str = "ADR101I (001) RELEASE STARTED
+ADR303E (001) E1 NOT PROCESSED: VTOC FULL
+ADR102I (001) RELEASE ENDED CODE 8
+ADR103I (000) MAXIMUM CODE 8
+";
+
+/// No free DSCB, the last entry of the first format 5 and its pointer to record 50, the extent of E1, and the second format 5.
+const LEFT_OF_TEN: [Place; 5] = [
+    (79, &[0, 0]),
+    (307, &[0, 81, 0, 0, 2, 0, 0, 0, 1, 50]),
+    (4426, &[1, 0, 0, 5, 0, 5, 0, 5, 0, 5]),
+    (7281, &[5, 5, 5, 5, 0, 84, 0, 4, 6, 0, 0, 0, 0, 0]),
+    (7325, &[0xf5]),
+];
+
+#[test]
+fn a_27th_run_takes_a_second_format_5(rt: HostRuntime) -> Result<(), Fail> {
+    let given = ten(rt.alloc(), 82, 18, &[(84, 4, 6)])?;
+    let after = ten(rt.alloc(), 80, 18, &[(81, 0, 2), (84, 4, 6)])?;
+    let mut ran = run(rt.alloc(), &given, RELEASE_E1)?;
+    assert_eq!(rt; ran.lines.as_str(), TWO_RELEASED);
+    assert_eq!(rt; ran.status, 0);
+    assert!(rt; stand(&ran.slot(rt.alloc(), 1)?, &LEFT_OF_TEN));
+    assert_eq!(rt; ran.changed(rt.alloc(), &given)?.as_slice(), [1].as_slice());
+    assert!(rt; ran.changed(rt.alloc(), &after)?.is_empty());
+    Ok(())
+}
+
+#[test]
+fn a_27th_run_without_a_free_dscb_changes_nothing(rt: HostRuntime) -> Result<(), Fail> {
+    let given = ten(rt.alloc(), 82, 19, &[(84, 4, 6)])?;
+    let mut ran = run(rt.alloc(), &given, RELEASE_E1)?;
+    assert_eq!(rt; ran.lines.as_str(), VTOC_FULL);
+    assert_eq!(rt; ran.status, 8);
+    assert!(rt; ran.changed(rt.alloc(), &given)?.is_empty());
+    Ok(())
+}
