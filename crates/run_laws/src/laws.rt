@@ -1,0 +1,11 @@
+//! Runs that nothing stands against.
+
+ghost use Rattle.run_laws.specs.Complete.{RunsAreWhole};
+
+use dasd_pool::Pool;
+
+/// A run whose words agree, whose texts and journal are right, and of which nothing fails, ends with the greatest code of its statements, unless memory runs
+/// out.
+pub fn run_laws<P: Pool>()
+    ensures { RunsAreWhole P.Pool }
+{}
