@@ -1,4 +1,4 @@
--- Which calls of a pool in memory fail.
+-- Which calls of an object in memory fail.
 use Rattle.std.specs.Prelude.{ℕ, ◌+◌, ◌-◌, ◌^◌, nat_lt, if◌then◌else◌}
 
 -- a count after one more, which stays at the last value of its type

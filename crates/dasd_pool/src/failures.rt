@@ -1,4 +1,4 @@
-//! Which calls of a pool in memory fail.
+//! Which calls of an object in memory fail.
 
 ghost use Rattle.std.specs.Prelude.{◌≡◌, ◌||◌, ◌==◌, if◌then◌else◌};
 ghost use Rattle.std.specs.List.{list_any};
@@ -13,7 +13,7 @@ pub struct Failures {
 }
 
 impl Failures {
-    /// Counts a call, and whether it fails: its number is one of those, or the pool has no room for it.
+    /// Counts a call, and whether it fails: its number is one of those, or there is no room for it.
     pub fn next_fails(&mut self, full: bool) -> bool
         ensures told { self.new.told ≡ self.old.told }
         ensures count { self.new.count ≡ one_more self.old.count }

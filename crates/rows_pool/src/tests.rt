@@ -267,3 +267,56 @@ fn a_stream_in_memory_takes_and_gives_bytes(rt: HostRuntime) -> Result<(), Fail>
     assert_eq!(rt; source.read(&mut buf), Ok(0));
     Ok(())
 }
+
+#[test]
+fn a_medium_in_memory_takes_a_piece_or_nothing_of_it(rt: HostRuntime) -> Result<(), Fail> {
+    let failing = [2, 5].to_vec(rt.alloc())?;
+    let mut medium = MemoryMedium::new(rt.alloc(), 5, failing)?;
+    assert_eq!(rt; medium.put(b"fre"), Ok(()));
+    assert_eq!(rt; medium.put(b"eze"), Err(MediumFault), "no room");
+    assert_eq!(rt; medium.put(b"e"), Err(MediumFault), "told to fail");
+    assert_eq!(rt; medium.put(b"e"), Ok(()));
+    assert_eq!(rt; medium.finish(), Ok(()));
+    assert_eq!(rt; medium.finish(), Err(MediumFault), "told to fail");
+    assert_eq!(rt; medium.text(), b"free".as_slice());
+    Ok(())
+}
+
+#[test]
+fn a_reel_in_memory_is_read_again(rt: HostRuntime) -> Result<(), Fail> {
+    let text = Bytes::from_slice(rt.alloc(), b"free")?;
+    let failing = [1, 3].to_vec(rt.alloc())?;
+    let mut reel = MemoryReel::new(text, failing);
+    let mut buf = [0; 3];
+    assert_eq!(rt; reel.read(&mut buf), Ok(3));
+    assert_eq!(rt; reel.read(&mut buf), Err(ReelFault), "told to fail");
+    assert_eq!(rt; reel.read(&mut buf), Ok(1));
+    assert_eq!(rt; reel.rewind(), Err(ReelFault), "told to fail");
+    assert_eq!(rt; reel.read(&mut buf), Ok(0));
+    assert_eq!(rt; reel.rewind(), Ok(()));
+    assert_eq!(rt; reel.read(&mut buf), Ok(3));
+    assert_eq!(rt; &buf, b"fre");
+    Ok(())
+}
+
+#[test]
+fn a_file_is_a_medium_and_then_a_reel(rt: HostRuntime) -> Result<(), Fail> {
+    let path = scratch(&rt, "dasd_pool_reel")?;
+    let folder = File::open(&rt, env::temp_dir(&rt)?)?;
+    let mut medium = FileMedium::new(File::create(&rt, &path)?, folder);
+    assert_eq!(rt; medium.put(b"fre"), Ok(()));
+    assert_eq!(rt; medium.put(b"e"), Ok(()));
+    assert_eq!(rt; medium.finish(), Ok(()));
+    let mut reel = FileReel::new(File::open(&rt, &path)?);
+    let mut buf = [0; 8];
+    for _ in 0..2 {
+        assert_eq!(rt; reel.read(&mut buf), Ok(4));
+        assert_eq!(rt; &buf[..4], b"free".as_slice());
+        assert_eq!(rt; reel.read(&mut buf), Ok(0));
+        assert_eq!(rt; reel.rewind(), Ok(()));
+    }
+    let mut medium = FileMedium::new(File::open(&rt, &path)?, File::open(&rt, &path)?);
+    assert_eq!(rt; medium.put(b"e"), Err(MediumFault), "not to be written");
+    fs::remove_file(&rt, &path)?;
+    Ok(())
+}
