@@ -9,7 +9,7 @@ use Rattle.by_rules.specs.declared.day.Day.{Day}
 use Rattle.by_rules.specs.Words.{is_decimal, decimal, number_of}
 use Rattle.dasd_pool.specs.Disk.{Shape}
 use Rattle.dasd_pool.specs.declared.pool.Pool.{Ghosts}
-use Rattle.dump_fmt.specs.declared.dd.DdName.{DdName}
+use Rattle.dd_names.specs.declared.dd.DdName.{DdName}
 use Rattle.vol_label.specs.declared.serial.Serial.{Serial}
 use Rattle.vol_label.specs.Serial.{IsSerialName, IsSerial}
 use Rattle.vol_label.specs.Serial as serials

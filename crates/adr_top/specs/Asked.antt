@@ -1,6 +1,6 @@
 -- What the words of a run ask for, and what must agree with it.
 use Rattle.std.specs.Prelude.{◌≡◌, ℕ, ◌+◌, List, [], length, map}
-use Rattle.dump_fmt.specs.declared.dd.DdName.{DdName}
+use Rattle.dd_names.specs.declared.dd.DdName.{DdName}
 use Rattle.vol_label.specs.declared.serial.Serial.{Serial}
 use Rattle.run_words.specs.declared.given.Given.{Given as GivenOption}
 use Rattle.run_words.specs.declared.run.Run.{Run}

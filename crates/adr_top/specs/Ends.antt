@@ -5,7 +5,7 @@ use Rattle.dasd_pool.specs.Count.{Rose}
 use Rattle.dasd_pool.specs.Disk.{LeavesOnly, Runs, none}
 use Rattle.dasd_pool.specs.Stream.{Appends, AppendsSome}
 use Rattle.dasd_pool.specs.declared.pool.Pool.{Ghosts}
-use Rattle.dump_fmt.specs.declared.dd.DdName.{DdName}
+use Rattle.dd_names.specs.declared.dd.DdName.{DdName}
 use Rattle.enq_table.specs.declared.hold.Hold.{Hold}
 use Rattle.vol_label.specs.declared.serial.Serial.{Serial}
 use Rattle.volume_model.specs.Unit.{UnitModel}

@@ -5,7 +5,7 @@ ghost use Rattle.adr_top.specs.Asked.{Agrees, HasUnits};
 
 use crate::lists::{InDd, OutDd};
 use ckd_image::Word;
-use dump_fmt::DdName;
+use dd_names::DdName;
 use run_words::Run;
 
 /// Whether the outputs have these names, in their order.

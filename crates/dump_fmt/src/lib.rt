@@ -1,6 +1,17 @@
-//! The dump files of DFSMSdss: so far the names that stand for them in a job.
+//! The dump file, written to several outputs and read back.
 #![tactic(auto)]
 
-mod dd;
+mod fault;
+mod outs;
+mod piece;
+mod printing;
+mod progress;
+mod sending;
+mod writer;
 
-pub use dd::DdName;
+pub use dd_names::DdName;
+pub use fault::DumpFault;
+pub use outs::{InDd, OutDd, OutState, Seen};
+pub use piece::{DumpHead, Piece};
+pub use progress::Progress;
+pub use writer::{DumpStop, DumpWriter};

@@ -1,4 +1,4 @@
-use dump_fmt::*;
+use dd_names::*;
 use std::test::*;
 
 #[test]

@@ -1,8 +1,8 @@
 ghost use Rattle.std.specs.Prelude.{◌≤◌, length, IfOk};
 ghost use Rattle.sysin_operands.specs.Operand.{OperandIsRead};
 
+use dd_names::DdName;
 use dsn_filter::Rename;
-use dump_fmt::DdName;
 use std::alloc::Global;
 use std::test::*;
 use sysin_forms::Operand;

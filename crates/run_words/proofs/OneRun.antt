@@ -2,8 +2,8 @@
 use Rattle.std.proofs.Common.{◌≡◌, ℕ, List, [], ◌∷◌, get_or, Option, Some, None, sym, ap, subst, ◌∙◌, arith, refl}
 use Rattle.std.specs.List.{AllZip}
 use Rattle.by_rules.specs.Words.{number_of}
-use Rattle.dump_fmt.specs.declared.dd.DdName.{DdName}
-use Rattle.dump_fmt.specs.DdName.{dd_name_of}
+use Rattle.dd_names.specs.declared.dd.DdName.{DdName}
+use Rattle.dd_names.specs.DdName.{dd_name_of}
 use Rattle.vol_label.specs.declared.serial.Serial.{Serial}
 use Rattle.vol_label.proofs.OneLabel as labels
 use Rattle.vol_label.specs.Serial as serials

@@ -1,7 +1,7 @@
 -- Options that ask for no run.
 use Rattle.std.proofs.Common.{◌≡◌, ◌≢◌, ℕ, suc, ◌≤◌, List, [], ◌∷◌, length, Option, arith, refl, subst, Result, Ok, Err}
 use Rattle.std.proofs.lemmas.List.Elements.{All-nil, All-cons}
-use Rattle.dump_fmt.specs.declared.dd.DdName.{DdName}
+use Rattle.dd_names.specs.declared.dd.DdName.{DdName}
 use Rattle.vol_label.specs.declared.serial.Serial.{Serial}
 use Rattle.run_words.specs.Words.{values_of, AreMissing, Spells, IsJobs, IsFormat, IsMake, IsRun}
 use Rattle.run_words.specs.declared.name.Name.{Name}

@@ -5,8 +5,8 @@ use Rattle.std.specs.Str.{bytes_eq}
 use Rattle.ckd_image.specs.Bytes.{Begins}
 use Rattle.by_rules.specs.Words.{number_of}
 use Rattle.dsn_filter.specs.OneQualifier.{IsQualifierText}
-use Rattle.dump_fmt.specs.declared.dd.DdName.{DdName}
-use Rattle.dump_fmt.specs.DdName.{dd_name_of}
+use Rattle.dd_names.specs.declared.dd.DdName.{DdName}
+use Rattle.dd_names.specs.DdName.{dd_name_of}
 use Rattle.vol_label.specs.declared.serial.Serial.{Serial}
 use Rattle.vol_label.specs.Serial.{IsSerialName}
 use Rattle.vol_label.specs.Serial as serials

@@ -2,7 +2,7 @@
 
 ghost use Rattle.std.specs.Prelude.{◌≡◌, ◌≢◌, ◌↔◌, ℕ, List, All, AllPairs, IsTrue, IfSome, IfNone};
 ghost use Rattle.std.specs.List.{AllZip};
-ghost use Rattle.dump_fmt.specs.declared.dd.DdName.{DdName};
+ghost use Rattle.dd_names.specs.declared.dd.DdName.{DdName};
 ghost use Rattle.vol_label.specs.declared.serial.Serial.{Serial};
 ghost use Rattle.run_words.specs.Words.{values_of, IsParted, IsUnit, IsDd, AreUnits, AreDds};
 ghost use Rattle.run_words.specs.Parts.{Judged};
@@ -13,7 +13,7 @@ use crate::given::{Given, split_at_sign};
 use crate::name::Name;
 use crate::values::values_of;
 use ckd_image::{Listed, Word, text};
-use dump_fmt::DdName;
+use dd_names::DdName;
 use std::alloc::Global;
 use vol_label::Serial;
 

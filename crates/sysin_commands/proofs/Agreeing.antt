@@ -7,7 +7,7 @@ use Rattle.sysin_words.specs.declared.keyword.Keyword.TheVariants as keywords
 use Rattle.sysin_words.specs.declared.lead.Verb.{Verb}
 use Rattle.sysin_words.specs.declared.lead.Verb.TheVariants as verbs
 use Rattle.sysin_words.specs.Keyword.{keyword_of}
-use Rattle.dump_fmt.specs.declared.dd.DdName.{DdName}
+use Rattle.dd_names.specs.declared.dd.DdName.{DdName}
 use Rattle.dsn_filter.specs.declared.rename.Rename.{Rename}
 use Rattle.dsn_filter.specs.declared.rename.Rename.TheVariants as renames
 use Rattle.sysin_forms.specs.declared.operand.Operand.{Operand}

@@ -4,7 +4,7 @@ use Rattle.std.specs.Prelude.{◌||◌, is_some}
 use Rattle.std.specs.List.{list_all}
 use Rattle.sysin_text.specs.declared.token.Token.{Token}
 use Rattle.vol_label.specs.declared.serial.Serial.{Serial}
-use Rattle.dump_fmt.specs.declared.dd.DdName.{DdName}
+use Rattle.dd_names.specs.declared.dd.DdName.{DdName}
 use Rattle.sysin_words.specs.declared.keyword.Keyword.{Keyword}
 use Rattle.sysin_words.specs.declared.keyword.Keyword.TheVariants as keywords
 use Rattle.sysin_words.specs.declared.lead.Verb.{Verb}

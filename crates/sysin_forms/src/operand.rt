@@ -5,8 +5,8 @@ ghost use Rattle.std.specs.List.{list_any};
 ghost use Rattle.sysin_forms.specs.Operand as spec;
 
 use by_rules::Criteria;
+use dd_names::DdName;
 use dsn_filter::Rename;
-use dump_fmt::DdName;
 use sysin_lang::{DdNames, Filter, Patterns};
 use sysin_words::Keyword;
 use vol_label::Serial;

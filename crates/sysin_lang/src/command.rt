@@ -2,8 +2,8 @@
 
 use by_rules::Criteria;
 use ckd_image::Listed;
+use dd_names::DdName;
 use dsn_filter::{Pattern, Rename};
-use dump_fmt::DdName;
 use vol_label::Serial;
 
 /// Patterns, in the order in which they stand.

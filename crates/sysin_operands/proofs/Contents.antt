@@ -1,6 +1,6 @@
 -- What stands in brackets is read exactly.
 use Rattle.std.proofs.Common.{◌≡◌, ◌≢◌, ℕ, List, refl, sym, ap}
-use Rattle.dump_fmt.specs.declared.dd.DdName.{DdName}
+use Rattle.dd_names.specs.declared.dd.DdName.{DdName}
 use Rattle.dsn_filter.specs.declared.rename.Rename.{Rename}
 use Rattle.by_rules.specs.declared.criterion.Criterion.{Criterion}
 use Rattle.by_rules.specs.Reading.{Machine, start as criteria_start}

@@ -1,7 +1,7 @@
 -- What stands behind a keyword.
 use Rattle.std.specs.Prelude.{◌≡◌, ◌⊎◌, ℕ, Bool, List, [], ◌∷◌, ◌++◌, Option, Some, None, codes}
 use Rattle.vol_label.specs.declared.serial.Serial.{Serial}
-use Rattle.dump_fmt.specs.declared.dd.DdName.{DdName}
+use Rattle.dd_names.specs.declared.dd.DdName.{DdName}
 use Rattle.by_rules.specs.declared.criterion.Criterion.{Criterion}
 use Rattle.dsn_filter.specs.declared.rename.Rename.{Rename}
 use Rattle.sysin_text.specs.declared.token.Token.{Token}

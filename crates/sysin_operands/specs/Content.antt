@@ -1,6 +1,6 @@
 -- What is read in brackets so far.
 use Rattle.std.specs.Prelude.{◌≡◌, ℕ, false, List, [], ◌∷◌}
-use Rattle.dump_fmt.specs.declared.dd.DdName.{DdName}
+use Rattle.dd_names.specs.declared.dd.DdName.{DdName}
 use Rattle.by_rules.specs.Reading.{Machine, start as criteria_start, HasEnded}
 use Rattle.sysin_text.specs.declared.token.Token.{Token}
 use Rattle.sysin_text.specs.declared.token.Token.TheVariants as tokens

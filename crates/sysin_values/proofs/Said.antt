@@ -4,8 +4,8 @@ use Rattle.std.specs.Prelude.{codes}
 use Rattle.std.proofs.lemmas.List.Elements.{All-from_recursion}
 use Rattle.vol_label.specs.declared.serial.Serial.{Serial}
 use Rattle.vol_label.proofs.OneLabel.{one_spelling}
-use Rattle.dump_fmt.specs.declared.dd.DdName.{DdName}
-use Rattle.dump_fmt.specs.DdName.{dd_name_of}
+use Rattle.dd_names.specs.declared.dd.DdName.{DdName}
+use Rattle.dd_names.specs.DdName.{dd_name_of}
 use Rattle.dsn_filter.specs.declared.dsn.Dsn.{Dsn}
 use Rattle.dsn_filter.specs.Qualifier.{IsInner, IsPatternPart}
 use Rattle.dsn_filter.proofs.Forms.{pattern_form}

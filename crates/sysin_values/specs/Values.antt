@@ -2,8 +2,8 @@
 use Rattle.std.specs.Prelude.{◌≡◌, ℕ, Bool, List, [], ◌∷◌, map, length, Some}
 use Rattle.vol_label.specs.declared.serial.Serial.{Serial}
 use Rattle.vol_label.specs.Serial.{IsSerialName, Spells}
-use Rattle.dump_fmt.specs.declared.dd.DdName.{DdName}
-use Rattle.dump_fmt.specs.DdName.{dd_name_of}
+use Rattle.dd_names.specs.declared.dd.DdName.{DdName}
+use Rattle.dd_names.specs.DdName.{dd_name_of}
 use Rattle.dsn_filter.specs.declared.dsn.Dsn.{Dsn}
 use Rattle.dsn_filter.specs.declared.rename.Rename.{Rename}
 use Rattle.dsn_filter.specs.declared.rename.Rename.TheVariants as renames

@@ -23,7 +23,7 @@ pub struct OutputList {
 }
 
 impl Model for OutputList {
-    ghost use Rattle.dump_fmt.specs.declared.dd.DdName.{DdName};
+    ghost use Rattle.dd_names.specs.declared.dd.DdName.{DdName};
     ghost use Rattle.sysin_values.specs.Progress.{Progress};
 
     ghost Value = { Progress DdName };

@@ -5,8 +5,8 @@ ghost use Rattle.sysin_values.specs.Values.{SaysSerial, SaysDdName, SaysPattern,
 ghost use Rattle.sysin_values.specs.NoValue.{SaysNone, IsNoPattern};
 
 use crate::fault::ValueFault;
+use dd_names::DdName;
 use dsn_filter::{Dsn, NameFault, Pattern, Qualifier};
-use dump_fmt::DdName;
 use std::alloc::Global;
 use sysin_words::number_of;
 use vol_label::Serial;

@@ -1,6 +1,6 @@
 use Rattle.std.proofs.Common.{◌≢◌, List, ℕ, length, AllPairs, sym, ap, subst, ◌∙◌, arith}
 use Rattle.std.specs.List.{AllZip}
-use Rattle.dump_fmt.specs.declared.dd.DdName.{DdName}
+use Rattle.dd_names.specs.declared.dd.DdName.{DdName}
 use Rattle.run_words.specs.Words.{values_of, IsDd, AreDds}
 use Rattle.run_words.proofs.Ends.{not_false}
 use Rattle.run_words.proofs.OneRun.{dds_are}

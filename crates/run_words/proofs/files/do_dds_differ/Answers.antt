@@ -1,5 +1,5 @@
 use Rattle.std.proofs.Common.{◌≢◌, ℕ, List, All, AllPairs, take, sym, subst, refl}
-use Rattle.dump_fmt.specs.declared.dd.DdName.{DdName}
+use Rattle.dd_names.specs.declared.dd.DdName.{DdName}
 use Rattle.run_words.proofs.Ends.{not_false}
 use Rattle.run_words.proofs.Lists.{apart_more, apart_before, all_taken}
 use Rattle.run_words.proofs.files.do_dds_differ.Goals as goal

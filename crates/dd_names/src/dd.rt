@@ -2,7 +2,7 @@
 
 ghost use Rattle.std.specs.Prelude.{◌≡◌, ◌↔◌, IsTrue, IfSome, IfNone};
 ghost use Rattle.dsn_filter.specs.OneQualifier.{IsQualifierText};
-ghost use Rattle.dump_fmt.specs.DdName.{dd_name_of};
+ghost use Rattle.dd_names.specs.DdName.{dd_name_of};
 
 use ckd_image::text::same;
 use dsn_filter::Qualifier;

@@ -2,7 +2,7 @@
 use Rattle.std.specs.Prelude.{◌≡◌, ◌-◌, ℕ, List, ◌++◌, length, replicate}
 use Rattle.dsn_filter.specs.Text.{capitals}
 use Rattle.dsn_filter.specs.OneQualifier.{IsQualifierText}
-use Rattle.dump_fmt.specs.declared.dd.DdName.{DdName}
+use Rattle.dd_names.specs.declared.dd.DdName.{DdName}
 
 -- what is kept of a text: its capitals, and zeros behind them
 abbrev pub dd_name_of : List ℕ → DdName

@@ -1,0 +1,5 @@
+pub mod Places
+pub mod Fronts
+pub mod Sizes
+pub mod Taken
+pub mod Written

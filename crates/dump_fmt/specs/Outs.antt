@@ -1,0 +1,66 @@
+-- Outputs, and what is done to them.
+use Rattle.std.specs.Prelude.{◌≡◌, ◌≢◌, ◌⊎◌, ℕ, ◌≤◌, List, length, Option, Some, AllPairs, slice_get}
+use Rattle.std.specs.List.{Contains}
+use Rattle.dd_names.specs.declared.dd.DdName.{DdName}
+use Rattle.dasd_pool.specs.Count.{Rose}
+use Rattle.dasd_pool.specs.Stream.{Appends, AppendsSome}
+use Rattle.dump_fmt.specs.declared.outs.OutState.{OutState}
+use Rattle.dump_fmt.specs.declared.outs.OutState.TheVariants as states
+
+-- what contracts see of an output: its name and state, what its medium holds where that tells, and its medium's count of faults
+pub record OutSeen : Type 0 where
+  pub name : DdName
+  pub state : OutState
+  pub held : Option (List ℕ)
+  pub faults : ℕ
+
+-- ---- one output
+
+-- the same with another state
+abbrev pub marked : OutState → OutSeen → OutSeen
+marked state out = record { name = out.name; state = state; held = out.held; faults = out.faults }
+
+-- it took all of the bytes, and has this state
+pub record HoldsAll (state : OutState) (text : List ℕ) (old new : OutSeen) : Type 0 where
+  pub state_is : new.state ≡ state
+  pub later : old.faults ≤ new.faults
+  pub took : Appends old.held new.held text
+
+-- it failed at a front of them, and is lost
+pub record HoldsFront (text : List ℕ) (old new : OutSeen) : Type 0 where
+  pub state_is : new.state ≡ states.Lost
+  pub cause : Rose old.faults new.faults
+  pub took : AppendsSome old.held new.held text
+
+-- it has this state and took all of the bytes, or it is lost
+pub record HasTaken (state : OutState) (text : List ℕ) (old new : OutSeen) : Type 0 where
+  pub name : new.name ≡ old.name
+  pub taken : HoldsAll state text old new ⊎ HoldsFront text old new
+
+-- Bytes were put on it. One that is lost is the very same: no call was made on it.
+pub record IsSentTo {X : Type 0} (seen : X → OutSeen) (text : List ℕ) (old new : X) : Type 0 where
+  pub lost : (seen old).state ≡ states.Lost → new ≡ old
+  pub sent : (seen old).state ≢ states.Lost → HasTaken (seen old).state text (seen old) (seen new)
+
+-- what it holds stays, and it is whole or lost
+pub record IsEnded (old new : OutSeen) : Type 0 where
+  pub name : new.name ≡ old.name
+  pub held : new.held ≡ old.held
+  pub later : old.faults ≤ new.faults
+  pub ended : (new.state ≡ states.Whole) ⊎ ((new.state ≡ states.Lost) × Rose old.faults new.faults)
+
+-- its medium was finished, unless it is lost
+pub record IsFinished {X : Type 0} (seen : X → OutSeen) (old new : X) : Type 0 where
+  pub lost : (seen old).state ≡ states.Lost → new ≡ old
+  pub done : (seen old).state ≢ states.Lost → IsEnded (seen old) (seen new)
+
+-- ---- the outputs at some places
+
+-- this was done to each output at these places, and every other one is the very same
+pub record EachAt {X : Type 0} (Done : X → X → Type 0) (places : List ℕ) (old new : List X) : Type 0 where
+  pub same_length : length new ≡ length old
+  pub done : (place : ℕ) (a b : X) → Contains places place → slice_get old place ≡ Some a → slice_get new place ≡ Some b → Done a b
+  pub kept : (place : ℕ) → ¬ Contains places place → slice_get new place ≡ slice_get old place
+
+abbrev pub AreDistinct : List ℕ → Type 0
+AreDistinct places = AllPairs (λ a b. a ≢ b) places

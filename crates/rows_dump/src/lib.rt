@@ -1,0 +1,6 @@
+//! Tests: dumps as bytes.
+#![tactic(auto)]
+
+mod part;
+#[cfg(test)]
+mod tests;
