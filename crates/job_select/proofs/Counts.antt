@@ -1,10 +1,8 @@
 -- How many tracks and extents a data set of a loaded volume has.
-use Rattle.std.proofs.Common.{◌≡◌, inl, inr, ℕ, zero, suc, ◌+◌, ◌<◌, ◌≤◌, ◌&&◌, List, [], ◌∷◌, ◌++◌, length, map, take, drop, get_or, All, Contains, false, true, refl, sym, ap, subst, ◌∙◌, arith}
+use Rattle.std.proofs.Common.{◌≡◌, inl, inr, ℕ, zero, suc, ◌+◌, ◌<◌, ◌≤◌, ◌&&◌, List, [], ◌∷◌, length, map, All, Contains, false, true, refl, sym, subst, ◌∙◌, arith}
 use Rattle.std.proofs.lemmas.Bool.{both_ways, cases_eq, lt-ltb}
-use Rattle.std.proofs.lemmas.List.{length-append, length-map, map-append, take-append-drop}
+use Rattle.std.proofs.lemmas.List.{length-append, length-map}
 use Rattle.std.proofs.lemmas.List.Elements.{All-contains, All-head, All-tail, Contains-append_cases}
-use Rattle.std.proofs.lemmas.Grind.{flat_map-append}
-use Rattle.ckd_image.specs.declared.device.Device.{Device}
 use Rattle.ckd_image.specs.Device.{heads_of}
 use Rattle.dscb_rec.specs.declared.field.Extent.{Extent as Field}
 use Rattle.free_map.specs.declared.run.Run.{Run}
@@ -22,7 +20,6 @@ use Rattle.vtoc_render.proofs.Known.{usable_small}
 use Rattle.unit_change.proofs.Describing.{runs_in_row}
 use Rattle.unit_steps.proofs.Blocks.{from_slots}
 use Rattle.step_plans.specs.Plans.{IsSound, extents_from}
-use Rattle.step_plans.proofs.Fronts.{long_at, summed}
 use Rattle.step_plans.proofs.LoadedRows.{IsLoadedRow, sound_row}
 use Rattle.job_select.proofs.Wholes.{on}
 
@@ -138,23 +135,3 @@ module _ (volume : Volume) (sound : IsSound volume) (row : Row) (there : Contain
         extents_few (extents_from volume.device row.extents) (each (λ e. 1 ≤ e.run.len) (λ extent c. (facts extent c).1)),
         length-map row.extents (on volume.device),
       )
-
--- ---- the first extents
-
-pub first_tracks_few : (device : Device) (extents : List Field) (k : ℕ)
-    → length (tracks_of (extents_from device (take k extents))) ≤ length (tracks_of (extents_from device extents))
-first_tracks_few device extents k =
-    let front = extents_from device (take k extents) in
-    let back = extents_from device (drop k extents) in
-    let joined : extents_from device extents ≡ front ++ back = ap (extents_from device) (sym (take-append-drop k extents)) ∙ map-append (on device) (take k extents) (drop k extents) in
-    omega (
-      arith,
-      ap (λ (l : List Extent). length (tracks_of l)) joined,
-      ap length (flat_map-append (λ (e : Extent). tracks_in e.run) front back),
-      length-append (tracks_of front) (tracks_of back),
-    )
-
--- one more of them
-pub next_few : (device : Device) (extents : List Field) (k count long : ℕ) (d : Field) → length (tracks_of (extents_from device extents)) ≤ 65535 → k < length extents
-    → long ≡ long_at device (get_or extents k d) → count ≡ length (tracks_of (extents_from device (take k extents))) → count + long ≤ 65535
-next_few device extents k count long d few less is so_far = omega (arith, few, summed device extents k count long d less is so_far, first_tracks_few device extents (k + 1))

@@ -1,4 +1,5 @@
 pub mod OneName
+pub mod HasNames
 pub mod Wholes
 pub mod KeptFields
 pub mod Counts

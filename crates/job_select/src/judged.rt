@@ -8,10 +8,10 @@ ghost use Rattle.volume_model.specs.Unit.{DataSet};
 ghost use Rattle.unit_change.specs.Described.{DescribesSet};
 ghost use Rattle.job_select.specs.Whole.{IsWholeOn};
 
-use crate::extents::run_of;
 use crate::names::name_of;
 use ckd_image::Device;
 use dscb_rec::Extent;
+use plan_core::run_of;
 use vtoc_core::Row;
 
 /// The most extents that a data set has on one volume.
@@ -49,7 +49,7 @@ fn is_movable(organization: u16) -> bool
 fn is_whole(device: Device, extent: &Extent) -> bool
     ensures { IsTrue result ↔ IsWholeOn device extent.now }
 {
-    let run = run_of(device, extent);
+    let run = run_of(extent, device.heads());
     match extent.kind {
         0x01 => true,
         0x81 => run.first % device.heads() == 0 && run.len % device.heads() == 0,

@@ -2,7 +2,6 @@
 //! Administration, filtering).
 #![tactic(auto)]
 
-mod extents;
 mod judged;
 mod names;
 mod selection;

@@ -7,12 +7,7 @@ pub mod Online
 pub mod OneOrder
 pub mod OneFault
 pub mod OneUnit
-pub mod Reached
-pub mod Used
-pub mod Shrinking
 pub mod Replacing
-pub mod Releasing
-pub mod Kept
 pub mod Unused
 pub mod Keeping
 pub mod Running

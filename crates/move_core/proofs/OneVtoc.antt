@@ -15,7 +15,7 @@ use Rattle.volume_model.specs.Dscbs.{number_at, extent_at}
 use Rattle.volume_model.specs.Space.{track_at, run_of}
 use Rattle.volume_model.specs.declared.place.Vtoc.{Vtoc}
 use Rattle.volume_model.specs.Sound.{Slots, dscb_of, IsTrackReading, IsReading, IsFormat4, limit_of, is_valid, IsVtoc}
-use Rattle.move_core.specs.Shrinking.{AreShort}
+use Rattle.move_core.specs.Loaded.{AreShort}
 use Rattle.move_core.proofs.Frames.{vtoc_below, pointer_held}
 
 -- ---- addresses

@@ -22,7 +22,7 @@ use Rattle.volume_model.specs.Space.{track_at}
 use Rattle.volume_model.specs.Sound.{Slots, IsFormat4, HasGeometry, HasVtocExtent, IsFirstRuleBroken, IsCheckFault, Volume, IsVolume}
 use Rattle.volume_model.specs.Unit.{OnlineVolume, UnitModel, online, offline}
 use Rattle.volume_model.specs.Reads.{IsOnline, HasImage, IsFirstText, HasBadLabel, HasLabelOf, HasBadVtoc, IsUnit}
-use Rattle.move_core.specs.Shrinking.{AreShort}
+use Rattle.move_core.specs.Loaded.{AreShort}
 use Rattle.move_core.proofs.Frames.{pointer_held}
 use Rattle.move_core.proofs.OneVtoc.{address_fits, one_format4, one_vtoc}
 

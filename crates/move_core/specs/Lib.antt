@@ -2,10 +2,8 @@ pub mod Facts
 pub mod Steps
 pub mod Stands
 pub mod Laws
-pub mod Shrinking
-pub mod Releasing
+pub mod Loaded
 pub mod Runs
 pub mod Taking
 pub mod RunLaws
-pub mod Release
 pub mod Resuming

@@ -2,9 +2,8 @@
 
 ghost use Rattle.move_core.specs.Facts.{shown};
 ghost use Rattle.move_core.specs.Laws.{KeepsMeaning, EachImageStands, OpeningStands, OpenedIsSettled, CommitStands, CommittedIsSettled, OneMeaning};
-ghost use Rattle.move_core.specs.Shrinking.{OneVtoc, LoadedIsOnline, ShrinkStands};
+ghost use Rattle.move_core.specs.Loaded.{OneVtoc, LoadedIsOnline};
 ghost use Rattle.move_core.specs.Resuming.{FormattedIsSettled, SyncedIsSettled, StandingMayOpen};
-ghost use Rattle.move_core.specs.Releasing.{KeptOfTracks, ReleaseStands};
 ghost use Rattle.move_core.specs.Runs.{Ended};
 ghost use Rattle.move_core.specs.RunLaws.{RunThen, RunQuiet, RunDemoted, RunSwitched};
 
@@ -32,17 +31,6 @@ pub fn resuming_laws()
 pub fn online_laws()
     ensures vtoc { OneVtoc }
     ensures online { LoadedIsOnline }
-{}
-
-/// A VTOC that is shrunk for a data set makes its unit a volume with that data set's first tracks alone.
-pub fn shrinking_laws()
-    ensures shrink { ShrinkStands }
-{}
-
-/// The entry of a VTOC that is shrunk for a data set releases the tracks behind its first ones, and a release keeps the used ones.
-pub fn releasing_laws()
-    ensures release { ReleaseStands }
-    ensures kept { KeptOfTracks }
 {}
 
 /// Calls on a pool chain: what they do to the units that it stood for follows from what each does.

@@ -4,8 +4,6 @@
 mod laws;
 mod steps;
 
-pub use dump_fmt::DdName;
-pub use laws::{
-    online_laws, releasing_laws, resuming_laws, running_laws, shrinking_laws, standing_laws,
-};
+pub use dd_names::DdName;
+pub use laws::{online_laws, resuming_laws, running_laws, standing_laws};
 pub use steps::{Dsn, Origin, Runs, Step};

@@ -1,7 +1,7 @@
 //! The steps that change volumes.
 
+use dd_names::DdName;
 pub use dsn_filter::Dsn;
-use dump_fmt::DdName;
 pub use free_map::Runs;
 
 /// Where a new data set comes from: a data set of a unit, or a part of a dump by its number among the whole ones.

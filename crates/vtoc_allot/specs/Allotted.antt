@@ -7,7 +7,7 @@ use Rattle.volume_model.specs.Directory.{same_place}
 use Rattle.volume_model.specs.Dscbs.{format_of}
 use Rattle.vtoc_check.specs.declared.fault.VtocFault.{VtocFault}
 use Rattle.vtoc_check.specs.declared.fault.VtocFault.TheVariants.{VtocFull, NoMemory}
-use Rattle.vtoc_core.specs.Shrink.{is_free_dscb}
+use Rattle.vtoc_core.specs.Loaded.{is_free_dscb}
 use Rattle.vtoc_layout.specs.Layout.{AreDistinct}
 use Rattle.vtoc_allot.specs.declared.held.Held.{Held}
 use Rattle.vtoc_allot.specs.declared.held.Wanted.{Wanted}

@@ -1,8 +1,8 @@
 -- Fields that are written one after the other.
-use Rattle.std.proofs.Common.{◌≡◌, ℕ, ◌+◌, ◌≤◌, List, [], ◌∷◌, ◌++◌, length, take, drop, refl, ap, ◌∙◌, arith, append_assoc}
-use Rattle.std.proofs.lemmas.List.{append-nil, drop_all}
+use Rattle.std.proofs.Common.{[], ◌≡◌, ℕ, ◌+◌, ◌≤◌, List, ◌++◌, length, take, drop, refl, ap, ◌∙◌, arith, append_assoc}
+use Rattle.std.proofs.lemmas.List.{append-nil}
 use Rattle.ckd_image.specs.Body.{over}
-use Rattle.vtoc_core.proofs.Overs.{take_past, drop_past, long_over}
+use Rattle.vtoc_core.proofs.Overs.{take_past, drop_past}
 
 glue_counts : (a p t q b : List ℕ) → t ≡ [] → (a ++ (p ++ t)) ++ (q ++ b) ≡ a ++ (p ++ (q ++ b))
 glue_counts a p t q b none = ap (λ (x : List ℕ). (a ++ (p ++ x)) ++ (q ++ b)) none ∙ simp (append_assoc, append-nil)
@@ -30,29 +30,3 @@ counts_put d x new p q long five two is made =
     behind =
         ap (drop (50 + length q)) is ∙ ap (λ (n : ℕ). drop n (over 45 p d)) to_52 ∙ drop_past 45 p d 2 fits
         ∙ ap (λ (n : ℕ). drop n d) at_52
-
-glue_extent : (a b e t z u : List ℕ) (n : ℕ) → t ≡ [] → u ≡ [] → ((a ++ (n ∷ b)) ++ (e ++ t)) ++ (z ++ u) ≡ a ++ (n ∷ (b ++ (e ++ z)))
-glue_extent a b e t z u n none nothing = (λ i. ((a ++ (n ∷ b)) ++ (e ++ none i)) ++ (z ++ nothing i)) ∙ simp (append_assoc, append-nil)
-
-pub extent_put : (d x y new e z : List ℕ) → length d ≡ 140 → length e ≡ 10 → length z ≡ 25 → x ≡ over 59 (1 ∷ []) d → y ≡ over 105 e x → new ≡ over 115 z y
-    → new ≡ take 59 d ++ (1 ∷ (take 45 (drop 60 d) ++ (e ++ z)))
-extent_put d x y new e z long ten rest is then made =
-    made ∙ (λ i. front i ++ (z ++ drop (115 + length z) y))
-    ∙ glue_extent (take 59 d) (take 45 (drop 60 d)) e (take 0 (drop (105 + length e) x)) z (drop (115 + length z) y) 1 refl (drop_all (115 + length z) y (omega (arith, rest, long_y)))
-  where
-    long_x : length x ≡ 140
-    long_x = ap length is ∙ long_over 59 (1 ∷ []) d (omega (arith, long)) ∙ long
-
-    long_y : length y ≡ 140
-    long_y = ap length then ∙ long_over 105 e x (omega (arith, long_x, ten)) ∙ long_x
-
-    first : take 105 x ≡ take 59 d ++ (1 ∷ take 45 (drop 60 d))
-    first = ap (take 105) is ∙ take_past 59 (1 ∷ []) d 45 (omega (arith, long))
-
-    to_115 : 115 ≡ 105 + (length e + 0)
-    to_115 = omega (arith, ten)
-
-    front : take 115 y ≡ (take 59 d ++ (1 ∷ take 45 (drop 60 d))) ++ (e ++ take 0 (drop (105 + length e) x))
-    front =
-        ap (take 115) then ∙ ap (λ (n : ℕ). take n (over 105 e x)) to_115 ∙ take_past 105 e x 0 (omega (arith, long_x, ten))
-        ∙ ap (λ (f : List ℕ). f ++ (e ++ take 0 (drop (105 + length e) x))) first

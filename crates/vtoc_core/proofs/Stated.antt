@@ -1,83 +1,17 @@
--- What a format 4 and a format 5 say after a change wrote their counts and entries.
-use Rattle.std.proofs.Common.{◌≡◌, ◌⊎◌, ℕ, zero, suc, ◌+◌, ◌*◌, ◌/◌, ◌%◌, ◌<◌, ◌≤◌, List, [], ◌∷◌, ◌++◌, length, take, drop, get_or, map, filter, Bool, true, false, cond, ◌==◌, ◌&&◌, Some, None, refl, sym, ap, subst, ◌∙◌, arith, inl, inr}
-use Rattle.std.specs.Prelude.{nat_lt, replicate, bit_and, All}
-use Rattle.std.specs.List.{list_all}
+-- What a format 5 says after its entries were written.
+use Rattle.std.proofs.Common.{◌≡◌, ◌⊎◌, ℕ, zero, suc, ◌+◌, ◌*◌, ◌/◌, ◌%◌, ◌<◌, ◌≤◌, List, [], ◌∷◌, ◌++◌, length, take, get_or, map, filter, Bool, true, false, cond, refl, sym, ap, subst, ◌∙◌, arith, inl, inr}
+use Rattle.std.specs.Prelude.{nat_lt, All}
 use Rattle.std.proofs.lemmas.Bool.Decides.{nat_tests}
-use Rattle.std.proofs.lemmas.List.{length-take-le, get_or-take, get_or-drop, drop-drop, take_at, drop_at, take-take, ext_get_or, map-append, append-nil, length-map, get_or_past, take_all}
+use Rattle.std.proofs.lemmas.List.{map-append, append-nil, get_or_past, take_all}
 use Rattle.std.proofs.Math.Seq.{take-suc}
-use Rattle.std.proofs.lemmas.Nat.{div-add-mod'}
 use Rattle.std.proofs.lemmas.List.Elements.{filter-append}
-use Rattle.ckd_image.specs.declared.track.Cchhr.{Cchhr}
-use Rattle.ckd_image.specs.Address.{cchhr_text}
-use Rattle.byteorder.specs.Endian.{big_bytes}
 use Rattle.dscb_rec.specs.declared.field.Entry5.{Entry5}
 use Rattle.dscb_rec.specs.Field.{entry_offset, IsEntry5}
 use Rattle.free_map.specs.declared.run.Run.{Run}
-use Rattle.free_map.specs.Entries.{entry_of}
-use Rattle.free_map.specs.Runs.{AreApart}
-use Rattle.volume_model.specs.declared.format.Format.TheVariants.{F4, F5}
-use Rattle.volume_model.specs.Dscbs.{format_of, format_by, fills, number_at, extent_at, numbers_below}
+use Rattle.volume_model.specs.Dscbs.{number_at, numbers_below}
 use Rattle.volume_model.specs.Space.{entry_at, entries_of}
-use Rattle.vtoc_core.specs.Release.{HasCounts, StatesRuns}
-use Rattle.vtoc_core.specs.Edit.{no_entry, run_of_entry, with_counts, AreEntriesPut}
-use Rattle.vtoc_core.proofs.Written.{two_bytes, same_format, IsFormat5, format_5}
-
--- ---- format 4
-
-pub counts_kept : (highest : Cchhr) (free : ℕ) (bytes : List ℕ) → length bytes ≡ 140 → format_of bytes ≡ F4 → HasCounts bytes (with_counts highest free bytes)
-counts_kept highest free bytes long is = record {
-  format = same_format bytes new F4 name code tt is;
-  fields = (λ i. front i ++ (replicate 7 0 ++ (take 6 (from_52 i) ++ (bit_and (behind 6 i) 0x7B ∷ from_59 i))));
-  behind = behind;
-}
-  where
-    new : List ℕ
-    new = with_counts highest free bytes
-
-    long_front : length (take 45 bytes) ≡ 45
-    long_front = length-take-le 45 bytes (omega (arith, long))
-
-    front : take 45 new ≡ take 45 bytes
-    front = take_at (take 45 bytes) (cchhr_text highest ++ (big_bytes 2 free ++ drop 52 bytes)) 45 long_front
-
-    name : take 44 new ≡ take 44 bytes
-    name = sym (take-take 44 45 new (omega arith)) ∙ ap (take 44) front ∙ take-take 44 45 bytes (omega arith)
-
-    code : get_or new 44 0 ≡ get_or bytes 44 0
-    code = sym (get_or-take 45 new 44 0 (omega arith)) ∙ ap (λ (x : List ℕ). get_or x 44 0) front ∙ get_or-take 45 bytes 44 0 (omega arith)
-
-    from_45 : drop 45 new ≡ cchhr_text highest ++ (big_bytes 2 free ++ drop 52 bytes)
-    from_45 = drop_at (take 45 bytes) (cchhr_text highest ++ (big_bytes 2 free ++ drop 52 bytes)) 45 long_front
-
-    from_52 : drop 52 new ≡ drop 52 bytes
-    from_52 = sym (drop-drop 7 45 new) ∙ ap (drop 7) from_45
-
-    from_59 : drop 59 new ≡ drop 59 bytes
-    from_59 = sym (drop-drop 7 52 new) ∙ ap (drop 7) from_52 ∙ drop-drop 7 52 bytes
-
-    behind : (k : ℕ) → get_or new (52 + k) 0 ≡ get_or bytes (52 + k) 0
-    behind k = sym (get_or-drop 52 new k 0) ∙ ap (λ (x : List ℕ). get_or x k 0) from_52 ∙ get_or-drop 52 bytes k 0
-
--- so it says the same of the volume
-pub record SaysSameVolume (old new : List ℕ) : Type 0 where
-  pub alternates : number_at new 56 ≡ number_at old 56
-  pub indicators : get_or new 58 0 ≡ get_or old 58 0
-  pub cylinders : number_at new 62 ≡ number_at old 62
-  pub heads : number_at new 64 ≡ number_at old 64
-  pub extent : extent_at new 105 ≡ extent_at old 105
-
-pub same_volume : (old new : List ℕ) → HasCounts old new → SaysSameVolume old new
-same_volume old new h = record {
-  alternates = (λ i. 256 * h.behind 4 i + h.behind 5 i);
-  indicators = h.behind 6;
-  cylinders = (λ i. 256 * h.behind 10 i + h.behind 11 i);
-  heads = (λ i. 256 * h.behind 12 i + h.behind 13 i);
-  extent = (λ i. record {
-    kind = h.behind 53 i;
-    first = record { cylinder = 256 * h.behind 55 i + h.behind 56 i; head = 256 * h.behind 57 i + h.behind 58 i };
-    last = record { cylinder = 256 * h.behind 59 i + h.behind 60 i; head = 256 * h.behind 61 i + h.behind 62 i };
-  });
-}
+use Rattle.vtoc_core.specs.Edit.{no_entry, run_of_entry, AreEntriesPut}
+use Rattle.vtoc_core.proofs.Written.{two_bytes}
 
 -- ---- format 5
 
@@ -178,48 +112,3 @@ pub entries_told : (heads : ℕ) (entries : List Entry5) (old new : List ℕ) �
 entries_told heads entries old new h fit few =
     below heads entries old new h fit 26 (omega arith)
     ∙ ap (λ (es : List Entry5). filter (λ run. nat_lt 0 run.len) (map (run_of_entry heads) es)) (take_all 26 entries few)
-
--- runs as entries, and back
-runs_back : (heads : ℕ) (runs : List Run) (from : ℕ) → AreApart from runs → filter (λ run. nat_lt 0 run.len) (map (run_of_entry heads) (map (entry_of heads) runs)) ≡ runs
-runs_back heads [] from apart = refl
-runs_back heads (run ∷ runs) from apart =
-    (λ i. cond (some i) (record { first = run.first; len = whole i } ∷ filter (λ r. nat_lt 0 r.len) (map (run_of_entry heads) (map (entry_of heads) runs)))
-    (filter (λ r. nat_lt 0 r.len) (map (run_of_entry heads) (map (entry_of heads) runs))))
-    ∙ ap (λ (rest : List Run). run ∷ rest) (runs_back heads runs (run.first + run.len + 1) apart.2)
-  where
-    whole : run.len / heads * heads + run.len % heads ≡ run.len
-    whole = div-add-mod' run.len heads
-
-    is_some : (n : ℕ) → 1 ≤ n → nat_lt 0 n ≡ true
-    is_some n p = grind (arith, nat_tests)
-
-    some : nat_lt 0 (run.len / heads * heads + run.len % heads) ≡ true
-    some = ap (nat_lt 0) whole ∙ is_some run.len apart.1
-
-pub runs_stated : (heads : ℕ) (runs : List Run) (old new : List ℕ) → length old ≡ 140 → format_of old ≡ F5 → AreApart 0 runs → length runs ≤ 26 → All IsEntry5 (map (entry_of heads) runs)
-    → AreEntriesPut (map (entry_of heads) runs) old new → StatesRuns heads runs old new
-runs_stated heads runs old new long is apart few fit h = record {
-  format = (λ i. format_by (code i) (fills 4 0x03 new) (fills 44 0x04 new) (front i) (fills 140 0 new));
-  pointer = (λ i. cond (((256 * kept_135 0 i + kept_135 1 i) == 0) && ((256 * kept_135 2 i + kept_135 3 i) == 0) && (kept_135 4 i == 0)) None
-      (Some (record { at = record { cylinder = 256 * kept_135 0 i + kept_135 1 i; head = 256 * kept_135 2 i + kept_135 3 i }; r = kept_135 4 i })));
-  entries = entries_told heads (map (entry_of heads) runs) old new h fit (omega (arith, few, length-map runs (entry_of heads))) ∙ runs_back heads runs 0 apart;
-}
-  where
-    named : IsFormat5 old
-    named = format_5 old is
-
-    code : get_or new 44 0 ≡ 0xF5
-    code = h.kept 44 (inr (inl refl)) ∙ named.code
-
-    four : take 4 new ≡ take 4 old
-    four = ext_get_or 0 (take 4 new) (take 4 old) (length-take-le 4 new (omega (arith, long, h.long)) ∙ sym (length-take-le 4 old (omega (arith, long))))
-        (λ k less. same k (omega (arith, less, length-take-le 4 new (omega (arith, long, h.long)))))
-      where
-        same : (k : ℕ) → k < 4 → get_or (take 4 new) k 0 ≡ get_or (take 4 old) k 0
-        same k less = get_or-take 4 new k 0 less ∙ h.kept k (inl less) ∙ sym (get_or-take 4 old k 0 less)
-
-    front : fills 4 0x05 new ≡ true
-    front = ap (list_all (λ byte. byte == 0x05)) four ∙ named.front
-
-    kept_135 : (k : ℕ) → get_or new (135 + k) 0 ≡ get_or old (135 + k) 0
-    kept_135 k = h.kept (135 + k) (inr (inr (omega arith)))

@@ -1,11 +1,3 @@
-pub mod Plain
-pub mod PlainTrack
-pub mod Sets
 pub mod Loaded
-pub mod Slot
 pub mod Edit
-pub mod Shrink
-pub mod Release
-pub mod Rewritten
 pub mod Named
-pub mod Whole

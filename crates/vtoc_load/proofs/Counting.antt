@@ -14,8 +14,7 @@ use Rattle.volume_model.specs.Directory.{DirectoryRow, same_place, row_of, rows_
 use Rattle.volume_model.specs.Check.{breach, records_of, fives_of, breaches_of}
 use Rattle.vtoc_check.specs.Places.{AreShort}
 use Rattle.vtoc_core.specs.declared.volume.Row.{Row}
-use Rattle.vtoc_core.specs.Loaded.{row_in, records_for}
-use Rattle.vtoc_core.specs.Shrink.{is_free_dscb}
+use Rattle.vtoc_core.specs.Loaded.{row_in, records_for, is_free_dscb}
 use Rattle.vtoc_layout.proofs.Distinct.{in_none, in_filter, at_first, in_later}
 use Rattle.vtoc_load.specs.LoadedVtoc.{free_records_of}
 use Rattle.vtoc_load.specs.Counted.{fours_of}

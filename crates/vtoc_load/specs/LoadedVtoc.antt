@@ -18,8 +18,7 @@ use Rattle.volume_model.specs.Sound.{Slots}
 use Rattle.vtoc_check.specs.Places.{blank}
 use Rattle.vtoc_check.specs.Sized.{IsSized, IsVtocWith}
 use Rattle.vtoc_core.specs.declared.volume.Volume.{Volume}
-use Rattle.vtoc_core.specs.Loaded.{row_in, HasItsName}
-use Rattle.vtoc_core.specs.Shrink.{is_free_dscb}
+use Rattle.vtoc_core.specs.Loaded.{row_in, HasItsName, is_free_dscb}
 
 -- a record that is no DSCB of a data set, of free space or of the VTOC itself
 abbrev pub is_free_record : Placed → Bool

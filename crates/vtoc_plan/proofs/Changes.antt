@@ -9,7 +9,7 @@ use Rattle.volume_model.specs.declared.place.Place.{Place}
 use Rattle.volume_model.specs.declared.place.Placed.{Placed}
 use Rattle.volume_model.specs.declared.place.Vtoc.{Vtoc}
 use Rattle.volume_model.specs.Check.{records_of}
-use Rattle.vtoc_core.specs.Shrink.{is_free_dscb}
+use Rattle.vtoc_core.specs.Loaded.{is_free_dscb}
 use Rattle.vtoc_check.specs.Sized.{IsSized}
 use Rattle.vtoc_layout.specs.Layout.{AreDistinct, SetRecords, Layout, IsLayoutOf, records_in_set, name_of}
 use Rattle.vtoc_layout.proofs.Apart.{all_from}

@@ -7,7 +7,7 @@ use Rattle.volume_model.specs.declared.place.Place.{Place}
 use Rattle.volume_model.specs.declared.place.Placed.{Placed}
 use Rattle.volume_model.specs.declared.place.Vtoc.{Vtoc}
 use Rattle.volume_model.specs.Check.{records_of}
-use Rattle.vtoc_core.specs.Shrink.{is_free_dscb}
+use Rattle.vtoc_core.specs.Loaded.{is_free_dscb}
 use Rattle.vtoc_check.specs.Places.{number_of, IsAscending}
 use Rattle.vtoc_check.specs.Sized.{IsSized}
 use Rattle.vtoc_check.proofs.Order.{ascending, above}

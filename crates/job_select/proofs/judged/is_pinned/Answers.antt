@@ -1,7 +1,7 @@
 use Rattle.std.proofs.Common.{inl, inr, refl, sym, ap, subst, ◌∙◌, arith, length}
 use Rattle.std.proofs.lemmas.Bool.{false≢true}
 use Rattle.volume_model.specs.Pinned.{IsMovable, IsManaged, GoesOn}
-use Rattle.vtoc_core.proofs.Pinning.{no_name, has_name}
+use Rattle.job_select.proofs.HasNames.{no_name, has_name}
 use Rattle.step_plans.specs.Plans.{extents_from}
 use Rattle.job_select.proofs.Wholes.{other_extent, only_volume}
 use Rattle.job_select.proofs.judged.is_pinned.Goals as goal

@@ -1,11 +1,10 @@
-use Rattle.std.proofs.Common.{ap, sym, ◌∙◌}
+use Rattle.std.proofs.Common.{ℕ, ap, sym, ◌∙◌}
 use Rattle.ckd_image.specs.Device.{heads_of}
 use Rattle.volume_model.specs.Pinned.{used_tracks, whole_tracks}
-use Rattle.step_plans.specs.Plans.{extents_from}
+use Rattle.plan_core.specs.Release.{kept_of}
 use Rattle.job_select.proofs.tracks.kept_tracks.Goals as goal
 
 pub returns : goal.returns
 returns c set is =
-    let used = c.used_tracks.ensures.value ∙ ap used_tracks (sym is.fields_are) in
-    let extents = ap (extents_from c.args.device) c.as_slice.ensures ∙ sym is.extents_are in
-    c.whole_tracks.ensures ∙ (λ i. whole_tracks (heads_of c.args.device) (used i) (extents i))
+    c.release_of.ensures ∙ ap (λ (heads : ℕ). kept_of heads c.args.row.now) c.heads.ensures
+    ∙ (λ i. whole_tracks (heads_of c.args.device) (used_tracks (sym is.fields_are i)) (sym is.extents_are i))
