@@ -1,7 +1,6 @@
 -- What stands within DO and at the top: statements one behind the other.
 use Rattle.std.proofs.Common.{◌≡◌, ◌⊎◌, inl, inr, ℕ, suc, ◌≤◌, List, [], ◌∷◌, ◌++◌, refl, sym, ap, subst, ◌∙◌, Bool, true, append_assoc}
 use Rattle.sysin_text.specs.declared.token.Token.{Token}
-use Rattle.sysin_text.specs.declared.token.Token.TheVariants as tokens
 use Rattle.sysin_text.specs.declared.token.Placed.{Placed}
 use Rattle.sysin_words.specs.declared.code.Which.{Which}
 use Rattle.by_rules.specs.declared.criterion.Op.{Op}
@@ -11,9 +10,9 @@ use Rattle.sysin_lang.specs.Flow.{Plan, Done}
 use Rattle.sysin_heads.specs.Head.{IsSet, IsIf}
 use Rattle.sysin_read.specs.declared.outline.Frame.{Frame}
 use Rattle.sysin_read.specs.declared.outline.Frame.TheVariants as frames
-use Rattle.sysin_read.specs.Statement.{most_nested, most_commands, StartsLine, IsLine, IsLead, IsElse, IsEnd, IsStatement, IsBlock, IsText, command, set, if_alone, if_else, do_end, none, more}
+use Rattle.sysin_read.specs.Statement.{most_commands, StartsLine, IsLine, IsLead, IsEnd, IsStatement, IsBlock, command, set, if_alone, if_else, do_end, none, more}
 use Rattle.sysin_read.specs.Rest.{Rest, StatementRest, BlockRest, IsStatementAnd, IsBlockAnd}
-use Rattle.sysin_read.proofs.Opening.{rest_some, opens, no_set, no_if, OpensCommand, OpensSet, OpensIf, OpensDo}
+use Rattle.sysin_read.proofs.Opening.{rest_some, opens, no_set, no_if}
 
 -- ---- first tokens
 

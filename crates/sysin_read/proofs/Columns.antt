@@ -7,7 +7,7 @@ use Rattle.sysin_text.specs.declared.token.Placed.{Placed}
 use Rattle.sysin_text.specs.Lines.{lines_of}
 use Rattle.sysin_text.specs.Cleaning.{columns, inside, bytes_read, cleaned, is_mark, before_mark, read_of, goes_on}
 use Rattle.sysin_text.specs.Signs.{token_of, width_of}
-use Rattle.sysin_text.specs.Tokens.{tokens_in, onto_line, before_lines, joined, started, tokens_of}
+use Rattle.sysin_text.specs.Tokens.{tokens_in, before_lines, joined, started, tokens_of}
 
 abbrev pub IsRead : Placed → Type 0
 IsRead placed = placed.column ≤ 72

@@ -1,6 +1,6 @@
 -- What is read goes on to a text.
-use Rattle.std.proofs.Common.{◌≡◌, ◌⊎◌, inl, inr, ℕ, zero, suc, ◌+◌, ◌<◌, ◌≤◌, List, [], ◌∷◌, ◌++◌, length, refl, sym, ap, subst, ◌∙◌, Bool, true, false, Some, append_assoc, append-nil, arith}
-use Rattle.std.specs.Prelude.{codes, map, All}
+use Rattle.std.proofs.Common.{◌≡◌, inl, inr, ℕ, zero, suc, ◌+◌, ◌<◌, ◌≤◌, List, [], ◌∷◌, ◌++◌, refl, sym, ap, subst, ◌∙◌, Bool, true, false, append_assoc, arith}
+use Rattle.std.specs.Prelude.{codes}
 use Rattle.std.proofs.lemmas.List.{map-append}
 use Rattle.std.proofs.lemmas.List.Elements.{All-nil, All-cons, All-append, All-head, All-tail}
 use Rattle.sysin_text.specs.declared.token.Token.{Token}
@@ -8,20 +8,15 @@ use Rattle.sysin_text.specs.declared.token.Token.TheVariants as tokens
 use Rattle.sysin_text.specs.declared.token.Placed.{Placed}
 use Rattle.sysin_words.specs.declared.code.Which.TheVariants as whiches
 use Rattle.sysin_words.specs.declared.lead.Lead.TheVariants as leads
-use Rattle.sysin_lang.specs.declared.command.Command.{Command}
 use Rattle.sysin_lang.specs.declared.script.Step.{Step}
 use Rattle.sysin_lang.specs.declared.script.Step.TheVariants as steps
 use Rattle.sysin_lang.specs.Flow.{Plan, Done}
 use Rattle.sysin_lang.specs.Script.{first_plan, plans_at}
-use Rattle.sysin_values.specs.Begun.{CanGoOn as GoesTo, Begin as Begins, EndWithComma as EndsInComma}
-use Rattle.sysin_heads.specs.declared.head.Head.{Head}
+use Rattle.sysin_values.specs.Begun.{CanGoOn as GoesTo, Begin as Begins}
 use Rattle.sysin_heads.specs.declared.head.Head.TheVariants as heads
-use Rattle.sysin_heads.specs.declared.head.HeadPlace.{HeadPlace}
 use Rattle.sysin_heads.specs.Head.{IsHead}
-use Rattle.sysin_heads.specs.Reading as head_reading
 use Rattle.sysin_heads.proofs.Exactness as head_laws
 use Rattle.sysin_commands.specs.declared.command.CommandReading.{CommandReading}
-use Rattle.sysin_commands.specs.CommandProgress.{CommandReads}
 use Rattle.sysin_commands.specs.Command.{IsCommand}
 use Rattle.sysin_commands.proofs.Commands as command_laws
 use Rattle.sysin_read.specs.declared.outline.Frame.{Frame}
@@ -30,13 +25,13 @@ use Rattle.sysin_read.specs.declared.outline.Outline.{Outline}
 use Rattle.sysin_read.specs.declared.text.TextPlace.{TextPlace}
 use Rattle.sysin_read.specs.declared.text.TextPlace.TheVariants as places
 use Rattle.sysin_read.specs.declared.text.TextReading.{TextReading}
-use Rattle.sysin_read.specs.Statement.{most_nested, most_commands, tokens_of, StartNone, IsLead, IsElse, IsEnd, IsText, none}
+use Rattle.sysin_read.specs.Statement.{most_nested, most_commands, tokens_of, StartNone, IsLead, IsEnd, IsText, none}
 use Rattle.sysin_read.specs.Rest.{plans_before, Rest, StatementRest, BlockRest}
 use Rattle.sysin_read.specs.Reading.{open_in, IsWithin, GoesOn, IsBegun, HasRoom, ReadsAt, TextReads}
-use Rattle.sysin_read.specs.Refusal.{CanGoOn, EndWithComma, Begin}
-use Rattle.sysin_read.proofs.Opening.{rest_some, OpensCommand, OpensSet, OpensIf, whole_command, whole_set, whole_if}
+use Rattle.sysin_read.specs.Refusal.{CanGoOn, Begin}
+use Rattle.sysin_read.proofs.Opening.{rest_some, whole_command, whole_set, whole_if}
 use Rattle.sysin_read.proofs.Blocks.{end_block, end_rest, end_of_top, if_leads}
-use Rattle.sysin_read.proofs.Lines.{loosen_command, loosen_head}
+use Rattle.sysin_read.proofs.Lines.{loosen_head}
 use Rattle.sysin_read.proofs.Moving.{May, MayRest, MayState, MayBlock}
 
 -- ---- something may stand everywhere

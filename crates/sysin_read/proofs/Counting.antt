@@ -1,5 +1,5 @@
 -- Commands are counted upwards.
-use Rattle.std.proofs.Common.{◌≡◌, inl, inr, ℕ, suc, ◌+◌, ◌≤◌, List, [], ◌∷◌, Bool, true, false, arith}
+use Rattle.std.proofs.Common.{inl, inr, ℕ, suc, ◌≤◌, List, [], ◌∷◌, Bool, true, false, arith}
 use Rattle.sysin_text.specs.declared.token.Placed.{Placed}
 use Rattle.sysin_lang.specs.Flow.{Plan}
 use Rattle.sysin_read.specs.declared.outline.Frame.{Frame}

@@ -1,19 +1,18 @@
 -- What stands behind a statement: its IFs end, an ELSE or END is of one that is open, or another statement begins.
-use Rattle.std.proofs.Common.{◌≡◌, ◌⊎◌, inl, inr, ℕ, suc, ◌+◌, ◌≤◌, List, [], ◌∷◌, ◌++◌, length, refl, sym, ap, subst, ◌∙◌, Bool, true, false, arith}
+use Rattle.std.proofs.Common.{◌≡◌, inl, inr, ℕ, suc, ◌+◌, ◌≤◌, List, [], ◌∷◌, ◌++◌, length, refl, sym, ap, subst, ◌∙◌, Bool, true, false, arith}
 use Rattle.sysin_text.specs.declared.token.Placed.{Placed}
-use Rattle.sysin_lang.specs.declared.script.Step.{Step}
 use Rattle.sysin_lang.specs.declared.script.Step.TheVariants as steps
 use Rattle.sysin_lang.specs.Flow.{Plan, Done}
 use Rattle.sysin_lang.specs.Script.{plans_at}
 use Rattle.sysin_read.specs.declared.outline.Frame.{Frame}
 use Rattle.sysin_read.specs.declared.outline.Frame.TheVariants as frames
 use Rattle.sysin_read.specs.Statement.{most_commands, StartsLine, IsElse, IsEnd, IsBlock}
-use Rattle.sysin_read.specs.Rest.{plans_before, Rest, StatementRest, BlockRest, IsStatementAnd, IsBlockAnd}
+use Rattle.sysin_read.specs.Rest.{plans_before, Rest, StatementRest, IsBlockAnd}
 use Rattle.sysin_read.specs.Why.{around, wants_else}
 use Rattle.sysin_read.specs.Progress.{closing, closing_to_else, behind_then}
 use Rattle.sysin_read.proofs.Opening.{rest_some}
 use Rattle.sysin_read.proofs.Words.{else_leads_none, end_leads_none, else_is_not_end}
-use Rattle.sysin_read.proofs.Blocks.{IsLed, statement_leads, block_cases, end_rest, rest_of, top_cases, top_of, rest_of_top, end_of_top}
+use Rattle.sysin_read.proofs.Blocks.{IsLed, statement_leads, block_cases, rest_of, top_cases, rest_of_top}
 
 -- no ELSE stands in front
 abbrev pub NoElse : List Placed → Type 0

@@ -1,5 +1,5 @@
 -- What is given at the end of a text is spelled, and what is spelled is given.
-use Rattle.std.proofs.Common.{◌≡◌, ◌⊎◌, inl, inr, ℕ, zero, suc, ◌+◌, ◌<◌, ◌≤◌, List, [], ◌∷◌, ◌++◌, length, refl, sym, ap, subst, ◌∙◌, Bool, true, false, Some, append_assoc, append-nil, arith}
+use Rattle.std.proofs.Common.{◌≡◌, ◌⊎◌, inl, inr, ℕ, ◌+◌, ◌≤◌, List, [], ◌∷◌, ◌++◌, length, refl, sym, ap, subst, ◌∙◌, true, append-nil, arith}
 use Rattle.std.specs.Prelude.{reverse, IfOk, IfErr, Result}
 use Rattle.std.proofs.lemmas.Result.{IfOk-weaker}
 use Rattle.sysin_text.specs.declared.token.Placed.{Placed}
@@ -20,7 +20,6 @@ use Rattle.sysin_commands.specs.CommandProgress.{CommandReads, CommandGives}
 use Rattle.sysin_commands.specs.Command.{IsCommand}
 use Rattle.sysin_commands.proofs.Commands as command_laws
 use Rattle.sysin_read.specs.declared.fault.Stop.{Stop}
-use Rattle.sysin_read.specs.declared.fault.Why.{Why}
 use Rattle.sysin_read.specs.declared.fault.Why.TheVariants as whys
 use Rattle.sysin_read.specs.declared.outline.Frame.{Frame}
 use Rattle.sysin_read.specs.declared.outline.Frame.TheVariants as frames
@@ -35,11 +34,11 @@ use Rattle.sysin_read.specs.Why.{around, WithinStops, StopsAt, TextStops}
 use Rattle.sysin_read.specs.Progress.{closing, IsWithCommand, EndsWith, GivesAt, TextGives}
 use Rattle.sysin_read.proofs.Blocks.{statement_leads, end_of_top}
 use Rattle.sysin_read.proofs.Ending.{room_around, closes, reopens, no_else_at_end, end_around, no_more}
-use Rattle.sysin_read.proofs.Lines.{Enders, loosen_head}
-use Rattle.sysin_read.proofs.Moving.{MayRest, MayState, before_more, behind_command}
+use Rattle.sysin_read.proofs.Lines.{Enders}
+use Rattle.sysin_read.proofs.Moving.{MayRest, before_more, behind_command}
 use Rattle.sysin_read.proofs.Going.{of_outline, within_command}
 use Rattle.sysin_read.proofs.Taking.{IsStop, told_otherwise}
-use Rattle.sysin_read.proofs.Refusing.{head_longer, head_leads, head_text, Found, found, gives}
+use Rattle.sysin_read.proofs.Refusing.{head_longer, head_leads, head_text, found, gives}
 
 -- ---- the plans of steps
 

@@ -3,7 +3,6 @@ use Rattle.std.proofs.Common.{◌≡◌, ◌⊎◌, inl, inr, ℕ, zero, suc, �
 use Rattle.std.proofs.lemmas.List.{map-append}
 use Rattle.std.proofs.lemmas.List.Elements.{All-nil, All-push}
 use Rattle.sysin_text.specs.declared.token.Token.{Token}
-use Rattle.sysin_text.specs.declared.token.Token.TheVariants as tokens
 use Rattle.sysin_text.specs.declared.token.Placed.{Placed}
 use Rattle.sysin_text.proofs.Bools.{bool_cases}
 use Rattle.sysin_words.specs.declared.lead.Verb.{Verb}
@@ -16,13 +15,10 @@ use Rattle.sysin_heads.specs.declared.head.Head.{Head}
 use Rattle.sysin_heads.specs.declared.head.Head.TheVariants as heads
 use Rattle.sysin_heads.specs.declared.head.HeadPlace.{HeadPlace}
 use Rattle.sysin_heads.specs.declared.head.HeadPlace.TheVariants as head_places
-use Rattle.sysin_heads.specs.Head.{IsHead}
 use Rattle.sysin_heads.specs.Reading as head_reading
 use Rattle.sysin_heads.proofs.Exactness as head_laws
 use Rattle.sysin_commands.specs.declared.command.CommandReading.{CommandReading}
 use Rattle.sysin_commands.specs.CommandProgress.{CommandGives, CommandReads}
-use Rattle.sysin_commands.specs.CommandLaws.{start_behind}
-use Rattle.sysin_commands.specs.Command.{IsCommand}
 use Rattle.sysin_commands.proofs.Commands as command_laws
 use Rattle.sysin_read.specs.declared.outline.Frame.{Frame}
 use Rattle.sysin_read.specs.declared.outline.Frame.TheVariants as frames
@@ -30,10 +26,10 @@ use Rattle.sysin_read.specs.declared.outline.Outline.{Outline}
 use Rattle.sysin_read.specs.declared.text.TextPlace.{TextPlace}
 use Rattle.sysin_read.specs.declared.text.TextPlace.TheVariants as places
 use Rattle.sysin_read.specs.declared.text.TextReading.{TextReading}
-use Rattle.sysin_read.specs.Statement.{most_nested, most_commands, tokens_of, StartNone, IsLead, IsElse, IsEnd}
-use Rattle.sysin_read.specs.Reading.{open_in, IsWithin, GoesOn, LeavesRest, LeavesStatement, LeavesBlock, BeginsStatement, IsBegun, HasRoom, ReadsAt, TextReads}
-use Rattle.sysin_read.specs.Why.{around, EndsCommand}
-use Rattle.sysin_read.specs.Progress.{closing, IsOutline, StartGoes, ElseGoes, EndGoes, NextGoes, EndedGoes, HeadLeads, IsWithCommand, WithinGoes, GoesAt, TextGoes}
+use Rattle.sysin_read.specs.Statement.{most_nested, most_commands, tokens_of, IsLead, IsEnd}
+use Rattle.sysin_read.specs.Reading.{open_in, IsWithin, GoesOn, LeavesBlock, BeginsStatement, IsBegun, HasRoom, ReadsAt, TextReads}
+use Rattle.sysin_read.specs.Why.{around}
+use Rattle.sysin_read.specs.Progress.{closing, IsOutline, StartGoes, EndGoes, EndedGoes, HeadLeads, IsWithCommand, WithinGoes, GoesAt, TextGoes}
 use Rattle.sysin_read.proofs.Words.{else_leads_none, end_leads_none, else_is_not_end, one_lead}
 use Rattle.sysin_read.proofs.Blocks.{if_leads}
 use Rattle.sysin_read.proofs.Ending.{room_around, room_stays, room_of_else, room_with_else}

@@ -15,3 +15,7 @@ pub mod Finishing
 pub mod Columns
 pub mod Places
 pub mod OneText
+pub mod OneStep
+pub mod OneFault
+pub mod OneWhy
+pub mod OnePlace

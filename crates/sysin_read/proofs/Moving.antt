@@ -1,5 +1,5 @@
 -- What a text goes on with, one leaf further: behind a whole command or SET, behind THEN, DO, ELSE and END, and where a statement begins.
-use Rattle.std.proofs.Common.{◌≡◌, ◌⊎◌, inl, inr, ℕ, suc, ◌+◌, ◌≤◌, List, [], ◌∷◌, ◌++◌, length, refl, sym, ap, subst, ◌∙◌, Bool, true, false, Some, append_assoc, arith}
+use Rattle.std.proofs.Common.{◌≡◌, ◌⊎◌, inl, inr, ℕ, suc, ◌+◌, List, [], ◌∷◌, ◌++◌, refl, sym, ap, subst, ◌∙◌, Bool, true, false, append_assoc, arith}
 use Rattle.by_rules.specs.declared.criterion.Op.{Op}
 use Rattle.sysin_text.specs.declared.token.Placed.{Placed}
 use Rattle.sysin_words.specs.declared.code.Which.{Which}
@@ -11,11 +11,9 @@ use Rattle.sysin_lang.specs.declared.script.Step.{Step}
 use Rattle.sysin_lang.specs.declared.script.Step.TheVariants as steps
 use Rattle.sysin_lang.specs.Flow.{Plan, Done}
 use Rattle.sysin_lang.specs.Script.{first_plan, plans_at}
-use Rattle.sysin_heads.specs.declared.head.Head.{Head}
 use Rattle.sysin_heads.specs.declared.head.Head.TheVariants as heads
-use Rattle.sysin_heads.specs.Head.{IsHead, IsSet, IsIf}
+use Rattle.sysin_heads.specs.Head.{IsSet, IsIf}
 use Rattle.sysin_commands.specs.Command.{IsCommand}
-use Rattle.sysin_commands.specs.CommandLaws.{CommandsAreOne}
 use Rattle.sysin_commands.proofs.Making.{one}
 use Rattle.sysin_read.specs.declared.outline.Frame.{Frame}
 use Rattle.sysin_read.specs.declared.outline.Frame.TheVariants as frames
@@ -25,10 +23,10 @@ use Rattle.sysin_read.specs.Reading.{GoesOn}
 use Rattle.sysin_read.specs.Why.{around, wants_else}
 use Rattle.sysin_read.specs.Progress.{closing, closing_to_else, behind_then}
 use Rattle.sysin_read.proofs.Opening.{Opens, OpensCommand, OpensSet, OpensIf, OpensDo, opens, whole_command, whole_set, whole_if, whole_do}
-use Rattle.sysin_read.proofs.Words.{else_leads_none, end_leads_none, one_lead}
-use Rattle.sysin_read.proofs.Blocks.{set_leads, if_leads, end_block, end_rest, block_of, top_cases, top_of, end_of_top}
-use Rattle.sysin_read.proofs.Ending.{NoElse, no_else_here, no_else_at_end, room_around, closes, reopens, room_of_else, other, with_other, ends_do, ends_block, starts_block, starts_here, may_start, end_around}
-use Rattle.sysin_read.proofs.Lines.{Enders, rest_enders, one_ender, IsEnder, same_line, same_head, loosen_command, loosen_head}
+use Rattle.sysin_read.proofs.Words.{one_lead}
+use Rattle.sysin_read.proofs.Blocks.{set_leads, if_leads, end_block, end_rest, block_of, top_cases, top_of}
+use Rattle.sysin_read.proofs.Ending.{no_else_here, room_around, closes, reopens, room_of_else, other, with_other, ends_do, ends_block, starts_block, starts_here, may_start}
+use Rattle.sysin_read.proofs.Lines.{Enders, rest_enders, same_line, same_head, loosen_command}
 
 pub before_more : (list more : List Step) (plans : List Plan) → plans_before (list ++ more) plans ≡ plans_before list (plans_before more plans)
 before_more [] more plans = refl

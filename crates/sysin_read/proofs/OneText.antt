@@ -1,21 +1,20 @@
 -- Tokens spell one text at most.
-use Rattle.std.proofs.Common.{◌≡◌, ◌⊎◌, inl, inr, ℕ, zero, suc, ◌+◌, ◌≤◌, List, [], ◌∷◌, ◌++◌, length, refl, sym, ap, subst, ◌∙◌, Bool, true, false, arith, length-append}
+use Rattle.std.proofs.Common.{◌≡◌, ◌⊎◌, inl, inr, ℕ, zero, suc, ◌+◌, ◌≤◌, List, [], ◌∷◌, ◌++◌, length, refl, sym, ap, subst, ◌∙◌, true, arith, length-append}
 use Rattle.by_rules.specs.declared.criterion.Op.{Op}
 use Rattle.sysin_text.specs.declared.token.Placed.{Placed}
 use Rattle.sysin_words.specs.declared.code.Which.{Which}
 use Rattle.sysin_words.specs.declared.lead.Verb.{Verb}
-use Rattle.sysin_words.specs.declared.lead.Lead.TheVariants as leads
 use Rattle.sysin_lang.specs.declared.command.Command.{Command}
 use Rattle.sysin_lang.specs.declared.script.Step.TheVariants as steps
 use Rattle.sysin_lang.specs.Flow.{Plan, Done}
-use Rattle.sysin_lang.specs.Script.{first_plan, plans_at}
+use Rattle.sysin_lang.specs.Script.{plans_at}
 use Rattle.sysin_heads.specs.declared.head.Head.TheVariants as heads
 use Rattle.sysin_heads.specs.Head.{IsSet, IsIf}
 use Rattle.sysin_commands.specs.Command.{IsCommand}
 use Rattle.sysin_commands.proofs.Making.{one}
 use Rattle.sysin_read.specs.declared.outline.Frame.{Frame}
 use Rattle.sysin_read.specs.declared.outline.Frame.TheVariants as frames
-use Rattle.sysin_read.specs.Statement.{most_nested, tokens_of, IsLead, IsElse, IsEnd, IsText}
+use Rattle.sysin_read.specs.Statement.{most_nested, tokens_of, IsElse, IsEnd}
 use Rattle.sysin_read.specs.Rest.{plans_before, Rest, StatementRest, BlockRest}
 use Rattle.sysin_read.specs.Why.{around}
 use Rattle.sysin_read.specs.Progress.{closing, closing_to_else}

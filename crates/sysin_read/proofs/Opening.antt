@@ -1,5 +1,5 @@
 -- How a statement opens: a whole command or SET, an IF up to its THEN, or DO.
-use Rattle.std.proofs.Common.{◌≡◌, ◌⊎◌, inl, inr, ℕ, suc, ◌+◌, List, [], ◌∷◌, ◌++◌, refl, sym, ap, subst, ◌∙◌, Bool, true, false, Some, append_assoc}
+use Rattle.std.proofs.Common.{◌≡◌, ◌⊎◌, inl, inr, ℕ, suc, ◌+◌, List, [], ◌∷◌, ◌++◌, refl, sym, ap, subst, ◌∙◌, Bool, true, false, append_assoc}
 use Rattle.by_rules.specs.declared.criterion.Op.{Op}
 use Rattle.sysin_text.specs.declared.token.Token.{Token}
 use Rattle.sysin_text.specs.declared.token.Token.TheVariants as tokens
@@ -15,8 +15,8 @@ use Rattle.sysin_heads.specs.Head.{IsSet, IsIf}
 use Rattle.sysin_commands.specs.Command.{IsCommand}
 use Rattle.sysin_read.specs.declared.outline.Frame.{Frame}
 use Rattle.sysin_read.specs.declared.outline.Frame.TheVariants as frames
-use Rattle.sysin_read.specs.Statement.{tokens_of, StartNone, IsLine, IsLead, IsElse, IsEnd, IsCommandLine, IsStatement, IsBlock, command, set, if_alone, if_else, do_end}
-use Rattle.sysin_read.specs.Rest.{Rest, StatementRest, BlockRest, IsStatementAnd, IsBlockAnd}
+use Rattle.sysin_read.specs.Statement.{tokens_of, StartNone, IsLine, IsLead, IsStatement, command, set, if_alone, if_else, do_end}
+use Rattle.sysin_read.specs.Rest.{Rest, StatementRest, BlockRest, IsStatementAnd}
 
 -- ---- plans
 

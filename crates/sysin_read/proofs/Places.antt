@@ -1,5 +1,5 @@
 -- The place of a refusal.
-use Rattle.std.proofs.Common.{◌≡◌, ◌⊎◌, inl, inr, ℕ, ◌+◌, List, [], ◌∷◌, ◌++◌, refl, sym, ap, subst, ◌∙◌, true, append_assoc, append-nil}
+use Rattle.std.proofs.Common.{◌≡◌, ◌⊎◌, inl, inr, ℕ, ◌+◌, List, [], ◌∷◌, ◌++◌, refl, sym, subst, ◌∙◌, true, append_assoc}
 use Rattle.sysin_text.specs.declared.token.Placed.{Placed}
 use Rattle.sysin_text.specs.Signs.{width_of}
 use Rattle.sysin_lang.specs.declared.script.Step.{Step}
@@ -16,7 +16,8 @@ use Rattle.sysin_read.specs.Statement.{IsText}
 use Rattle.sysin_read.specs.Reading.{TextReads}
 use Rattle.sysin_read.specs.Why.{TextStops}
 use Rattle.sysin_read.specs.Progress.{TextGoes, TextGives}
-use Rattle.sysin_read.specs.Refusal.{IsWrongAt, end_of, EndsEarly, IsRefusal}
+use Rattle.sysin_read.specs.Told.{nothing_read, Leads}
+use Rattle.sysin_read.specs.Refusal.{IsWrongAt, end_of, IsRefusal}
 use Rattle.sysin_read.proofs.Going.{goes}
 use Rattle.sysin_read.proofs.Completing.{right}
 use Rattle.sysin_read.proofs.Refusing.{wrong}
@@ -38,8 +39,8 @@ no_memory : (stop : Stop) (a : Why) → stop ≡ stops.Wrong a → stop ≡ stop
 no_memory stop a e f = cc
 
 refused_at : (list front : List Placed) (placed : Placed) (rest : List Placed) (reading : TextReading) (why : Why) → list ≡ front ++ placed ∷ rest → TextReads reading front
-    → TextStops reading placed why → IsWrongAt list placed.line placed.column why
-refused_at list front placed rest reading why e r stops = record {
+    → Leads nothing_read front reading → TextStops reading placed why → IsWrongAt list placed.line placed.column why
+refused_at list front placed rest reading why e r run stops = record {
   front = front;
   token = placed;
   behind = rest;
@@ -48,17 +49,17 @@ refused_at list front placed rest reading why e r stops = record {
   column_is = refl;
   right = right reading front r;
   wrong = wrong reading front placed why r stops;
-  told = (reading, r, stops);
+  told = (reading, run, stops);
 }
 
 -- a token is refused
 pub refusal_at : (list front : List Placed) (placed : Placed) (rest : List Placed) (reading : TextReading) (stop : Stop) (fault : SysinFault) → list ≡ front ++ placed ∷ rest
-    → TextReads reading front → (stop ≡ stops.NoMemory) ⊎ ((why : Why) × (stop ≡ stops.Wrong why) × TextStops reading placed why) → Tells stop placed.line placed.column fault → IsRefusal list fault
-refusal_at list front placed rest reading stop fault e r s (inl (m, is)) = subst (λ (f : SysinFault). IsRefusal list f) (sym is) tt
-refusal_at list front placed rest reading stop fault e r (inl m) (inr (why, w, is)) = absurd (no_memory stop why w m)
-refusal_at list front placed rest reading stop fault e r (inr (known, k, stops')) (inr (why, w, is)) =
+    → TextReads reading front → Leads nothing_read front reading → (stop ≡ stops.NoMemory) ⊎ ((why : Why) × (stop ≡ stops.Wrong why) × TextStops reading placed why) → Tells stop placed.line placed.column fault → IsRefusal list fault
+refusal_at list front placed rest reading stop fault e r run s (inl (m, is)) = subst (λ (f : SysinFault). IsRefusal list f) (sym is) tt
+refusal_at list front placed rest reading stop fault e r run (inl m) (inr (why, w, is)) = absurd (no_memory stop why w m)
+refusal_at list front placed rest reading stop fault e r run (inr (known, k, stops')) (inr (why, w, is)) =
     subst (λ (f : SysinFault). IsRefusal list f) (sym is)
-    (inl (refused_at list front placed rest reading why e r (subst (λ (y : Why). TextStops reading placed y) (same_why stop known why k w) stops')))
+    (inl (refused_at list front placed rest reading why e r run (subst (λ (y : Why). TextStops reading placed y) (same_why stop known why k w) stops')))
 
 -- the text ends too early
 pub refusal_at_end : (list front : List Placed) (reading : TextReading) (line column : ℕ) (stop : Stop) (fault : SysinFault) → list ≡ front → TextReads reading front → line ≡ (end_of front).0
@@ -85,6 +86,10 @@ read_text list front reading script e r (steps, g, is) =
     subst (λ (p : _). IsText true p list) (sym is) (subst (λ (l : List Placed). IsText true (plan_of steps) l) (sym e) (spelled reading front steps r g))
 
 -- one token further
+led : (first old new : TextReading) (front : List Placed) (placed : Placed) → Leads first front old → TextGoes old placed new → Leads first (front ++ placed ∷ []) new
+led first old new [] placed is g = (new, subst (λ (r : TextReading). TextGoes r placed new) is g, refl)
+led first old new (x ∷ front) placed (next, goes', run) g = (next, goes', led next old new front placed run g)
+
 pub further : (list front : List Placed) (placed : Placed) (rest : List Placed) (old new : TextReading) → list ≡ front ++ placed ∷ rest → TextReads old front → TextGoes old placed new
-    → (list ≡ (front ++ placed ∷ []) ++ rest) × TextReads new (front ++ placed ∷ [])
-further list front placed rest old new e r g = (e ∙ sym (append_assoc front (placed ∷ []) rest), goes old new front placed r g)
+    → Leads nothing_read front old → (list ≡ (front ++ placed ∷ []) ++ rest) × TextReads new (front ++ placed ∷ []) × Leads nothing_read (front ++ placed ∷ []) new
+further list front placed rest old new e r g run = (e ∙ sym (append_assoc front (placed ∷ []) rest), goes old new front placed r g, led nothing_read old new front placed run g)

@@ -1,13 +1,10 @@
 -- A token that is refused is wrong.
-use Rattle.std.proofs.Common.{◌≡◌, ◌⊎◌, inl, inr, ℕ, zero, suc, ◌+◌, ◌<◌, ◌≤◌, List, [], ◌∷◌, ◌++◌, length, refl, sym, ap, subst, ◌∙◌, Bool, true, false, Some, append_assoc, append-nil, arith}
+use Rattle.std.proofs.Common.{◌≡◌, ◌⊎◌, inl, inr, ℕ, ◌+◌, ◌≤◌, List, [], ◌∷◌, ◌++◌, length, refl, sym, ap, subst, ◌∙◌, Bool, true, false, append_assoc, append-nil, arith}
 use Rattle.sysin_text.specs.declared.token.Token.{Token}
 use Rattle.sysin_text.specs.declared.token.Token.TheVariants as tokens
 use Rattle.sysin_text.specs.declared.token.Placed.{Placed}
-use Rattle.sysin_text.proofs.Bools.{bool_cases}
 use Rattle.sysin_words.specs.declared.lead.Verb.{Verb}
-use Rattle.sysin_words.specs.declared.lead.Lead.{Lead}
 use Rattle.sysin_words.specs.declared.lead.Lead.TheVariants as leads
-use Rattle.sysin_words.specs.declared.keyword.Keyword.{Keyword}
 use Rattle.sysin_lang.specs.declared.command.Command.{Command}
 use Rattle.sysin_lang.specs.declared.script.Step.{Step}
 use Rattle.sysin_lang.specs.Flow.{Plan}
@@ -21,7 +18,6 @@ use Rattle.sysin_heads.specs.declared.head.HeadPlace.TheVariants as head_places
 use Rattle.sysin_heads.specs.Head.{IsHead}
 use Rattle.sysin_heads.specs.Reading as head_reading
 use Rattle.sysin_heads.proofs.Exactness as head_laws
-use Rattle.sysin_operands.specs.Operand.{IsKeyword}
 use Rattle.sysin_filters.proofs.Series.{overlap}
 use Rattle.sysin_commands.specs.declared.fault.CommandFault.{CommandFault}
 use Rattle.sysin_commands.specs.declared.fault.CommandFault.TheVariants as faults
@@ -40,19 +36,18 @@ use Rattle.sysin_read.specs.declared.outline.Outline.{Outline}
 use Rattle.sysin_read.specs.declared.text.TextPlace.{TextPlace}
 use Rattle.sysin_read.specs.declared.text.TextPlace.TheVariants as places
 use Rattle.sysin_read.specs.declared.text.TextReading.{TextReading}
-use Rattle.sysin_read.specs.Statement.{most_nested, most_commands, tokens_of, StartNone, IsLead, IsElse, IsEnd, IsText}
+use Rattle.sysin_read.specs.Statement.{most_nested, tokens_of, StartNone, IsLead, IsElse, IsEnd, IsText}
 use Rattle.sysin_read.specs.Rest.{Rest, StatementRest, BlockRest}
 use Rattle.sysin_read.specs.Reading.{open_in, IsWithin, GoesOn, IsBegun, ReadsAt, TextReads}
-use Rattle.sysin_read.specs.Why.{around, wants_else, IsTooDeep, IsTooMany, StartStops, EndedStops, EndsUnfinished, IsBetween, EndsCommand, IsUnfinished, BehindStops, WithinStops, IsToldAs, CommandIsToldAs, StopsAt, TextStops}
-use Rattle.sysin_read.specs.Progress.{IsWithCommand}
-use Rattle.sysin_read.specs.Refusal.{CanGoOn, EndWithComma, Begin}
-use Rattle.sysin_read.proofs.Words.{else_leads_none, end_leads_none, else_is_not_end, one_lead, else_is_no_keyword, end_is_no_keyword}
+use Rattle.sysin_read.specs.Why.{around, StartStops, EndedStops, IsBetween, EndsCommand, IsUnfinished, WithinStops, CommandIsToldAs, StopsAt, TextStops}
+use Rattle.sysin_read.specs.Refusal.{CanGoOn, Begin}
+use Rattle.sysin_read.proofs.Words.{else_is_not_end}
 use Rattle.sysin_read.proofs.Blocks.{set_leads, if_leads, statement_leads}
 use Rattle.sysin_read.proofs.Counting.{rest_count}
 use Rattle.sysin_read.proofs.Ending.{no_else_here, room_around, closes, other, ends_no_top, starts_block, starts_here, must_start}
 use Rattle.sysin_read.proofs.Lines.{IsEnder, Enders, rest_enders, rest_ender, IsNoOperand, ender_in_line, else_no_operand, end_no_operand, starts_none, no_command_behind, agree_back, split_tokens, heads_end, loosen_head}
 use Rattle.sysin_read.proofs.Moving.{May, MayRest, MayState, MayBlock, opens_command, opens_if, opens_do}
-use Rattle.sysin_read.proofs.Going.{RestsAt, around_room, command_rests, within_command, begins_fresh}
+use Rattle.sysin_read.proofs.Going.{begins_fresh}
 
 -- ---- tokens behind which a text goes on
 

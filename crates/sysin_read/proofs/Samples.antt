@@ -1,15 +1,14 @@
 -- Samples of the grammar, worked by hand.
-use Rattle.std.proofs.Common.{◌≡◌, ◌≤◌, inl, inr, ℕ, true, false, List, [], ◌∷◌, ◌++◌, refl, Bool, Some, None, All, arith}
+use Rattle.std.proofs.Common.{◌≡◌, ℕ, true, false, List, [], ◌∷◌, ◌++◌, refl, Bool, arith}
 use Rattle.std.specs.Prelude.{codes}
 use Rattle.std.proofs.lemmas.List.Elements.{All-from_recursion}
-use Rattle.vol_label.specs.declared.serial.Serial.{Serial}
 use Rattle.by_rules.specs.declared.criterion.Op.TheVariants as ops
 use Rattle.sysin_text.specs.declared.token.Token.{Token}
-use Rattle.sysin_text.specs.declared.token.Token.TheVariants.{Word, Open, Close, Comma, Equal, Less}
+use Rattle.sysin_text.specs.declared.token.Token.TheVariants.{Word, Equal, Less}
 use Rattle.sysin_text.specs.declared.token.Placed.{Placed}
 use Rattle.sysin_words.specs.declared.code.Which.TheVariants as whiches
-use Rattle.sysin_lang.specs.Flow.{Plan, Done, Run, Set, Choose}
-use Rattle.sysin_read.specs.Statement.{StartNone, tokens_of, IsStatement, IsBlock, IsText, set, if_alone, if_else, do_end, none, more}
+use Rattle.sysin_lang.specs.Flow.{Plan, Done, Set, Choose}
+use Rattle.sysin_read.specs.Statement.{StartNone, tokens_of, IsText, set, if_alone, do_end, none, more}
 use Rattle.sysin_read.specs.Refusal.{end_of}
 
 abbrev at : Token → ℕ → ℕ → Bool → Placed

@@ -1,10 +1,9 @@
 -- What the functions that read a token owe.
-use Rattle.std.proofs.Common.{◌≡◌, ◌⊎◌, inl, inr, ℕ, ◌+◌, ◌≤◌, List, [], ◌∷◌, ◌++◌, length, refl, sym, ap, subst, ◌∙◌, Bool, true, false, Some}
-use Rattle.std.specs.Prelude.{◌↔◌, IsTrue, IfOk, IfErr, IfNone, Result, Ok, Err, Option, None}
+use Rattle.std.proofs.Common.{◌≡◌, ◌⊎◌, inl, inr, ℕ, ◌+◌, List, ◌++◌, refl, sym, subst, ◌∙◌, Bool, true, false, Some}
+use Rattle.std.specs.Prelude.{◌↔◌, IsTrue, IfOk, IfErr, IfNone, Result, Option, None}
 use Rattle.std.proofs.lemmas.Result.{IfErr-weaker, IfOk-weaker}
 use Rattle.sysin_text.specs.declared.token.Token.{Token}
 use Rattle.sysin_text.specs.declared.token.Placed.{Placed}
-use Rattle.sysin_words.specs.declared.lead.Verb.{Verb}
 use Rattle.sysin_words.specs.declared.lead.Lead.{Lead}
 use Rattle.sysin_words.specs.declared.lead.Lead.TheVariants as leads
 use Rattle.sysin_lang.specs.declared.command.Command.{Command}
@@ -16,7 +15,7 @@ use Rattle.sysin_heads.specs.Reading as heads
 use Rattle.sysin_commands.specs.declared.fault.CommandFault.{CommandFault}
 use Rattle.sysin_commands.specs.declared.fault.CommandFault.TheVariants as faults
 use Rattle.sysin_commands.specs.declared.command.CommandReading.{CommandReading}
-use Rattle.sysin_commands.specs.CommandProgress.{CommandGives, CommandStops, EndsEarly, Makes}
+use Rattle.sysin_commands.specs.CommandProgress.{CommandGives, CommandStops, EndsEarly}
 use Rattle.sysin_read.specs.declared.fault.Stop.{Stop}
 use Rattle.sysin_read.specs.declared.fault.Stop.TheVariants as stops
 use Rattle.sysin_read.specs.declared.fault.Why.{Why}
@@ -24,11 +23,10 @@ use Rattle.sysin_read.specs.declared.fault.Why.TheVariants as whys
 use Rattle.sysin_read.specs.declared.outline.Frame.{Frame}
 use Rattle.sysin_read.specs.declared.outline.Outline.{Outline}
 use Rattle.sysin_read.specs.declared.text.TextReading.{TextReading}
-use Rattle.sysin_read.specs.Statement.{most_nested, most_commands, IsLead, IsElse, IsEnd}
+use Rattle.sysin_read.specs.Statement.{IsLead, IsElse, IsEnd}
 use Rattle.sysin_read.specs.Reading.{open_in}
-use Rattle.sysin_read.specs.Why.{around, StartStops, EndedStops, EndsUnfinished, IsUnfinished, IsTooDeep, IsTooMany, EndsCommand, BehindStops, WithinStops, CommandIsToldAs}
-use Rattle.sysin_read.specs.Progress.{closing, IsOutline, StartGoes, EndedGoes, WithinGoes, IsWithCommand}
-use Rattle.sysin_read.proofs.Words.{one_lead}
+use Rattle.sysin_read.specs.Why.{around, StartStops, EndedStops, EndsUnfinished, IsUnfinished, IsTooDeep, EndsCommand, BehindStops, WithinStops, CommandIsToldAs}
+use Rattle.sysin_read.specs.Progress.{closing, IsOutline, StartGoes, EndedGoes}
 
 -- a stop is for want of memory, or told by a reason
 abbrev pub IsStop : (Why → Type 0) → Stop → Type 0

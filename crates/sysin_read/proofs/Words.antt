@@ -1,8 +1,7 @@
 -- ELSE and END begin no statement.
-use Rattle.std.proofs.Common.{◌≡◌, ◌≢◌, ℕ, List, [], sym, ap, ◌∙◌, Bool, true, false, Option, Some, None}
+use Rattle.std.proofs.Common.{◌≡◌, ℕ, List, sym, ap, ◌∙◌, true, false, Some, None}
 use Rattle.std.specs.Prelude.{codes}
 use Rattle.std.proofs.lemmas.Slice.Eq.{bytes_eq-Decides}
-use Rattle.sysin_text.specs.declared.token.Token.{Token}
 use Rattle.sysin_text.specs.declared.token.Token.TheVariants as tokens
 use Rattle.sysin_text.specs.declared.token.Placed.{Placed}
 use Rattle.sysin_words.specs.declared.keyword.Keyword.{Keyword}

@@ -1,14 +1,12 @@
 -- What is read of a text so far, and the tokens that lead to it.
-use Rattle.std.specs.Prelude.{◌≡◌, ◌↔◌, ◌⊎◌, ℕ, ◌+◌, ◌<◌, ◌≤◌, Bool, true, false, List, [], ◌∷◌, ◌++◌, length, reverse}
+use Rattle.std.specs.Prelude.{◌≡◌, ◌↔◌, ℕ, ◌+◌, ◌<◌, ◌≤◌, Bool, true, false, List, [], ◌∷◌, ◌++◌, length, reverse}
 use Rattle.sysin_text.specs.declared.token.Placed.{Placed}
 use Rattle.sysin_words.specs.declared.lead.Lead.TheVariants as leads
 use Rattle.sysin_lang.specs.Flow.{Plan}
 use Rattle.sysin_lang.specs.declared.script.Step.{Step}
 use Rattle.sysin_lang.specs.Script.{first_plan}
-use Rattle.sysin_heads.specs.declared.head.HeadPlace.{HeadPlace}
 use Rattle.sysin_heads.specs.declared.head.Head.{Head}
 use Rattle.sysin_heads.specs.Reading.{Reads as HeadReads, Gives as HeadGives}
-use Rattle.sysin_commands.specs.declared.command.CommandReading.{CommandReading}
 use Rattle.sysin_commands.specs.CommandProgress.{CommandReads}
 use Rattle.sysin_read.specs.declared.outline.Frame.{Frame}
 use Rattle.sysin_read.specs.declared.outline.Frame.TheVariants as frames

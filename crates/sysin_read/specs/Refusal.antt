@@ -9,7 +9,7 @@ use Rattle.sysin_read.specs.declared.fault.Why.TheVariants as whys
 use Rattle.sysin_read.specs.declared.fault.SysinFault.{SysinFault}
 use Rattle.sysin_read.specs.declared.fault.SysinFault.TheVariants as faults
 use Rattle.sysin_read.specs.Statement.{IsText}
-use Rattle.sysin_read.specs.Why.{IsWhy}
+use Rattle.sysin_read.specs.Told.{IsWhy}
 
 -- with more behind them the tokens spell a text
 abbrev pub CanGoOn : Bool → List Placed → Type 0

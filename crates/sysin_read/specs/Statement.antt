@@ -10,7 +10,6 @@ use Rattle.sysin_words.specs.declared.lead.Lead.{Lead}
 use Rattle.sysin_words.specs.declared.lead.Lead.TheVariants as leads
 use Rattle.sysin_words.specs.Lead.{lead_of, is_else, is_end}
 use Rattle.sysin_lang.specs.declared.command.Command.{Command}
-use Rattle.sysin_lang.specs.declared.command.Statement.{Statement}
 use Rattle.sysin_lang.specs.Flow.{Plan, Done, Run, Set, Choose}
 use Rattle.sysin_heads.specs.Head.{IsSet, IsIf}
 use Rattle.sysin_commands.specs.Command.{IsCommand}

@@ -1,6 +1,5 @@
 -- Why a token is wrong: the first cause that holds, by what is read before it.
 use Rattle.std.specs.Prelude.{◌≡◌, ◌⊎◌, ℕ, ◌+◌, ◌≤◌, Bool, true, false, List, [], ◌∷◌, length}
-use Rattle.sysin_text.specs.declared.token.Token.TheVariants as tokens
 use Rattle.sysin_text.specs.declared.token.Placed.{Placed}
 use Rattle.sysin_words.specs.declared.lead.Verb.{Verb}
 use Rattle.sysin_words.specs.declared.lead.Lead.{Lead}
@@ -19,12 +18,11 @@ use Rattle.sysin_read.specs.declared.fault.Why.{Why}
 use Rattle.sysin_read.specs.declared.fault.Why.TheVariants as whys
 use Rattle.sysin_read.specs.declared.outline.Frame.{Frame}
 use Rattle.sysin_read.specs.declared.outline.Frame.TheVariants as frames
-use Rattle.sysin_read.specs.declared.outline.Outline.{Outline}
 use Rattle.sysin_read.specs.declared.text.TextPlace.{TextPlace}
 use Rattle.sysin_read.specs.declared.text.TextPlace.TheVariants as places
 use Rattle.sysin_read.specs.declared.text.TextReading.{TextReading}
 use Rattle.sysin_read.specs.Statement.{most_nested, most_commands, IsLead, IsElse, IsEnd}
-use Rattle.sysin_read.specs.Reading.{open_in, TextReads}
+use Rattle.sysin_read.specs.Reading.{open_in}
 
 -- ---- where a statement begins
 
@@ -129,7 +127,3 @@ StopsAt (places.Command reading) open' count placed why = WithinStops open' coun
 -- why a token is wrong behind what is read
 abbrev pub TextStops : TextReading → Placed → Why → Type 0
 TextStops reading placed why = StopsAt reading.place (open_in reading.outline) reading.outline.commands placed why
-
--- why a token is wrong behind these
-abbrev pub IsWhy : List Placed → Placed → Why → Type 0
-IsWhy front placed why = (reading : TextReading) × TextReads reading front × TextStops reading placed why

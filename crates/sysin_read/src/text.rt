@@ -24,6 +24,7 @@ ghost use Rattle.sysin_read.specs.Statement.{most_nested, most_commands, IsLead,
 ghost use Rattle.sysin_read.specs.Reading.{open_in, TextReads, TextIsRead};
 ghost use Rattle.sysin_read.specs.Why.{StartStops, EndedStops, EndsCommand, IsTooDeep, IsTooMany, around, wants_else, EndsUnfinished, IsToldAs, CommandIsToldAs, BehindStops, WithinStops, StopsAt, TextStops};
 ghost use Rattle.sysin_read.specs.Progress.{closing, closing_to_else, behind_then, IsOutline, StartGoes, EndGoes, EndedGoes, HeadLeads, IsWithCommand, WithinGoes, TextGoes, EndsWith, TextGives};
+ghost use Rattle.sysin_read.specs.Told.{nothing_read};
 
 use crate::fault::{Stop, Why};
 use crate::outline::{Frame, Outline, close_parts, take_else, take_end};
@@ -68,7 +69,8 @@ pub struct TextReading {
 
 impl TextReading {
     pub fn new(alloc: Global) -> TextReading
-        ensures { TextReads result [] }
+        ensures reads { TextReads result [] }
+        ensures nothing { result ≡ nothing_read }
     {
         TextReading {
             outline: Outline::new(alloc),

@@ -1,4 +1,3 @@
-use Rattle.std.specs.Prelude.{IfErr}
 use Rattle.std.proofs.lemmas.Result.{IfErr-weaker}
 use Rattle.sysin_heads.specs.declared.head.HeadPlace.TheVariants as head_places
 use Rattle.sysin_read.proofs.Taking.{if_goes}

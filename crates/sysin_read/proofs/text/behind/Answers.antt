@@ -1,4 +1,4 @@
-use Rattle.std.proofs.Common.{inl, inr, refl}
+use Rattle.std.proofs.Common.{inr, refl}
 use Rattle.sysin_read.specs.declared.fault.Why.TheVariants as whys
 use Rattle.sysin_read.specs.Statement.{IsElse, IsEnd}
 use Rattle.sysin_read.proofs.Taking.{not_so, next_goes, next_stops}

@@ -1,4 +1,4 @@
-use Rattle.std.proofs.Common.{◌+◌, inl, inr, refl}
+use Rattle.std.proofs.Common.{◌+◌, inr, refl}
 use Rattle.sysin_read.specs.Reading.{open_in}
 use Rattle.sysin_read.proofs.Taking.{behind_stops, unfinished_as}
 use Rattle.sysin_read.proofs.text.behind_command.Goals as goal

@@ -1,4 +1,4 @@
-use Rattle.std.proofs.Common.{inl, inr, refl}
+use Rattle.std.proofs.Common.{inl, refl}
 use Rattle.sysin_read.specs.Reading.{open_in}
 use Rattle.sysin_read.specs.Why.{EndsCommand}
 use Rattle.sysin_read.proofs.Taking.{not_so, ended_stops, told_within}
