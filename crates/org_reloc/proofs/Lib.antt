@@ -6,3 +6,13 @@ pub mod Naming
 pub mod Room
 pub mod Refits
 pub mod Unique
+pub mod Entries
+pub mod Directories
+pub mod Members
+pub mod Movings
+pub mod Takings
+pub mod Shapes
+pub mod Partitions
+pub mod Against
+pub mod OneDirectory
+pub mod OneRefit

@@ -7,12 +7,11 @@ use Rattle.std.proofs.lemmas.List.Sums.{fold_push, fold-append}
 use Rattle.std.proofs.lemmas.List.Elements.{All-nil, All-cons}
 use Rattle.ckd_image.specs.declared.device.Device.{Device}
 use Rattle.ckd_image.specs.declared.track.Rec.{Rec}
-use Rattle.ckd_image.specs.declared.track.Track.{Track}
 use Rattle.ckd_image.specs.Device.{capacity_of}
 use Rattle.org_reloc.specs.declared.block.Block.{Block}
 use Rattle.org_reloc.specs.Content.{block_of, records_of}
 use Rattle.org_reloc.specs.Packing.{record_of, track_of}
-use Rattle.org_reloc.specs.Place.{place_text, Names}
+use Rattle.org_reloc.specs.Place.{place_text, NamesBlocks}
 use Rattle.org_reloc.specs.Filling.{Filling, unfilled, block_cost, blocks_cost, filled_by, filling_of, groups_of, records_on}
 use Rattle.org_reloc.proofs.Fillings.{filled_on, filled_next}
 
@@ -98,12 +97,6 @@ others_lower n m (block ∷ more) h =
     (others_lower (n + 1) m more (omega arith))
 
 -- ---- a block's place names it and all that is behind it
-
--- a place names these blocks
-pub record NamesBlocks (tracks : List Track) (place : List ℕ) (blocks : List Block) : Type 0 where
-  pub recs : List Rec
-  pub names : Names tracks place recs
-  pub blocks_are : map block_of recs ≡ blocks
 
 named_in : (before : List (List Block)) (front : List Block) (block : Block) (tail : List Block) (after : List (List Block)) → length before < 65536
     → NamesBlocks (map track_of (before ++ (front ++ block ∷ tail) ∷ after)) (place_text (length before) (1 + length front)) (block ∷ (tail ++ flat_map (λ group. group) after))

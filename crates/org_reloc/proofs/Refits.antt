@@ -11,12 +11,12 @@ use Rattle.org_reloc.specs.declared.place.Place.{Place}
 use Rattle.org_reloc.specs.declared.refit.Refit.{Refit}
 use Rattle.org_reloc.specs.Content.{block_of, end_of_file, IsBlock, IsEnd, records_of, HasNoEnd, HoldUpToEnd}
 use Rattle.org_reloc.specs.Packing.{FitsAlone, track_of, HaveRoom}
-use Rattle.org_reloc.specs.Place.{nowhere, place_text, Names}
+use Rattle.org_reloc.specs.Place.{nowhere, place_text, Names, NamesBlocks}
 use Rattle.org_reloc.specs.Filling.{filling_of, groups_of, IsNewest, ArePlaces}
 use Rattle.org_reloc.specs.Sequential.{IsContent, IsLast, IsLastBlock, IsRefit, HoldsTheSame, IsPlaceOfLast, IsBlocksRefit}
 use Rattle.org_reloc.proofs.Fillings.{full_grows}
 use Rattle.org_reloc.proofs.Groups.{grouped}
-use Rattle.org_reloc.proofs.Naming.{NamesBlocks, named_at, newest_some, blocks_of_tracks}
+use Rattle.org_reloc.proofs.Naming.{named_at, newest_some, blocks_of_tracks}
 use Rattle.org_reloc.proofs.Room.{room}
 
 -- ---- lists

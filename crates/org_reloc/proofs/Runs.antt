@@ -81,10 +81,37 @@ run_goes_on recs tracks i track old new lt is none e t =
     (append_assoc recs (records_of (take i tracks)) track.recs ∙ ap (λ l. recs ++ l) (sym (records_more tracks i track lt is)))
     held
 
+-- the same where others stood before
+pub takes_end : (recs : List Rec) (tracks : List Track) (i : ℕ) (track : Track) (base old new : List Block) → i < length tracks → track ≡ get_or tracks i track
+    → HasNoEnd (recs ++ records_of (take i tracks)) → old ≡ base ++ map block_of (recs ++ records_of (take i tracks)) → TakesOver track.recs old new true → TakesOver (recs ++ records_of tracks) base new true
+takes_end recs tracks i track base old new lt is none e t =
+    let front = map block_of (recs ++ records_of (take i tracks)) in
+    record {
+      taken = front ++ t.taken;
+      new_is = t.new_is ∙ ap (λ l. l ++ t.taken) e ∙ append_assoc base front t.taken;
+      held = run_ends recs tracks i track front (front ++ t.taken) lt is none refl (record { taken = t.taken; new_is = refl; held = t.held });
+    }
+
+pub takes_more : (recs : List Rec) (tracks : List Track) (i : ℕ) (track : Track) (base old new : List Block) → i < length tracks → track ≡ get_or tracks i track
+    → HasNoEnd (recs ++ records_of (take i tracks)) → old ≡ base ++ map block_of (recs ++ records_of (take i tracks)) → TakesOver track.recs old new false
+    → HasNoEnd (recs ++ records_of (take (i + 1) tracks)) × (new ≡ base ++ map block_of (recs ++ records_of (take (i + 1) tracks)))
+takes_more recs tracks i track base old new lt is none e t =
+    let front = map block_of (recs ++ records_of (take i tracks)) in
+    let h = run_goes_on recs tracks i track front (front ++ t.taken) lt is none refl (record { taken = t.taken; new_is = refl; held = t.held }) in
+    (h.0, t.new_is ∙ ap (λ l. l ++ t.taken) e ∙ append_assoc base front t.taken ∙ ap (λ l. base ++ l) h.1)
+
 -- ---- blocks that records hold
 
 pub All_front : {X : Type 0} (P : X → Type 0) (xs ys : List X) → All P (xs ++ ys) → All P xs
 All_front P xs ys each = λ k d lt. subst P (get_or_append_left xs ys d k lt) (each k d (omega (arith, length-append xs ys)))
+
+pub All_back : {X : Type 0} (P : X → Type 0) (xs ys : List X) → All P (xs ++ ys) → All P ys
+All_back P [] ys each = each
+All_back P (x ∷ xs) ys each = All_back P xs ys (All-tail P x (xs ++ ys) each)
+
+-- an element in the middle
+pub All_middle : {X : Type 0} (P : X → Type 0) (xs : List X) (y : X) (ys : List X) → All P (xs ++ y ∷ ys) → P y
+All_middle P xs y ys each = All-head P y ys (All_back P xs (y ∷ ys) each)
 
 sized : (rec : Rec) → IsRecord rec → IsBlock (block_of rec)
 sized rec h = record { key_fits = h.key_fits; body_fits = h.body_fits }

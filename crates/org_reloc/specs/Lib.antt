@@ -5,3 +5,10 @@ pub mod Packer
 pub mod Place
 pub mod Refusal
 pub mod Sequential
+pub mod Directory
+pub mod DirectoryReading
+pub mod Member
+pub mod MemberRefusal
+pub mod Partitioned
+pub mod Moved
+pub mod Taken

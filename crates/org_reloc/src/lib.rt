@@ -2,13 +2,19 @@
 #![tactic(auto)]
 
 mod block;
+mod directory;
+mod entry;
 mod fault;
+mod member;
+mod moved;
 mod packing;
+mod partitioned;
 mod place;
 mod refit;
 mod run;
 mod sequential;
 
 pub use fault::{RelocFault, Why};
+pub use partitioned::refit_po;
 pub use refit::Refit;
 pub use sequential::refit_ps;

@@ -14,29 +14,34 @@ pub struct Run {
     pub ended: bool,
 }
 
-/// The blocks of records and of the tracks behind them, up to the first end of file.
-pub fn run_of(alloc: Global, recs: &[Rec], tracks: &[Track]) -> Result<Run, NoMemory>
-    ensures { IfOk result (λ run. Hold (recs.now ++ records_of tracks.now) run.blocks run.ended) }
+/// The blocks of tracks, up to the first end of file.
+pub fn run_of(alloc: Global, tracks: &[Track]) -> Result<Run, NoMemory>
+    ensures { IfOk result (λ run. Hold (records_of tracks.now) run.blocks run.ended) }
 {
     let mut blocks = Listed::new(alloc);
-    if push_run(alloc, &mut blocks, recs)? {
-        return Ok(Run {
-            blocks,
-            ended: true,
-        });
+    let ended = push_blocks(alloc, &mut blocks, &[], tracks)?;
+    Ok(Run { blocks, ended })
+}
+
+/// Takes over the blocks of records and of the tracks behind them, up to the first end of file, and says whether there is one.
+pub fn push_blocks(
+    alloc: Global,
+    blocks: &mut Listed<Block>,
+    recs: &[Rec],
+    tracks: &[Track],
+) -> Result<bool, NoMemory>
+    ensures { IfOk result (TakesOver (recs.now ++ records_of tracks.now) blocks.old blocks.new) }
+{
+    if push_run(alloc, blocks, recs)? {
+        return Ok(true);
     }
     for track in tracks {
-        if push_run(alloc, &mut blocks, track.recs.as_slice())? {
-            return Ok(Run {
-                blocks,
-                ended: true,
-            });
+        let ended = push_run(alloc, blocks, track.recs.as_slice())?;
+        if ended {
+            return Ok(ended);
         }
     }
-    Ok(Run {
-        blocks,
-        ended: false,
-    })
+    Ok(false)
 }
 
 /// Takes over the blocks up to the first end of file, and says whether there is one.

@@ -71,7 +71,7 @@ fn content_of(alloc: Global, tracks: &[Track], last: [u8; 3]) -> Result<Listed<B
     if last == [0, 0, 0] {
         return Ok(Listed::new(alloc));
     }
-    let run = run_of(alloc, &[], tracks)?;
+    let run = run_of(alloc, tracks)?;
     if !run.ended {
         return Err(RelocFault::NotRelocatable(Why::NoEnd.number()));
     }

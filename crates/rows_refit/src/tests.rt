@@ -1,5 +1,5 @@
-ghost use Rattle.std.specs.Prelude.{All, IfOk};
-ghost use Rattle.ckd_image.specs.Track.{IsTrack};
+ghost use Rattle.std.specs.Prelude.{◌≤◌, length, All, IfOk, OnOk};
+ghost use Rattle.ckd_image.specs.Track.{IsRecord, IsTrack};
 
 use ckd_image::{Bytes, Device, Listed, NoMemory, Rec, Recs, Track};
 use org_reloc::*;
@@ -114,5 +114,146 @@ fn a_sequential_data_set_is_refused_with_its_cause(rt: HostRuntime) -> Result<()
     )
     .err();
     assert_eq!(rt; refused, Some(RelocFault::NotRelocatable(2)));
+    Ok(())
+}
+
+/// The bytes of a directory block that begin so.
+fn page(text: &[u8]) -> [u8; 256]
+    requires { length text.now ≤ 256 }
+{
+    let mut body = [0; 256];
+    body[..text.len()].copy_from_slice(text);
+    body
+}
+
+/// A record of this length without a key.
+fn block(alloc: Global, r: u8, length: u16) -> Result<Rec, NoMemory>
+    requires { 1 ≤ r }
+    ensures { IfOk result IsRecord }
+{
+    let body = vec![in alloc; 7; length as usize]?;
+    Ok(Rec {
+        r,
+        key: Bytes::new(alloc),
+        body: Bytes::from_vec(body),
+    })
+}
+
+/// Records of these lengths without keys, numbered from one.
+fn number(alloc: Global, recs: &mut Recs, first: u8, lengths: &[u16]) -> Result<(), NoMemory>
+    requires first { 1 ≤ first }
+    requires recs { All IsRecord recs.old }
+    ensures { OnOk result (All IsRecord recs.new) }
+{
+    let mut r = first;
+    for length in lengths {
+        let next = block(alloc, r, *length)?;
+        recs.push(next)?;
+        r = r.saturating_add(1);
+    }
+    Ok(())
+}
+
+/// A track with a directory block before records of these lengths, and a track with others.
+fn partitioned(
+    alloc: Global,
+    text: &[u8],
+    first: &[u16],
+    second: &[u16],
+) -> Result<Listed<Track>, NoMemory>
+    requires { length text.now ≤ 256 }
+    ensures { IfOk result (All IsTrack) }
+{
+    let mut recs = Recs::new(alloc);
+    recs.push(Rec {
+        r: 1,
+        key: Bytes::from_slice(alloc, &[0xff; 8])?,
+        body: Bytes::from_slice(alloc, &page(text))?,
+    })?;
+    number(alloc, &mut recs, 2, first)?;
+    let mut others = Recs::new(alloc);
+    number(alloc, &mut others, 1, second)?;
+    let mut tracks = Listed::new(alloc);
+    tracks.push(zeroed(recs))?;
+    tracks.push(zeroed(others))?;
+    Ok(tracks)
+}
+
+fn zeroed(recs: Recs) -> Track
+    requires { All IsRecord recs }
+    ensures { IsTrack result }
+{
+    Track {
+        flag: 0,
+        r0: [0; 8],
+        recs,
+    }
+}
+
+fn first_body(refit: &Refit) -> Option<&[u8]> {
+    let track = refit.tracks.as_slice().first()?;
+    let rec = track.recs.as_slice().first()?;
+    Some(rec.body.as_slice())
+}
+
+#[test]
+fn entries_name_the_new_places(rt: HostRuntime) -> Result<(), Fail> {
+    let old =
+        b"\x00\x34AAAAAAAA\x00\x01\x01\x00ALIAS   \x00\x01\x01\x80B       \x00\x00\x04\x01uu\xff\xff\xff\xff\xff\xff\xff\xff\x00\x00\x00\x00rest";
+    let new =
+        b"\x00\x34AAAAAAAA\x00\x00\x05\x00ALIAS   \x00\x00\x05\x80B       \x00\x00\x03\x01uu\xff\xff\xff\xff\xff\xff\xff\xff\x00\x00\x00\x00rest";
+    let tracks = partitioned(rt.alloc(), old, &[0, 0, 80, 0, 33], &[100, 50, 0, 44])?;
+    let refit = refit_po(rt.alloc(), Device::D3390, Device::D3380, tracks.as_slice())?;
+    assert_counts(&rt, &refit, &[7]);
+    assert_eq!(rt; first_body(&refit), Some(&page(new)[..]));
+    assert_eq!(rt; refit.last, [0, 0, 7]);
+    Ok(())
+}
+
+#[test]
+fn a_member_goes_to_the_next_track(rt: HostRuntime) -> Result<(), Fail> {
+    let old = b"\x00\x1aA       \x00\x00\x03\x00\xff\xff\xff\xff\xff\xff\xff\xff\x00\x00\x00\x00";
+    let new = b"\x00\x1aA       \x00\x01\x01\x00\xff\xff\xff\xff\xff\xff\xff\xff\x00\x00\x00\x00";
+    let tracks = partitioned(rt.alloc(), old, &[0, 47_400, 0], &[])?;
+    let refit = refit_po(rt.alloc(), Device::D3390, Device::D3380, tracks.as_slice())?;
+    assert_counts(&rt, &refit, &[2, 1, 1]);
+    assert_eq!(rt; first_body(&refit), Some(&page(new)[..]));
+    assert_eq!(rt; refit.last, [0, 2, 1]);
+    Ok(())
+}
+
+/// What a refusal says of a data set with this entry in front.
+fn refusal(alloc: Global, entry: &[u8], first: &[u16]) -> Result<Option<RelocFault>, NoMemory>
+    requires { length entry.now ≤ 256 }
+{
+    let tracks = partitioned(alloc, entry, first, &[])?;
+    Ok(refit_po(alloc, Device::D3390, Device::D3380, tracks.as_slice()).err())
+}
+
+#[test]
+fn a_partitioned_data_set_is_refused_with_its_cause(rt: HostRuntime) -> Result<(), Fail> {
+    let one = b"\x00\x1aA       \x00\x00\x03\x00\xff\xff\xff\xff\xff\xff\xff\xff\x00\x00\x00\x00";
+    let lost = b"\x00\x1aA       \x00\x00\x09\x00\xff\xff\xff\xff\xff\xff\xff\xff\x00\x00\x00\x00";
+    let short = b"\x00\x0eA       \x00\x00\x09\x00\xff\xff\xff\xff\xff\xff\xff\xff\x00\x00\x00\x00";
+    let why = |number: u8| Some(RelocFault::NotRelocatable(number));
+    assert_eq!(rt;
+        refusal(rt.alloc(), one, &[0, 50_000, 0])?,
+        Some(RelocFault::BlockTooLong(50_000, 47_476))
+    );
+    assert_eq!(rt; refusal(rt.alloc(), one, &[0, 50_000])?, why(2));
+    assert_eq!(rt; refusal(rt.alloc(), one, &[80, 80])?, why(3));
+    assert_eq!(rt; refusal(rt.alloc(), lost, &[0, 80])?, why(3));
+    assert_eq!(rt; refusal(rt.alloc(), short, &[0, 80, 0])?, why(3));
+    Ok(())
+}
+
+#[test]
+fn places_in_user_data_are_told_first(rt: HostRuntime) -> Result<(), Fail> {
+    let user = b"\x00\x32MODULE  \x00\x00\x09\x2c123456789012345678901234";
+    let plain =
+        b"\x00\x32MEMBER  \x00\x00\x03\x0c123456789012345678901234\xff\xff\xff\xff\xff\xff\xff\xff\x00\x00\x00\x00";
+    let why = |number: u8| Some(RelocFault::NotRelocatable(number));
+    assert_eq!(rt; refusal(rt.alloc(), user, &[0, 80, 0])?, why(4));
+    assert_eq!(rt; refusal(rt.alloc(), plain, &[0, 80, 0])?, None);
     Ok(())
 }

@@ -1,7 +1,0 @@
-use Rattle.std.proofs.Common.{◌≡◌, ◌++◌, map, take}
-use Rattle.org_reloc.specs.Content.{block_of, records_of, HasNoEnd}
-use Rattle.org_reloc.proofs.run.run_of.Given as goal
-
-abbrev pub invariant-loop-track : goal.invariant-loop-track
-invariant-loop-track l =
-    HasNoEnd (l.fn.recs ++ records_of (take l.track-index l.tracks)) × (l.blocks ≡ map block_of (l.fn.recs ++ records_of (take l.track-index l.tracks)))
