@@ -21,7 +21,7 @@ use Rattle.step_plans.specs.Plans.{AreRuns, extents_from}
 
 -- ---- how many there are
 
-numbers_long : (n : ℕ) → length (numbers_below n) ≡ n
+pub numbers_long : (n : ℕ) → length (numbers_below n) ≡ n
 numbers_long zero = refl
 numbers_long (suc n) = omega (arith, length-append (numbers_below n) (n ∷ []), numbers_long n)
 

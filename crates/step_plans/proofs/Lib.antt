@@ -3,3 +3,6 @@ mod Fields
 pub mod Fronts
 mod Cuts
 mod Swaps
+pub mod Places
+pub mod Puts
+pub mod Makers

@@ -51,7 +51,7 @@ only_f1 false false false true z e = e
 only_f1 false false false false true e = e
 only_f1 false false false false false e = e
 
-code_of_1 : (bytes : List ℕ) → format_of bytes ≡ F1 → get_or bytes 44 0 ≡ 0xF1
+pub code_of_1 : (bytes : List ℕ) → format_of bytes ≡ F1 → get_or bytes 44 0 ≡ 0xF1
 code_of_1 bytes is =
     let code = get_or bytes 44 0 in
     eqb-true code 0xF1 (only_f1 (code == 0xF1) ((code == 0xF3) && fills 4 0x03 bytes) ((code == 0xF4) && fills 44 0x04 bytes) ((code == 0xF5) && fills 4 0x05 bytes) (fills 140 0 bytes) (ap is_f1 is))

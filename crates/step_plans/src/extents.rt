@@ -1,17 +1,25 @@
-//! The front of a data set's extents.
+//! The front of a data set's extents, and extents on other tracks.
 
-ghost use Rattle.std.specs.Prelude.{◌≡◌, ◌+◌, ◌*◌, ◌<◌, ◌≤◌, [], ◌∷◌, length, IfOk};
+ghost use Rattle.std.specs.Prelude.{◌≡◌, ◌+◌, ◌*◌, ◌^◌, ◌<◌, ◌≤◌, [], ◌∷◌, length, map, All, IfOk};
 ghost use Rattle.ckd_image.specs.Device.{heads_of};
+ghost use Rattle.ckd_image.specs.declared.device.Device.{Device as DeviceOf};
 ghost use Rattle.volume_model.specs.Space.{run_of};
 ghost use Rattle.volume_model.specs.Unit.{tracks_of};
 ghost use Rattle.vtoc_core.specs.Loaded.{field_of};
-ghost use Rattle.move_core.specs.Steps.{cut};
-ghost use Rattle.step_plans.specs.Plans.{AreRuns, extents_from};
+ghost use Rattle.move_core.specs.Steps.{IsNewKind, cut};
+ghost use Rattle.step_plans.specs.Plans.{AreRuns, IsRoom, extents_from, field_on};
 
 use ckd_image::{Device, Listed, NoMemory, TrackAt};
 use dscb_rec::Extent;
+use free_map::Run;
+use set_facts::is_by_cylinders;
 use std::alloc::Global;
 use vtoc_core::Extents;
+
+/// The types of extents of whole cylinders, and of tracks.
+const CYLINDERS: u8 = 0x81;
+
+const TRACKS: u8 = 0x01;
 
 fn track_of(device: Device, at: TrackAt) -> u32
     ensures { result ≡ at.cylinder * heads_of device + at.head }
@@ -31,7 +39,8 @@ fn tracks_in(device: Device, extent: &Extent) -> u32
 pub(crate) fn count_tracks(device: Device, extents: &[Extent]) -> u64
     requires few { length extents.now ≤ 16 }
     requires runs { AreRuns device extents.now }
-    ensures { result ≡ length (tracks_of (extents_from device extents.now)) }
+    ensures count { result ≡ length (tracks_of (extents_from device extents.now)) }
+    ensures few { result ≤ 2 ^ 20 }
 {
     let mut count = 0;
     for extent in extents {
@@ -82,4 +91,46 @@ pub(crate) fn cut_extents(
         }
     }
     Ok(Listed::from_vec(kept))
+}
+
+/// The extent of a type on a run.
+fn extent_on(device: Device, kind: u8, run: Run) -> Extent
+    requires { IsRoom run }
+    ensures { result ≡ field_on device kind run }
+{
+    let heads = device.heads();
+    Extent {
+        kind,
+        number: 0,
+        first: TrackAt::of(run.first, heads),
+        last: TrackAt::of(run.first + (run.len - 1), heads),
+    }
+}
+
+/// Extents of a type on runs, one for each.
+pub(crate) fn extents_of_runs(
+    alloc: Global,
+    device: Device,
+    kind: u8,
+    runs: &[Run],
+) -> Result<Extents, NoMemory>
+    requires { All IsRoom runs.now }
+    ensures { IfOk result (λ extents. extents ≡ map (field_on device kind) runs.now) }
+{
+    let mut extents = Vec::new(alloc);
+    for run in runs {
+        extents.push(extent_on(device, kind, *run))?;
+    }
+    Ok(Listed::from_vec(extents))
+}
+
+/// The type of a data set's new extents: of cylinders where its own all are, and else of tracks.
+pub(crate) fn kind_for(extents: &[Extent]) -> u8
+    ensures { (device : DeviceOf) → IsNewKind (extents_from device extents.now) result }
+{
+    if is_by_cylinders(extents) {
+        CYLINDERS
+    } else {
+        TRACKS
+    }
 }

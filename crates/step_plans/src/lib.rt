@@ -1,8 +1,10 @@
 //! Plans of steps, made from a volume as it was loaded.
 #![tactic(auto)]
 
+mod copies;
 mod extents;
 mod plans;
 mod rows;
 
-pub use plans::{delete_set, repair_space, reset_flag, shrink_set};
+pub use copies::{SetAt, SetCopy, carry_set, copy_set};
+pub use plans::{delete_set, join_set, repair_space, reset_flag, shrink_set};

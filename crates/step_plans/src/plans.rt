@@ -4,34 +4,50 @@ ghost use Rattle.std.specs.Prelude.{◌≡◌, ◌⊎◌, [], ◌∷◌, IfOk, I
 ghost use Rattle.dsn_filter.specs.Dsn.{IsDsn};
 ghost use Rattle.move_core.specs.declared.steps.Step.TheVariants as steps;
 ghost use Rattle.unit_steps.specs.declared.plan.Tracks.TheVariants as texts;
-ghost use Rattle.step_plans.specs.Plans.{IsSound, IsPlanFor, HasNone, HasManyExtents, HasFewTracks};
+ghost use Rattle.unit_steps.specs.Plans.{HasRow};
+ghost use Rattle.vtoc_core.specs.declared.volume.Row.{Row as RowOf};
+ghost use Rattle.step_plans.specs.Plans.{IsSound, IsPlanFor, IsPlaceOn, IsJoinPlan, IsWhole, HasNone, HasManyExtents, HasFewTracks};
 
-use crate::extents::{count_tracks, cut_extents};
-use crate::rows::{reset_row, row_of};
+use crate::extents::{count_tracks, cut_extents, kind_for};
+use crate::rows::{moved_row, reset_row, row_of};
 use ckd_image::{Listed, NoMemory};
 use dsn_filter::Dsn;
+use free_map::Run;
 use move_core::Step;
 use std::alloc::Global;
 use unit_steps::{Plan, Tracks};
 use volume_change::Change;
 use vtoc_core::{Row, Volume};
 
-/// The most extents that a data set has once it is put.
-const MOST_EXTENTS: usize = 16;
+/// The most extents that a data set has whose plan is made.
+pub(crate) const MOST_EXTENTS: usize = 16;
 
-/// A step that copies no track, and its one change.
-fn plan_of(alloc: Global, step: Step, unit: u32, change: Change) -> Result<Plan, NoMemory>
-    ensures step { IfOk result (λ plan. plan.step ≡ step) }
-    ensures tracks { IfOk result (λ plan. plan.tracks ≡ texts.None) }
-    ensures changes { IfOk result (λ plan. plan.changes ≡ (unit, change) ∷ []) }
+/// A step and its one change.
+pub(crate) fn plan_of(
+    alloc: Global,
+    step: Step,
+    tracks: Tracks,
+    unit: u32,
+    change: Change,
+) -> Result<Plan, NoMemory>
+    ensures { IfOk result (λ plan. plan ≡ record { step = step; tracks = tracks; changes = (unit, change) ∷ [] }) }
 {
     let mut changes = Vec::new(alloc);
     changes.push((unit, change))?;
     Ok(Plan {
         step,
-        tracks: Tracks::None,
+        tracks,
         changes: Listed::from_vec(changes),
     })
+}
+
+/// A step that copies no track, and its one change.
+fn quiet_plan(alloc: Global, step: Step, unit: u32, change: Change) -> Result<Plan, NoMemory>
+    ensures step { IfOk result (λ plan. plan.step ≡ step) }
+    ensures tracks { IfOk result (λ plan. plan.tracks ≡ texts.None) }
+    ensures changes { IfOk result (λ plan. plan.changes ≡ (unit, change) ∷ []) }
+{
+    plan_of(alloc, step, Tracks::None, unit, change)
 }
 
 /// The free space of a volume is stated anew.
@@ -39,7 +55,7 @@ pub fn repair_space(alloc: Global, unit: u32, volume: &Volume) -> Result<Plan, N
     ensures { IfOk result (IsPlanFor volume.now unit (steps.Repair unit)) }
 {
     let _repaired = volume;
-    plan_of(alloc, Step::Repair { unit }, unit, Change::Repair)
+    quiet_plan(alloc, Step::Repair { unit }, unit, Change::Repair)
 }
 
 /// A data set is deleted, if the volume has one of the name.
@@ -58,7 +74,7 @@ pub fn delete_set(
         return Ok(None);
     };
     let step = Step::Delete { unit, name };
-    Ok(Some(plan_of(alloc, step, unit, Change::Remove(name))?))
+    Ok(Some(quiet_plan(alloc, step, unit, Change::Remove(name))?))
 }
 
 /// A data set counts as dumped, if the volume has one of the name with at most 16 extents.
@@ -81,7 +97,7 @@ pub fn reset_flag(
     }
     let change = Change::Swap(name, reset_row(alloc, row)?);
     let step = Step::ResetFlag { unit, name };
-    Ok(Some(plan_of(alloc, step, unit, change)?))
+    Ok(Some(quiet_plan(alloc, step, unit, change)?))
 }
 
 /// A data set keeps its first tracks alone, if the volume has one of the name with more tracks, and with at most 16 extents.
@@ -111,5 +127,45 @@ pub fn shrink_set(
         threes: row.threes,
     };
     let step = Step::Shrink { unit, name, keep };
-    Ok(Some(plan_of(alloc, step, unit, Change::Swap(name, kept))?))
+    Ok(Some(quiet_plan(alloc, step, unit, Change::Swap(name, kept))?))
+}
+
+/// A data set moves into one extent from a track on, if the volume has one of the name with another number of extents, at most 16, and with
+/// tracks.
+pub fn join_set(
+    alloc: Global,
+    unit: u32,
+    volume: &Volume,
+    name: Dsn,
+    first: u32,
+) -> Result<Option<Plan>, NoMemory>
+    requires sound { IsSound volume.now }
+    requires name { IsDsn name }
+    requires place { (row : RowOf) → HasRow volume.now name row → IsPlaceOn volume.now row volume.now first }
+    ensures plan { IfOk result (λ found. IfSome found (IsJoinPlan volume.now unit name first)) }
+    ensures none { IfOk result (λ found. IfNone found (HasNone volume.now name ⊎ (HasManyExtents volume.now name ⊎ IsWhole volume.now name))) }
+{
+    let Some(row) = row_of(volume, &name) else {
+        return Ok(None);
+    };
+    let extents = row.extents.as_slice();
+    if extents.len() > MOST_EXTENTS || extents.len() == 1 {
+        return Ok(None);
+    }
+    let len = count_tracks(volume.device, extents) as u32;
+    if len == 0 {
+        return Ok(None);
+    }
+    let run = Run { first, len };
+    let moved = moved_row(alloc, row, volume.device, kind_for(extents), &[run])?;
+    let mut to = Vec::new(alloc);
+    to.push(run)?;
+    let step = Step::Move {
+        unit,
+        name,
+        to: Listed::from_vec(to),
+    };
+    let texts = Tracks::Rows { unit, name };
+    let change = Change::Swap(name, moved);
+    Ok(Some(plan_of(alloc, step, texts, unit, change)?))
 }

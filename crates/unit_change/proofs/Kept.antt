@@ -18,7 +18,7 @@ numbers_all P zero each = All-nil P
 numbers_all P (suc n) each = All-append P (numbers_below n) (n ∷ []) (numbers_all P n (λ k less. each k (omega (arith, less)))) (All-cons P n [] (each n (omega arith)) (All-nil P))
 
 -- what holds of each track of the runs holds of the tracks in order
-tracks_all : (P : ℕ → Type 0) (extents : List Extent) → ((track : ℕ) → InRuns (map run_in extents) track → P track) → All P (tracks_of extents)
+pub tracks_all : (P : ℕ → Type 0) (extents : List Extent) → ((track : ℕ) → InRuns (map run_in extents) track → P track) → All P (tracks_of extents)
 tracks_all P [] each = All-nil P
 tracks_all P (extent ∷ extents) each =
     let first = extent.run.first in

@@ -20,3 +20,4 @@ pub mod CopyDone
 pub mod Prepared
 pub mod SetTexts
 pub mod Registered
+pub mod Sparing

@@ -2,10 +2,12 @@
 use Rattle.std.specs.Prelude.{◌≡◌, ℕ, ◌-◌, ◌*◌, ◌/◌, ◌<◌, true, List, [], ◌∷◌, ◌++◌, length, Any, All, slice_get, Option, Some, None, Result, Ok, Err}
 use Rattle.ckd_image.specs.Device.{slot_of}
 use Rattle.dasd_pool.specs.Count.{Rose}
+use Rattle.dasd_pool.specs.Disk.{Image, Shape, IsSynced}
 use Rattle.dasd_pool.specs.declared.pool.Pool.{Ghosts}
 use Rattle.free_map.specs.declared.run.Run.{Run}
 use Rattle.free_map.specs.Runs.{Holds}
 use Rattle.redo_core.specs.declared.entries.Entry.{Entry}
+use Rattle.redo_core.specs.Reading.{journal_of, placed}
 use Rattle.vtoc_core.specs.declared.volume.Volume.{Volume}
 use Rattle.vtoc_write.specs.declared.blocks.Block.{Block}
 use Rattle.vtoc_write.specs.Written.{AreAscending}
@@ -68,6 +70,11 @@ done_by step (Err broken) = []
 abbrev pub pending_by : {V W : Type 0} → Step → Result V W → Option Step
 pending_by step (Ok value) = None
 pending_by step (Err broken) = Some step
+
+-- each block of a volume that holds the same with these entries in place holds it
+abbrev pub SparesUnchanged : Shape → Image → List Entry → Image → Type 0
+SparesUnchanged shape contents entries image =
+    (u b : ℕ) → u < journal_of shape → placed contents entries u b ≡ contents u b → image u b ≡ contents u b
 
 -- ---- why a plan is refused
 
@@ -177,4 +184,5 @@ pub record MaySwitch {P : Type 0} (pools : Ghosts P) (copied : CopiedView P) : T
   pub rendered : WereRendered copied.session.units copied.session.vtocs copied.plan.changes copied.rendered
   pub entries_are : copied.entries ≡ entries_of copied.plan.changes copied.rendered
   pub entries : AreReady (pools.shape copied.session.pool) copied.session.room copied.entries
+  pub synced : pools.tells → IsSynced (pools.disk copied.session.pool).state
   pub takes : pools.tells → TakeUnits (pools.shape copied.session.pool) copied.session.room (pools.disk copied.session.pool).state.contents copied.plan.step copied.entries

@@ -3,17 +3,19 @@
 ghost use Rattle.std.specs.Prelude.{◌≡◌, [], None, Some, length, IfOk, IfErr, OnOk, IsErr};
 ghost use Rattle.ckd_image.specs.Device.{slot_of};
 ghost use Rattle.dasd_pool.specs.Count.{Rose};
-ghost use Rattle.dasd_pool.specs.Disk.{IsSynced};
+ghost use Rattle.dasd_pool.specs.Disk.{IsSynced, LeavesOnly, Runs, none};
 ghost use Rattle.move_core.specs.Facts.{shown};
 ghost use Rattle.move_core.specs.Runs.{IsRun, Ended};
+ghost use Rattle.redo_core.specs.Phases.{of_commit};
+ghost use Rattle.redo_core.specs.Reading.{journal_of};
 ghost use Rattle.unit_load.specs.Reads.{OnlyReads};
 ghost use Rattle.unit_steps.specs.Laws.{AreSized};
 ghost use Rattle.unit_steps.specs.Plans.{IsPlan};
-ghost use Rattle.unit_steps.specs.Rendering.{WereRendered, units_after};
+ghost use Rattle.unit_steps.specs.Rendering.{WereRendered, entries_of, units_after};
 ghost use Rattle.unit_session.specs.Sessions.{IsSameSession};
 ghost use Rattle.unit_session.specs.declared.copies.Copies.{Copies as CopiesOf};
 ghost use Rattle.unit_session.specs.Copies.{OnCopies, MayCopy, HaveTexts, IsLookFault, OnlyWrites, CopiesLeave, IsShortFor, contents_of, may_write_for};
-ghost use Rattle.unit_session.specs.Planned.{pool_planned, pool_copied, pool_switched, done_by, pending_by, IsPlanFault, IsKeptAs, MayBegin, IsReady};
+ghost use Rattle.unit_session.specs.Planned.{pool_planned, pool_copied, pool_switched, done_by, pending_by, IsPlanFault, IsKeptAs, MayBegin, IsReady, SparesUnchanged};
 
 use crate::copies::{Copies, copies_of};
 use crate::copying::{look_at_texts, place_copies};
@@ -123,6 +125,7 @@ impl<P: Pool> Session<P> {
     pub fn plan(self, plan: Plan) -> Result<Planned<P>, PlanStop<P>>
         requires { IsPlan self.units plan }
         ensures run { IsRun P.tells (shown P.Pool self.pool) (shown P.Pool (pool_planned result)) (Unit {0}) [] None }
+        ensures writes { P.tells → Runs none (P.disk self.pool) (P.disk (pool_planned result)) }
         ensures session { IfOk result (λ planned. IsSameSession P.Pool self planned.session) }
         ensures plan { IfOk result (λ planned. planned.plan ≡ plan) }
         ensures allowed { IfOk result (λ planned. MayBegin self.room self.units plan.changes) }
@@ -144,6 +147,7 @@ impl<P: Pool> Session<P> {
     fn prepare(&mut self, plan: &Plan) -> Result<Work, PlanFault>
         requires { IsPlan self.old.units plan.now }
         ensures run { IsRun P.tells (shown P.Pool self.old.pool) (shown P.Pool self.new.pool) (Unit {0}) [] None }
+        ensures writes { P.tells → Runs none (P.disk self.old.pool) (P.disk self.new.pool) }
         ensures session { IsSameSession P.Pool self.old self.new }
         ensures ready { IfOk result (λ work. IsReady P.Pool (record { session = self.new; plan = plan.now; copies = work.copies; rendered = work.rendered.items; entries = work.entries }) work.slot.items) }
         ensures allowed { OnOk result (MayBegin self.old.room self.old.units plan.now.changes) }
@@ -216,6 +220,7 @@ impl<P: Pool> Planned<P> {
     /// Copies texts to the new tracks, past the journal, and makes them durable with one sync, also where there are none.
     pub fn copy(self) -> Result<Copied<P>, Broken<P>>
         ensures run { IsRun P.tells (shown P.Pool self.session.pool) (shown P.Pool (pool_copied result)) (Ended result) [] None }
+        ensures writes { P.tells → Runs (may_write_for self.copies) (P.disk self.session.pool) (P.disk (pool_copied result)) }
         ensures plan { IfOk result (λ next. next.plan ≡ self.plan) }
         ensures rendered { IfOk result (λ next. next.rendered ≡ self.rendered) }
         ensures entries { IfOk result (λ next. next.entries ≡ self.entries) }
@@ -275,6 +280,14 @@ impl<P: Pool> Copied<P> {
     /// Makes the step, by one commit of the tracks of VTOCs that it changes.
     pub fn switch(self) -> Result<Session<P>, Broken<P>>
         ensures run { IsRun P.tells (shown P.Pool self.session.pool) (shown P.Pool (pool_switched result)) (Ended result) (done_by self.plan.step result) (pending_by self.plan.step result) }
+
+        // Blocks of the journal are written, and those of the entries. Each is another slot than its block holds, so that a stop leaves every block of a
+        // volume that stays the same with its bytes.
+        ensures writes { P.tells → Runs (of_commit (journal_of (P.shape self.session.pool)) self.entries) (P.disk self.session.pool) (P.disk (pool_switched result)) }
+        ensures spared { P.tells → LeavesOnly (P.disk self.session.pool) (P.disk (pool_switched result))
+            (SparesUnchanged (P.shape self.session.pool) (P.disk self.session.pool).state.contents self.entries) }
+        ensures entries { self.entries ≡ entries_of self.plan.changes self.rendered }
+
         ensures plan { IsPlan self.session.units self.plan }
         ensures rendered { WereRendered self.session.units self.session.vtocs self.plan.changes self.rendered }
         ensures units { IfOk result (λ session. session.units ≡ units_after self.session.units self.plan.changes self.rendered) }

@@ -217,6 +217,7 @@ impl<P: Pool> Session<P> {
         requires size { length buf.old ≡ (P.shape self.old.pool).block_size unit }
         ensures bytes { P.tells → OnOk result (buf.new ≡ (P.disk self.old.pool).state.contents unit track) }
         ensures run { IsRun P.tells (shown P.Pool self.old.pool) (shown P.Pool self.new.pool) (Unit {0}) [] None }
+        ensures writes { P.tells → Runs none (P.disk self.old.pool) (P.disk self.new.pool) }
         ensures cause { IsErr result → Rose (P.faults self.old.pool) (P.faults self.new.pool) }
         ensures same { IsSameSession P.Pool self.old self.new }
     {

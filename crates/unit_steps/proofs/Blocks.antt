@@ -1,8 +1,8 @@
 -- The blocks of a rendered change: tracks of the VTOC in ascending order, each as long as its slot is.
-use Rattle.std.proofs.Common.{◌≡◌, ◌≢◌, ◌⊎◌, inl, inr, ℕ, ◌+◌, ◌-◌, ◌*◌, ◌<◌, ◌≤◌, List, [], ◌∷◌, ◌++◌, length, take, drop, replicate, All, Contains, Bool, Option, Some, None, false, refl, sym, ap, subst, ◌∙◌, arith}
+use Rattle.std.proofs.Common.{◌≡◌, ◌≢◌, ◌⊎◌, inl, inr, ℕ, ◌+◌, ◌-◌, ◌*◌, ◌<◌, ◌≤◌, List, [], ◌∷◌, ◌++◌, length, take, drop, replicate, map, All, Any, Contains, Bool, Option, Some, None, false, refl, sym, ap, subst, ◌∙◌, arith}
 use Rattle.std.specs.Prelude.{cond, slice_index_or}
 use Rattle.std.proofs.lemmas.Bool.{eq-eqb, ne_eqb}
-use Rattle.std.proofs.lemmas.List.{length-append, length-replicate, length-take, length-drop}
+use Rattle.std.proofs.lemmas.List.{get_or-map, length-append, length-replicate, length-take, length-drop}
 use Rattle.std.proofs.lemmas.List.Elements.{All-contains, All-contains_itself, All-get_or, All-weaker, All-head, All-tail}
 use Rattle.ckd_image.specs.declared.device.Device.{Device}
 use Rattle.ckd_image.specs.declared.device.Device.TheVariants.{D3390, D3380}
@@ -21,7 +21,7 @@ use Rattle.vtoc_core.specs.declared.volume.Volume.{Volume}
 use Rattle.vtoc_layout.proofs.Distinct.{first_or_later, in_none}
 use Rattle.vtoc_load.specs.LoadedVtoc.{IsLoadedVtoc}
 use Rattle.vtoc_write.specs.declared.blocks.Block.{Block}
-use Rattle.vtoc_write.specs.Edited.{text_after}
+use Rattle.vtoc_write.specs.Edited.{rec_after, text_after}
 use Rattle.vtoc_write.specs.Written.{slot_at, block_of, IsRewritten, IsBlockFor, AreAscending, AreRewritten}
 use Rattle.vtoc_write.proofs.Texts.{front_within, long_after, short_slot}
 use Rattle.vtoc_rewrite.proofs.Addresses.{one_text_anywhere}
@@ -73,6 +73,11 @@ pub record AreBlocksOf (run : Run) (size : ℕ) (blocks : List Block) : Type 0 w
 
 -- ---- a slot that is written anew
 
+-- where a list is the same after each of its elements was changed, none was
+none_changes : {X : Type 0} (change : X → X) (list : List X) → map change list ≡ list → ¬ Any (λ x. change x ≢ x) list
+none_changes change list same (k, x, less, at, other) =
+    other (ap change (sym at) ∙ sym (get_or-map change list k x x less) ∙ ap (λ (l : List _). slice_index_or l k x) same ∙ at)
+
 slot_whole : (edits : List Placed) (heads track : ℕ) (old new : List ℕ) (text : Track) → length old ≤ 65536 → IsTrackText (address_of heads track) old text → All IsDscbRecord text.recs
     → IsRewritten edits heads track old new → length new ≡ length old
 slot_whole edits heads track old new text short stands shaped is =
@@ -84,6 +89,14 @@ slot_whole edits heads track old new text short stands shaped is =
     let within : length (track_text at is.text) ≤ length old = front_within (track_text at is.text) old is.stands.text in
     let whole : length new ≡ length (spelled ++ replicate (length old - length spelled) 0) = ap length is.new_is in
     omega (arith, whole, length-append spelled (replicate (length old - length spelled) 0), length-replicate {A = ℕ} (length old - length spelled) 0, as_long, within)
+
+-- it isn't the slot that was there
+slot_anew : (edits : List Placed) (heads track : ℕ) (old new : List ℕ) → length old ≤ 65536 → IsRewritten edits heads track old new → new ≢ old
+slot_anew edits heads track old new short is same =
+    let at : TrackAt = address_of heads track in
+    let stands : IsTrackText at old (text_after edits track is.text) = subst (λ (slot : List ℕ). IsTrackText at slot (text_after edits track is.text)) same is.new_stands in
+    let texts : text_after edits track is.text ≡ is.text = one_text_anywhere at old (text_after edits track is.text) is.text short stands is.stands in
+    none_changes (rec_after edits track) is.text.recs (ap (λ (t : Track). t.recs) texts) is.changes
 
 -- ---- the slots of a VTOC
 
@@ -153,8 +166,15 @@ has_dscbs heads track slot (Some dscbs) some read = (read.text, read.stands, rea
 
 module _ {head : Head} {unit : Slots} {sliding : Bool} {label : _} {slots : List ℕ} {volume : Volume} {vtoc : Vtoc} {four : Placed} (was : WasLoaded head label unit sliding slots volume vtoc four)
     (edits : List Placed) (blocks : List Block) (rewritten : AreRewritten edits head.device vtoc.run slots blocks) where
-  block_whole : (block : Block) → Contains blocks block → length block.slot ≡ slot_of head.device
-  block_whole block there =
+  -- a block is the slot of its track written anew
+  record OwnBlock (block : Block) : Type 0 where
+    k : ℕ
+    less : k < vtoc.run.len
+    at : vtoc.run.first + k ≡ block.track
+    own : IsRewritten edits (heads_of head.device) (vtoc.run.first + k) (unit (vtoc.run.first + k)) block.slot
+
+  own_block : (block : Block) → Contains blocks block → OwnBlock block
+  own_block block there =
       let heads = heads_of head.device in
       let k = block.track - vtoc.run.first in
       let low : vtoc.run.first ≤ block.track = All-contains (λ (b : Block). vtoc.run.first ≤ b.track) blocks block rewritten.upto.above there in
@@ -168,12 +188,26 @@ module _ {head : Head} {unit : Slots} {sliding : Bool} {label : _} {slots : List
       let own : IsBlockFor edits heads (vtoc.run.first + k) (unit (vtoc.run.first + k)) (Some block) =
       subst (λ (slot : List ℕ). IsBlockFor edits heads (vtoc.run.first + k) slot (Some block)) slot_is
       (subst (IsBlockFor edits heads (vtoc.run.first + k) (slot_at (slot_of head.device) slots k)) found (rewritten.upto.each k less)) in
+      record { k = k; less = less; at = at; own = own }
+
+  block_whole : (block : Block) → Contains blocks block → length block.slot ≡ slot_of head.device
+  block_whole block there =
+      let heads = heads_of head.device in
+      let it = own_block block there in
+      let k = it.k in
       let dscbs = slice_index_or vtoc.tracks k None in
-      let some : dscbs ≢ None = All-get_or (λ dscbs. dscbs ≢ None) vtoc.tracks k None (omega (arith, less, was.stands.stands.reading.whole)) (tracks_stand was) in
+      let some : dscbs ≢ None = All-get_or (λ dscbs. dscbs ≢ None) vtoc.tracks k None (omega (arith, it.less, was.stands.stands.reading.whole)) (tracks_stand was) in
       let heads_are : vtoc.heads ≡ heads = was.stands.stands.heads_are in
-      let read = has_dscbs heads (vtoc.run.first + k) (unit (vtoc.run.first + k)) dscbs some (was.stands.stands.reading.each k less) in
-      slot_whole edits heads (vtoc.run.first + k) (unit (vtoc.run.first + k)) block.slot read.0 (omega (arith, was.long k less, short_slot head.device)) read.1 read.2 own
-      ∙ was.long k less
+      let read = has_dscbs heads (vtoc.run.first + k) (unit (vtoc.run.first + k)) dscbs some (was.stands.stands.reading.each k it.less) in
+      slot_whole edits heads (vtoc.run.first + k) (unit (vtoc.run.first + k)) block.slot read.0 (omega (arith, was.long k it.less, short_slot head.device)) read.1 read.2 it.own
+      ∙ was.long k it.less
+
+  -- it isn't what the track holds
+  block_anew : (block : Block) → Contains blocks block → block.slot ≢ unit block.track
+  block_anew block there same =
+      let it = own_block block there in
+      slot_anew edits (heads_of head.device) (vtoc.run.first + it.k) (unit (vtoc.run.first + it.k)) block.slot (omega (arith, was.long it.k it.less, short_slot head.device)) it.own
+      (same ∙ ap unit (sym it.at))
 
   found_blocks : AreBlocksOf vtoc.run (slot_of head.device) blocks
   found_blocks = record {
@@ -183,16 +217,32 @@ module _ {head : Head} {unit : Slots} {sliding : Bool} {label : _} {slots : List
     whole = All-weaker (Contains blocks) (λ (b : Block). length b.slot ≡ slot_of head.device) block_whole blocks (All-contains_itself blocks);
   }
 
+-- its edits, on the slots that it was rendered on
+wrote_from : {head : List ℕ} {blocks : ℕ} {volume : Volume} {slots : List ℕ} (from : IsFromSlots head blocks volume slots) (change : Change) (rendered : Rendered)
+    → OfEachVtoc volume slots (IsChangeWritten volume slots change rendered)
+    → (edits : List Placed) × AreRewritten edits from.image.device from.loaded.vtoc.run slots rendered.blocks
+wrote_from {volume} {slots} from change rendered each =
+    let wrote = rewritten_of volume slots change rendered from.loaded.vtoc (four from.loaded (few from) (home_short from))
+    (each from.image from.label from.unit false from.loaded.vtoc (four from.loaded (few from) (home_short from)) (from_slots from)) in
+    let device = from.loaded.volume.device_is in
+    let run = from.loaded.volume.vtoc_is in (
+      wrote.0,
+      subst (λ (d : Device). AreRewritten wrote.0 d from.loaded.vtoc.run slots rendered.blocks) device
+          (subst (λ (r : Run). AreRewritten wrote.0 volume.device r slots rendered.blocks) run wrote.1),
+    )
+
 pub rendered_blocks : {head : List ℕ} {blocks : ℕ} {volume : Volume} {slots : List ℕ} (from : IsFromSlots head blocks volume slots) (change : Change) (rendered : Rendered)
     → OfEachVtoc volume slots (IsChangeWritten volume slots change rendered) → AreBlocksOf volume.vtoc (slot_of volume.device) rendered.blocks
 rendered_blocks {volume} {slots} from change rendered each =
+    let wrote = wrote_from from change rendered each in
+    subst (λ (d : Device). AreBlocksOf volume.vtoc (slot_of d) rendered.blocks) (sym from.loaded.volume.device_is)
+    (subst (λ (r : Run). AreBlocksOf r (slot_of from.image.device) rendered.blocks) (sym from.loaded.volume.vtoc_is)
+    (found_blocks (from_slots from) wrote.0 rendered.blocks wrote.1))
+
+-- each is another slot than its track holds
+pub rendered_anew : {head : List ℕ} {blocks : ℕ} {volume : Volume} {slots : List ℕ} (from : IsFromSlots head blocks volume slots) (change : Change) (rendered : Rendered)
+    → OfEachVtoc volume slots (IsChangeWritten volume slots change rendered) → All (λ block. block.slot ≢ from.unit block.track) rendered.blocks
+rendered_anew {volume} {slots} from change rendered each =
     let was = from_slots from in
-    let wrote = rewritten_of volume slots change rendered from.loaded.vtoc (four from.loaded (few from) (home_short from))
-    (each from.image from.label from.unit false from.loaded.vtoc (four from.loaded (few from) (home_short from)) was) in
-    let device = from.loaded.volume.device_is in
-    let run = from.loaded.volume.vtoc_is in
-    let moved : AreRewritten wrote.0 from.image.device from.loaded.vtoc.run slots rendered.blocks =
-    subst (λ (d : Device). AreRewritten wrote.0 d from.loaded.vtoc.run slots rendered.blocks) device
-    (subst (λ (r : Run). AreRewritten wrote.0 volume.device r slots rendered.blocks) run wrote.1) in
-    subst (λ (d : Device). AreBlocksOf volume.vtoc (slot_of d) rendered.blocks) (sym device)
-    (subst (λ (r : Run). AreBlocksOf r (slot_of from.image.device) rendered.blocks) (sym run) (found_blocks was wrote.0 rendered.blocks moved))
+    let wrote = wrote_from from change rendered each in
+    All-weaker (Contains rendered.blocks) (λ (b : Block). b.slot ≢ from.unit b.track) (block_anew was wrote.0 rendered.blocks wrote.1) rendered.blocks (All-contains_itself rendered.blocks)

@@ -7,6 +7,7 @@ pub mod Blocks
 pub mod Placing
 pub mod Readying
 pub mod Switching
+pub mod Anew
 pub mod Cutting
 pub mod Units
 pub mod Rows

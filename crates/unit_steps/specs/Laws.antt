@@ -1,8 +1,9 @@
 -- What holds of plans, whatever carries them out.
-use Rattle.std.specs.Prelude.{◌≡◌, ◌≢◌, ℕ, ◌-◌, ◌/◌, ◌<◌, ◌≤◌, Bool, true, List, length, All}
+use Rattle.std.specs.Prelude.{◌≡◌, ◌≢◌, ℕ, ◌-◌, ◌/◌, ◌<◌, ◌≤◌, Bool, true, false, List, length, All}
 use Rattle.dasd_pool.specs.Calls.{size_in}
 use Rattle.dasd_pool.specs.Disk.{Image, Shape, State}
-use Rattle.redo_core.specs.Reading.{journal_of, placed}
+use Rattle.redo_core.specs.Phases.{targets}
+use Rattle.redo_core.specs.Reading.{among, journal_of, placed}
 use Rattle.volume_model.specs.Unit.{UnitModel}
 use Rattle.vtoc_core.specs.declared.volume.Volume.{Volume}
 use Rattle.volume_change.specs.declared.change.Change.{Change}
@@ -58,6 +59,14 @@ SwitchedUnitsLoad =
     → AreOfUnits changes → All (λ change. change.1 ≢ Mark) changes → VtocsAfter units old changes rendered new
     → AreLoaded shape (placed contents (entries_of changes rendered)) (units_after units changes rendered)
     × AreVtocsOf (placed contents (entries_of changes rendered)) (units_after units changes rendered) new
+
+-- The entries of rendered changes are other slots than their blocks hold: a block that holds the same with them in place has none.
+abbrev pub UnchangedHaveNoEntry : Type 0
+UnchangedHaveNoEntry =
+    (shape : Shape) (room : ℕ) (contents : Image) (units : List UnitState) (vtocs : List (List ℕ)) (changes : List (ℕ × Change)) (rendered : List Rendered)
+    → KeepVtocs shape units vtocs → AreLoaded shape contents units → AreVtocsOf contents units vtocs → WereRendered units vtocs changes rendered
+    → AreReady shape room (entries_of changes rendered)
+    → (u b : ℕ) → placed contents (entries_of changes rendered) u b ≡ contents u b → among (targets (entries_of changes rendered)) u b ≡ false
 
 -- A plan's changes are of at most two units, and none is a mark.
 abbrev pub PlansAreSmall : Type 0

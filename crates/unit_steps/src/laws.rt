@@ -1,6 +1,6 @@
 //! What holds of plans, of the tracks that are copied for one, and of the commit that makes its step.
 
-ghost use Rattle.unit_steps.specs.Laws.{FreeTracksMayBeWritten, CopiedUnitsLoad, PlansAreSmall, EntriesAreReady, PatchedVtocsAreKept, SwitchedUnitsLoad, PlansTakeUnits};
+ghost use Rattle.unit_steps.specs.Laws.{FreeTracksMayBeWritten, CopiedUnitsLoad, PlansAreSmall, EntriesAreReady, UnchangedHaveNoEntry, PatchedVtocsAreKept, SwitchedUnitsLoad, PlansTakeUnits};
 
 /// Free tracks may be written: no meaning rests on one, and each unit loads as it did.
 pub fn copying_laws()
@@ -8,10 +8,12 @@ pub fn copying_laws()
     ensures loads { CopiedUnitsLoad }
 {}
 
-/// The rendered tracks of a plan's changes fit one commit, which takes the units by the plan's step; then each unit loads as it was rendered.
+/// The rendered tracks of a plan's changes fit one commit, which writes no block that stays the same and takes the units by the plan's step; then each
+/// unit loads as it was rendered.
 pub fn switching_laws()
     ensures small { PlansAreSmall }
     ensures ready { EntriesAreReady }
+    ensures unchanged { UnchangedHaveNoEntry }
     ensures kept { PatchedVtocsAreKept }
     ensures takes { PlansTakeUnits }
     ensures loads { SwitchedUnitsLoad }

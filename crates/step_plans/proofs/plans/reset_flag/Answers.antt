@@ -8,6 +8,6 @@ returns-then-as_slice-gt-MOST_EXTENTS-clause-none c =
 
 pub returns-clause-plan : goal.returns-clause-plan
 returns-clause-plan c =
-    reset_plan c.args.volume.now c.args.unit c.args.name c.in-Some.row.now c.in_ok-reset_row.field-0 c.in_ok-plan_of.field-0 c.requires.sound c.in-Some.ensures.found
+    reset_plan c.args.volume.now c.args.unit c.args.name c.in-Some.row.now c.in_ok-reset_row.field-0 c.in_ok-quiet_plan.field-0 c.requires.sound c.in-Some.ensures.found
     (omega (arith, ap length c.as_slice.ensures, c.if-as_slice-gt-MOST_EXTENTS.false)) c.in_ok-reset_row.ensures.name c.in_ok-reset_row.ensures.front c.in_ok-reset_row.ensures.fields
-    c.in_ok-reset_row.ensures.extents c.in_ok-plan_of.ensures.step c.in_ok-plan_of.ensures.tracks c.in_ok-plan_of.ensures.changes
+    c.in_ok-reset_row.ensures.extents c.in_ok-quiet_plan.ensures.step c.in_ok-quiet_plan.ensures.tracks c.in_ok-quiet_plan.ensures.changes

@@ -20,7 +20,7 @@ returns-then-extents-gt-MOST_EXTENTS-clause-none c = elim c.then-extents-gt-MOST
       inr (inr (
         c.in-Some.row.now,
         c.in-Some.ensures.found,
-        omega (arith, ap (λ (extents : List Extent). length (tracks_of (extents_from c.args.volume.now.device extents))) c.as_slice-extents.ensures, w.count_tracks.ensures, w.from.ensures, w.if-count_tracks-from.true),
+        omega (arith, ap (λ (extents : List Extent). length (tracks_of (extents_from c.args.volume.now.device extents))) c.as_slice-extents.ensures, w.count_tracks.ensures.count, w.from.ensures, w.if-count_tracks-from.true),
       ))
 ]
 
@@ -31,9 +31,9 @@ cut_extents-requires c = record {
 
 pub returns-clause-plan : goal.returns-clause-plan
 returns-clause-plan c =
-    shrink_plan c.args.volume.now c.args.unit c.args.name c.args.keep c.in-Some.row.now _ c.in_ok-plan_of.field-0 c.requires.sound c.in-Some.ensures.found
+    shrink_plan c.args.volume.now c.args.unit c.args.name c.args.keep c.in-Some.row.now _ c.in_ok-quiet_plan.field-0 c.requires.sound c.in-Some.ensures.found
     (omega (arith, ap length c.as_slice-extents.ensures, c.if-extents-gt-MOST_EXTENTS.false))
-    (omega (arith, ap (λ (extents : List Extent). length (tracks_of (extents_from c.args.volume.now.device extents))) c.as_slice-extents.ensures, c.count_tracks.ensures, c.from.ensures, c.if-count_tracks-from.false))
+    (omega (arith, ap (λ (extents : List Extent). length (tracks_of (extents_from c.args.volume.now.device extents))) c.as_slice-extents.ensures, c.count_tracks.ensures.count, c.from.ensures, c.if-count_tracks-from.false))
     refl refl
     (c.in_ok-cut_extents.ensures.cut ∙ ap (λ (extents : List Extent). cut c.args.keep (extents_from c.args.volume.now.device extents)) c.as_slice-extents.ensures)
-    c.in_ok-cut_extents.ensures.runs c.in_ok-plan_of.ensures.step c.in_ok-plan_of.ensures.tracks c.in_ok-plan_of.ensures.changes
+    c.in_ok-cut_extents.ensures.runs c.in_ok-quiet_plan.ensures.step c.in_ok-quiet_plan.ensures.tracks c.in_ok-quiet_plan.ensures.changes

@@ -1,4 +1,5 @@
 use Rattle.unit_steps.proofs.Small.{plans_small}
+use Rattle.unit_steps.proofs.Anew.{no_entry}
 use Rattle.unit_steps.proofs.Readying.{entries_ready}
 use Rattle.unit_steps.proofs.Switching.{patched_are_kept, switched_load}
 use Rattle.unit_steps.proofs.Taking.{plans_take}
@@ -18,3 +19,6 @@ returns-clause-loads c = switched_load
 
 pub returns-clause-takes : goal.returns-clause-takes
 returns-clause-takes c = plans_take
+
+pub returns-clause-unchanged : goal.returns-clause-unchanged
+returns-clause-unchanged c = no_entry

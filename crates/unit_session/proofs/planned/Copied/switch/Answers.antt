@@ -1,5 +1,5 @@
 use Rattle.std.proofs.Common.{◌≡◌, ℕ, ◌<◌, List, All, length, sym, ap, subst, ◌∙◌}
-use Rattle.dasd_pool.specs.Disk.{Shape}
+use Rattle.dasd_pool.specs.Disk.{Shape, IsSynced}
 use Rattle.redo_core.specs.Reading.{journal_of}
 use Rattle.volume_change.specs.declared.change.Change.{Change}
 use Rattle.vtoc_render.specs.declared.change.Rendered.{Rendered}
@@ -8,11 +8,12 @@ use Rattle.move_core.specs.Taking.{TakeUnits}
 use Rattle.move_core.proofs.Running.{idle_at_rest, switch_done, switch_failed}
 use Rattle.unit_steps.specs.Loaded.{AreLoaded, AreVtocsOf}
 use Rattle.unit_steps.specs.Plans.{IsPlan}
-use Rattle.unit_steps.specs.Rendering.{WereRendered, VtocsAfter, units_after}
+use Rattle.unit_steps.specs.Rendering.{AreReady, WereRendered, VtocsAfter, units_after}
 use Rattle.unit_steps.proofs.Small.{plans_small}
 use Rattle.unit_session.specs.Planned.{MayPatch}
 use Rattle.unit_session.specs.Sessions.{SessionView}
 use Rattle.unit_session.proofs.Loading.{still_free}
+use Rattle.unit_session.proofs.Sparing.{rendered_spared}
 use Rattle.unit_session.proofs.Switched.{are_there, may_patch, committed_placed, session_after, volumes_after}
 use Rattle.unit_session.proofs.planned.Copied.switch.Goals as goal
 
@@ -93,3 +94,41 @@ renewed-units-requires g c =
     subst (λ (v : SessionView _). WereRendered v.units v.vtocs p.plan.changes p.rendered.items) (sym c.session.view_is) c.self.invariant.rendered in
     subst (λ (l : List (ℕ × Change)). All (λ change. change.0 < length s.units.items) l) (sym c.as_slice-in-Ok.ensures)
     (are_there s.units.items s.vtocs.items p.plan.changes p.rendered.items were)
+
+pub returns-in-Ok-clause-writes : goal.returns-in-Ok-clause-writes
+returns-in-Ok-clause-writes g c = rw (sym c.self.view_is) (rw (sym c.session.view_is) c.in-Ok.ensures.runs)
+
+pub returns-in-Err-clause-writes : goal.returns-in-Err-clause-writes
+returns-in-Err-clause-writes g c = rw (sym c.self.view_is) (rw (sym c.session.view_is) c.in-Err.ensures.runs)
+
+pub returns-in-Ok-clause-spared : goal.returns-in-Ok-clause-spared
+returns-in-Ok-clause-spared g c =
+    let s = c.session.inside in
+    let p = c.self.inside in
+    let inv = c.session.invariant in
+    let synced : g.P.Pool.tells → IsSynced (g.P.Pool.disk s.journal.pool).state =
+    λ told. subst (λ (v : SessionView _). IsSynced (g.P.Pool.disk v.pool).state) (sym c.session.view_is) (c.self.invariant.synced told) in
+    let ready : AreReady (g.P.Pool.shape s.journal.pool) s.journal.room p.entries =
+    subst (λ (v : SessionView _). AreReady (g.P.Pool.shape v.pool) v.room p.entries) (sym c.session.view_is) c.self.invariant.entries in
+    let were : WereRendered s.units.items s.vtocs.items p.plan.changes p.rendered.items =
+    subst (λ (v : SessionView _). WereRendered v.units v.vtocs p.plan.changes p.rendered.items) (sym c.session.view_is) c.self.invariant.rendered in
+    rw (sym c.self.view_is)
+    (rw (sym c.session.view_is)
+    (λ told. rendered_spared (g.P.Pool.shape s.journal.pool) (g.P.Pool.disk s.journal.pool) (g.P.Pool.disk c.in-Ok.journal.pool) s.journal.room s.units.items s.vtocs.items p.plan.changes p.rendered.items p.entries
+    inv.3 (inv.4 told) (inv.5 told) were c.self.invariant.entries_are ready (synced told) (c.in-Ok.ensures.runs told)))
+
+pub returns-in-Err-clause-spared : goal.returns-in-Err-clause-spared
+returns-in-Err-clause-spared g c =
+    let s = c.session.inside in
+    let p = c.self.inside in
+    let inv = c.session.invariant in
+    let synced : g.P.Pool.tells → IsSynced (g.P.Pool.disk s.journal.pool).state =
+    λ told. subst (λ (v : SessionView _). IsSynced (g.P.Pool.disk v.pool).state) (sym c.session.view_is) (c.self.invariant.synced told) in
+    let ready : AreReady (g.P.Pool.shape s.journal.pool) s.journal.room p.entries =
+    subst (λ (v : SessionView _). AreReady (g.P.Pool.shape v.pool) v.room p.entries) (sym c.session.view_is) c.self.invariant.entries in
+    let were : WereRendered s.units.items s.vtocs.items p.plan.changes p.rendered.items =
+    subst (λ (v : SessionView _). WereRendered v.units v.vtocs p.plan.changes p.rendered.items) (sym c.session.view_is) c.self.invariant.rendered in
+    rw (sym c.self.view_is)
+    (rw (sym c.session.view_is)
+    (λ told. rendered_spared (g.P.Pool.shape s.journal.pool) (g.P.Pool.disk s.journal.pool) (g.P.Pool.disk c.in-Err.stop.pool) s.journal.room s.units.items s.vtocs.items p.plan.changes p.rendered.items p.entries
+    inv.3 (inv.4 told) (inv.5 told) were c.self.invariant.entries_are ready (synced told) (c.in-Err.ensures.runs told)))

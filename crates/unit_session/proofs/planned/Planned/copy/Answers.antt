@@ -59,6 +59,7 @@ invariant_of-result-in-Ok g c =
       rendered = ready.rendered;
       entries_are = ready.entries_are;
       entries = entries_copied g.P.Pool old new s.units.items s.vtocs.items p.plan p.work.copies inv.2 inv.3 ready.plan ready.copies does.writes p.work.entries ready.entries;
+      synced = c.in-Ok.ensures.synced;
       takes = λ told.
           takes_copied g.P.Pool old new s.units.items s.vtocs.items p.plan p.work.copies inv.2 inv.3 ready.plan ready.copies does.writes told (inv.4 told) (inv.5 told)
           (c.in-Ok.ensures.short told) p.work.rendered.items ready.rendered (ready.texts told) (c.in-Ok.ensures.copied told) p.work.entries ready.entries_are;
@@ -108,3 +109,9 @@ returns-in-Err-clause-run g c =
     (writes_unused (g.P.Pool.shape s.journal.pool) (g.P.Pool.disk s.journal.pool).state s.units.items s.vtocs.items p.plan p.work.copies inv.2 inv.3 ready.plan ready.copies
     (λ told. inv.4 told) (λ told. idle_at_rest (c.control-control.ensures.says told) inv.0.idle inv.0.closed))
     writes.runs)))
+
+pub returns-in-Ok-clause-writes : goal.returns-in-Ok-clause-writes
+returns-in-Ok-clause-writes g c = rw (sym c.self.view_is) (rw (sym c.session.view_is) c.make_copies.ensures.writes.runs)
+
+pub returns-in-Err-clause-writes : goal.returns-in-Err-clause-writes
+returns-in-Err-clause-writes g c = rw (sym c.self.view_is) (rw (sym c.session.view_is) (rw c.into_pool.ensures c.make_copies.ensures.writes.runs))

@@ -20,3 +20,6 @@ invariant_of-self g c =
 
 pub returns-clause-run : goal.returns-clause-run
 returns-clause-run g c = rw (sym c.self.view_is) (run_still c.read.ensures.shape c.read.ensures.cause.later (λ not. absurd (not tt)) c.read.ensures.runs)
+
+pub returns-clause-writes : goal.returns-clause-writes
+returns-clause-writes g c = rw (sym c.self.view_is) c.read.ensures.runs
