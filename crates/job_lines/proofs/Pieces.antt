@@ -35,6 +35,15 @@ offline_together text name why shown cause is name-is why-is =
     regroup : (U n O w : List ℕ) → U ++ (n ++ (O ++ w)) ≡ U ++ n ++ O ++ w
     regroup U n O w = simp append_assoc
 
+pub consolidated_together : (text name shown : List ℕ) (extents first : ℕ) → text ≡ name ++ (codes " CONSOLIDATED FROM " ++ (decimal extents ++ (codes " EXTENTS TO " ++ decimal first)))
+    → name ≡ shown → text ≡ shown ++ codes " CONSOLIDATED FROM " ++ decimal extents ++ codes " EXTENTS TO " ++ decimal first
+consolidated_together text name shown extents first is name-is =
+    is ∙ (λ i. name-is i ++ (codes " CONSOLIDATED FROM " ++ (decimal extents ++ (codes " EXTENTS TO " ++ decimal first))))
+    ∙ regroup shown (codes " CONSOLIDATED FROM ") (decimal extents) (codes " EXTENTS TO ") (decimal first)
+  where
+    regroup : (n C e E f : List ℕ) → n ++ (C ++ (e ++ (E ++ f))) ≡ n ++ C ++ e ++ E ++ f
+    regroup n C e E f = simp append_assoc
+
 -- the text of an extent
 pub extent_together : (text : List ℕ) (extent : ExtentSummary)
     → text ≡ codes "EXTENT " ++ (decimal extent.number ++ (codes " KIND " ++ (hex extent.kind ++ (codes " FROM " ++ (decimal extent.first ++ (codes " LENGTH " ++ decimal extent.tracks))))))

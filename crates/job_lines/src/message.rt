@@ -67,6 +67,8 @@ pub enum Message {
     Extent(ExtentSummary),
     /// A data set, by its name in the code page, and how many of its tracks were given back.
     Released([u8; 44], u32),
+    /// A data set that stood in so many extents, and the first track of the one in which it stands now.
+    Consolidated([u8; 44], usize, u32),
     /// The filter takes no data set.
     NothingSelected,
     /// The free space of the volume with this serial was stated anew.

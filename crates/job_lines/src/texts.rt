@@ -27,6 +27,9 @@ pub(crate) fn text_in(alloc: Global, message: &Message) -> Result<String, AllocE
         Message::Set(set) => set_text(alloc, *set),
         Message::Extent(extent) => extent_text(alloc, *extent),
         Message::Released(name, tracks) => released_text(alloc, name, *tracks),
+        Message::Consolidated(name, extents, first) => {
+            consolidated_text(alloc, name, *extents, *first)
+        }
         Message::NothingSelected => String::from_str(alloc, "NOTHING SELECTED"),
         Message::Rebuilt(serial) => rebuilt_text(alloc, *serial),
         Message::NotProcessed(name, reason, _) => not_processed_text(alloc, name, *reason),
@@ -119,6 +122,18 @@ fn released_text(alloc: Global, name: &[u8; 44], tracks: u32) -> Result<String, 
 {
     let name = printed_name(alloc, name)?;
     format!(in alloc; "{name} RELEASED {tracks}")
+}
+
+fn consolidated_text(
+    alloc: Global,
+    name: &[u8; 44],
+    extents: usize,
+    first: u32,
+) -> Result<String, AllocError>
+    ensures { IfOk result (λ text. string_bytes text ≡ printed name.now ++ codes " CONSOLIDATED FROM " ++ decimal extents ++ codes " EXTENTS TO " ++ decimal first) }
+{
+    let name = printed_name(alloc, name)?;
+    format!(in alloc; "{name} CONSOLIDATED FROM {extents} EXTENTS TO {first}")
 }
 
 fn rebuilt_text(alloc: Global, serial: Serial) -> Result<String, AllocError>

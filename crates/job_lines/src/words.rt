@@ -32,6 +32,7 @@ pub(crate) fn number_of(message: &Message) -> u16
         Message::Set(_) => 111,
         Message::Extent(_) => 112,
         Message::Released(..) => 120,
+        Message::Consolidated(..) => 127,
         Message::NothingSelected => 201,
         Message::Rebuilt(_) => 202,
         Message::NotProcessed(_, reason, _) => reason_number(*reason),

@@ -19,16 +19,16 @@ use Rattle.job_steps.specs.declared.cut.Cut.{Cut}
 use Rattle.job_ops.specs.Asked.{IsUnitFor}
 use Rattle.job_ops.specs.Ends.{ForUnits, Ends}
 use Rattle.job_ops.specs.Refusal.{Standing, standing_of, standing_in, Refuses, Lets}
-use Rattle.job_ops.specs.Release.{changed, GoesThrough, Releases, IsCutRelease, ReleasesSet}
+use Rattle.job_ops.specs.Sets.{changed, GoesThrough, OverSets, IsCutOverSets}
 use Rattle.job_ops.specs.Setting.{setting_of, facts_of}
-use Rattle.job_ops.specs.Turns.{Turns, AreCutTurns}
+use Rattle.job_ops.specs.Turns.{Action, Turns, AreCutTurns}
 use Rattle.job_ops.proofs.SameSessions.{ends_as}
 use Rattle.job_ops.proofs.Standing.{standings_are, volume_of}
 
-module _ {P : Type 0} (pools : Ghosts P) (session : SessionView P) (held : List Hold) (today : Day) (filter : Filter) (serial : Serial) (models : ForUnits pools session (AreModels session.units)) where
+module _ {P : Type 0} (pools : Ghosts P) (Turn : ℕ → Dsn → Action) (session : SessionView P) (held : List Hold) (today : Day) (filter : Filter) (serial : Serial) (models : ForUnits pools session (AreModels session.units)) where
   -- what refuses it as it was loaded refuses it
   pub refuses : (message : Message) → Refuses session.names session.room (map standing_in session.units) (changed serial ∷ []) message
-      → ForUnits pools session (λ units. Releases (setting_of pools session held today) filter serial units [] (message ∷ []))
+      → ForUnits pools session (λ units. OverSets Turn (setting_of pools session held today) filter serial units [] (message ∷ []))
   refuses message refused told units settled =
       let same : map standing_of units ≡ map standing_in session.units = standings_are session.units units (models told units settled) in
       inl (message, subst (λ (standings : List Standing). Refuses session.names session.room standings (changed serial ∷ []) message) (sym same) refused, refl, refl)
@@ -48,13 +48,13 @@ module _ {P : Type 0} (pools : Ghosts P) (session : SessionView P) (held : List 
           names_are = selects told units settled found.0 found.1;
         }
 
-    pub none_selected : names ≡ [] → ForUnits pools session (λ units. Releases (setting_of pools session held today) filter serial units [] (messages.NothingSelected ∷ []))
+    pub none_selected : names ≡ [] → ForUnits pools session (λ units. OverSets Turn (setting_of pools session held today) filter serial units [] (messages.NothingSelected ∷ []))
     none_selected none told units settled = inr (unit, names, goes told units settled, inl (none, refl, refl))
 
     pub all_turns : {steps_before steps_after : List Step} {messages_before messages_after : List Message} (result : Result (SessionView P) (Cut P)) (given : List Dsn) → given ≡ names → names ≢ []
-        → Ends pools (Turns (facts_of pools session) (ReleasesSet held unit) given) (AreCutTurns (facts_of pools session) (ReleasesSet held unit) given) session steps_before steps_after
+        → Ends pools (Turns (facts_of pools session) (Turn unit) given) (AreCutTurns (facts_of pools session) (Turn unit) given) session steps_before steps_after
         messages_before messages_after result
-        → Ends pools (Releases (setting_of pools session held today) filter serial) (IsCutRelease (setting_of pools session held today) filter serial) session steps_before steps_after
+        → Ends pools (OverSets Turn (setting_of pools session held today) filter serial) (IsCutOverSets Turn (setting_of pools session held today) filter serial) session steps_before steps_after
         messages_before messages_after result
     all_turns {steps_before} {steps_after} {messages_before} {messages_after} result given same some ends =
         ends_as pools result
@@ -62,13 +62,13 @@ module _ {P : Type 0} (pools : Ghosts P) (session : SessionView P) (held : List 
           unit,
           names,
           goes told units settled,
-          inr (some, subst (λ (list : List Dsn). Turns (facts_of pools session) (ReleasesSet held unit) list units steps said) same turns),
+          inr (some, subst (λ (list : List Dsn). Turns (facts_of pools session) (Turn unit) list units steps said) same turns),
         ))
         (λ told units settled steps pending turns. inr (
           unit,
           names,
           goes told units settled,
-          subst (λ (list : List Dsn). AreCutTurns (facts_of pools session) (ReleasesSet held unit) list units steps pending) same turns,
+          subst (λ (list : List Dsn). AreCutTurns (facts_of pools session) (Turn unit) list units steps pending) same turns,
         )) ends
 
 -- ---- whether there are names

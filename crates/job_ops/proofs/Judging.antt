@@ -1,5 +1,5 @@
--- Why a data set isn't released.
-use Rattle.std.proofs.Common.{◌≡◌, ◌≢◌, ◌⊎◌, inl, inr, ◌↔◌, ℕ, List, [], ◌∷◌, All, Contains, Bool, true, false, IsTrue, Option, None, refl, sym, ap, subst, ◌∙◌}
+-- Why a data set isn't processed.
+use Rattle.std.proofs.Common.{◌≡◌, ◌⊎◌, inl, inr, ◌↔◌, ℕ, List, [], ◌∷◌, All, Contains, IsTrue, Option, Some, None, refl, sym, ap, subst, ◌∙◌}
 use Rattle.std.specs.Prelude.{Any}
 use Rattle.std.specs.Option.{is_some}
 use Rattle.std.proofs.lemmas.Bool.{false≢true}
@@ -14,10 +14,10 @@ use Rattle.vtoc_layout.proofs.Distinct.{first_or_later, at_first, in_later, in_n
 use Rattle.move_core.specs.Stands.{IsGood}
 use Rattle.job_lines.specs.declared.message.Reason.{Reason}
 use Rattle.job_lines.specs.declared.message.Reason.TheVariants as reasons
-use Rattle.job_ops.specs.declared.release.Candidate.{Candidate}
+use Rattle.job_ops.specs.declared.asking.Candidate.{Candidate}
+use Rattle.job_ops.specs.declared.task.Task.{Task}
 use Rattle.job_ops.specs.Asked.{IsSet, IsSeen, ReasonSoFar}
-use Rattle.job_ops.specs.Reasons.{IsReason, HasNoReason, IsHeld}
-use Rattle.job_ops.specs.Release.{StaysWhole, Prevents}
+use Rattle.job_ops.specs.Reasons.{IsReason, HasNoReason, IsHeld, PreventsInPlace}
 
 -- ---- the data set that was seen
 
@@ -26,45 +26,39 @@ volume_in other (online volume) = volume
 volume_in other (offline why kept) = other
 
 -- what holds of it holds of each data set of the name
-pub at_seen : (Holds : OnlineVolume → DataSet → Type 0) {units : List UnitModel} {unit : ℕ} {name : Dsn} {candidate : Candidate} (seen : IsSeen unit name candidate units) → Holds seen.volume seen.set
+pub at_seen : (Holds : OnlineVolume → DataSet → Type 0) {task : Task} {units : List UnitModel} {unit : ℕ} {name : Dsn} {candidate : Candidate} (seen : IsSeen task unit name candidate units) → Holds seen.volume seen.set
     → (volume : OnlineVolume) (set : DataSet) → IsSet units unit name volume set → Holds volume set
-at_seen Holds {units} {unit} {name} {candidate} seen holds volume set is =
+at_seen Holds {task} {units} {unit} {name} {candidate} seen holds volume set is =
     let one : seen.volume ≡ volume = ap (volume_in volume) (same_Some (online seen.volume) (online volume) (sym seen.set_is.online_is ∙ is.online_is)) in
     let same : set ≡ seen.set = seen.alone set (subst (λ (v : OnlineVolume). Contains v.sets set) (sym one) is.there) is.name_is in
     subst (λ (v : OnlineVolume). Holds v set) one (subst (λ (s : DataSet). Holds seen.volume s) (sym same) holds)
 
 -- ---- reasons
 
-abbrev is_room : Reason → Bool
-is_room reasons.VtocFull = true
-is_room _ = false
-
-module _ (held : List Hold) (volume : OnlineVolume) (name : Dsn) (set : DataSet) where
+module _ (held : List Hold) (name : Dsn) (set : DataSet) (stays no_place no_room : Type 0) where
   abbrev Bars : Reason → Type 0
-  Bars reason = Prevents held volume name set reason
+  Bars reason = PreventsInPlace held name set stays no_place no_room reason
 
   abbrev Lets : Reason → Type 0
   Lets reason = ¬ Bars reason
 
-  long_lets : All Lets (reasons.NewNameTooLong ∷ [])
+  abbrev long_lets : All Lets (reasons.NewNameTooLong ∷ [])
   long_lets = All-cons Lets reasons.NewNameTooLong [] (λ h. h) (All-nil Lets)
 
-  -- ---- one reason
-
-  pub pinned_reason : StaysWhole volume set → IsReason Bars reasons.Pinned
-  pinned_reason stays = record {
+  pinned_reason : stays → IsReason Bars reasons.Pinned
+  pinned_reason is = record {
     front = reasons.NewNameTooLong ∷ [];
     back = reasons.Held ∷ reasons.NotExpired ∷ reasons.NameExists ∷ reasons.BadTrack ∷ reasons.NotRelocatable ∷ reasons.BlockTooLong ∷ reasons.NoSpace ∷ reasons.VtocFull ∷ [];
     list_is = refl;
-    holds = stays;
+    holds = is;
     none = long_lets;
   }
 
-  module _ (moves : ¬ StaysWhole volume set) where
+  module _ (moves : ¬ stays) where
     abbrev pinned_lets : (rest : List Reason) → All Lets rest → All Lets (reasons.NewNameTooLong ∷ reasons.Pinned ∷ rest)
     pinned_lets rest lets = All-cons Lets reasons.NewNameTooLong (reasons.Pinned ∷ rest) (λ h. h) (All-cons Lets reasons.Pinned rest moves lets)
 
-    pub held_reason : IsHeld held name → IsReason Bars reasons.Held
+    held_reason : IsHeld held name → IsReason Bars reasons.Held
     held_reason is = record {
       front = reasons.NewNameTooLong ∷ reasons.Pinned ∷ [];
       back = reasons.NotExpired ∷ reasons.NameExists ∷ reasons.BadTrack ∷ reasons.NotRelocatable ∷ reasons.BlockTooLong ∷ reasons.NoSpace ∷ reasons.VtocFull ∷ [];
@@ -80,7 +74,7 @@ module _ (held : List Hold) (volume : OnlineVolume) (name : Dsn) (set : DataSet)
           (All-cons Lets reasons.Held (reasons.NotExpired ∷ reasons.NameExists ∷ rest) free
           (All-cons Lets reasons.NotExpired (reasons.NameExists ∷ rest) (λ h. h) (All-cons Lets reasons.NameExists rest (λ h. h) lets)))
 
-      pub track_reason : ¬ All IsGood set.texts → IsReason Bars reasons.BadTrack
+      track_reason : ¬ All IsGood set.texts → IsReason Bars reasons.BadTrack
       track_reason bad = record {
         front = reasons.NewNameTooLong ∷ reasons.Pinned ∷ reasons.Held ∷ reasons.NotExpired ∷ reasons.NameExists ∷ [];
         back = reasons.NotRelocatable ∷ reasons.BlockTooLong ∷ reasons.NoSpace ∷ reasons.VtocFull ∷ [];
@@ -90,49 +84,69 @@ module _ (held : List Hold) (volume : OnlineVolume) (name : Dsn) (set : DataSet)
       }
 
       module _ (good : All IsGood set.texts) where
-        -- none so far
-        pub none_before : ReasonSoFar held volume name set None
-        none_before reasons.Pinned other h = moves h
-        none_before reasons.Held other h = free h
-        none_before reasons.BadTrack other h = h good
-        none_before reasons.VtocFull other h = other refl
-        none_before _ other h = h
+        abbrev track_lets : (rest : List Reason) → All Lets rest
+            → All Lets (reasons.NewNameTooLong ∷ reasons.Pinned ∷ reasons.Held ∷ reasons.NotExpired ∷ reasons.NameExists ∷ reasons.BadTrack ∷ reasons.NotRelocatable ∷ reasons.BlockTooLong ∷ rest)
+        track_lets rest lets =
+            held_lets (reasons.BadTrack ∷ reasons.NotRelocatable ∷ reasons.BlockTooLong ∷ rest)
+            (All-cons Lets reasons.BadTrack (reasons.NotRelocatable ∷ reasons.BlockTooLong ∷ rest) (λ bad. bad good)
+            (All-cons Lets reasons.NotRelocatable (reasons.BlockTooLong ∷ rest) (λ h. h) (All-cons Lets reasons.BlockTooLong rest (λ h. h) lets)))
 
-  -- ---- none so far
+        place_reason_so : no_place → IsReason Bars reasons.NoSpace
+        place_reason_so lacks = record {
+          front =
+              reasons.NewNameTooLong ∷ reasons.Pinned ∷ reasons.Held ∷ reasons.NotExpired ∷ reasons.NameExists ∷ reasons.BadTrack ∷ reasons.NotRelocatable ∷ reasons.BlockTooLong ∷ [];
+          back = reasons.VtocFull ∷ [];
+          list_is = refl;
+          holds = lacks;
+          none = track_lets [] (All-nil Lets);
+        }
 
-  module _ (so_far : ReasonSoFar held volume name set None) where
-    differs : (reason : Reason) → is_room reason ≡ false → reason ≢ reasons.VtocFull
-    differs reason not same = false≢true (sym not ∙ ap is_room same)
-
-    lets : (reason : Reason) → is_room reason ≡ false → Lets reason
-    lets reason not h = so_far reason (differs reason not) h
-
-    pub room_reason : Bars reasons.VtocFull → IsReason Bars reasons.VtocFull
-    room_reason full =
-        let r9 = All-cons Lets reasons.NoSpace [] (lets reasons.NoSpace refl) (All-nil Lets) in
-        let r8 = All-cons Lets reasons.BlockTooLong (reasons.NoSpace ∷ []) (lets reasons.BlockTooLong refl) r9 in
-        let r7 = All-cons Lets reasons.NotRelocatable (reasons.BlockTooLong ∷ reasons.NoSpace ∷ []) (lets reasons.NotRelocatable refl) r8 in
-        let r6 = All-cons Lets reasons.BadTrack (reasons.NotRelocatable ∷ reasons.BlockTooLong ∷ reasons.NoSpace ∷ []) (lets reasons.BadTrack refl) r7 in
-        let r5 = All-cons Lets reasons.NameExists (reasons.BadTrack ∷ reasons.NotRelocatable ∷ reasons.BlockTooLong ∷ reasons.NoSpace ∷ []) (lets reasons.NameExists refl) r6 in
-        let r4 = All-cons Lets reasons.NotExpired (reasons.NameExists ∷ reasons.BadTrack ∷ reasons.NotRelocatable ∷ reasons.BlockTooLong ∷ reasons.NoSpace ∷ []) (lets reasons.NotExpired refl) r5 in
-        let r3 = All-cons Lets reasons.Held (reasons.NotExpired ∷ reasons.NameExists ∷ reasons.BadTrack ∷ reasons.NotRelocatable ∷ reasons.BlockTooLong ∷ reasons.NoSpace ∷ []) (lets reasons.Held refl) r4 in
-        let r2 = All-cons Lets reasons.Pinned (reasons.Held ∷ reasons.NotExpired ∷ reasons.NameExists ∷ reasons.BadTrack ∷ reasons.NotRelocatable ∷ reasons.BlockTooLong ∷ reasons.NoSpace ∷ []) (lets reasons.Pinned refl) r3 in
-        record {
+        room_reason_so : ¬ no_place → no_room → IsReason Bars reasons.VtocFull
+        room_reason_so place lacks = record {
           front =
               reasons.NewNameTooLong ∷ reasons.Pinned ∷ reasons.Held ∷ reasons.NotExpired ∷ reasons.NameExists ∷ reasons.BadTrack ∷ reasons.NotRelocatable ∷ reasons.BlockTooLong
               ∷ reasons.NoSpace ∷ [];
           back = [];
           list_is = refl;
-          holds = full;
-          none = All-cons Lets reasons.NewNameTooLong (reasons.Pinned ∷ reasons.Held ∷ reasons.NotExpired ∷ reasons.NameExists ∷ reasons.BadTrack ∷ reasons.NotRelocatable ∷ reasons.BlockTooLong ∷ reasons.NoSpace ∷ []) (lets reasons.NewNameTooLong refl) r2;
+          holds = lacks;
+          none = track_lets (reasons.NoSpace ∷ []) (All-cons Lets reasons.NoSpace [] place (All-nil Lets));
         }
 
-    pub no_reason : ¬ Bars reasons.VtocFull → HasNoReason Bars
-    no_reason room reasons.VtocFull h = room h
-    no_reason room reasons.Pinned h = so_far reasons.Pinned (differs reasons.Pinned refl) h
-    no_reason room reasons.Held h = so_far reasons.Held (differs reasons.Held refl) h
-    no_reason room reasons.BadTrack h = so_far reasons.BadTrack (differs reasons.BadTrack refl) h
-    no_reason room _ h = h
+        no_reason_so : ¬ no_place → ¬ no_room → HasNoReason Bars
+        no_reason_so place room reasons.Pinned h = moves h
+        no_reason_so place room reasons.Held h = free h
+        no_reason_so place room reasons.BadTrack h = h good
+        no_reason_so place room reasons.NoSpace h = place h
+        no_reason_so place room reasons.VtocFull h = room h
+        no_reason_so place room reasons.NewNameTooLong h = h
+        no_reason_so place room reasons.NotExpired h = h
+        no_reason_so place room reasons.NameExists h = h
+        no_reason_so place room reasons.NotRelocatable h = h
+        no_reason_so place room reasons.BlockTooLong h = h
+
+  -- ---- from what was asked
+
+  pub reason_found : (reason : Reason) → ReasonSoFar held name set stays (Some reason) → IsReason Bars reason
+  reason_found reasons.Pinned is = pinned_reason is
+  reason_found reasons.Held is = held_reason is.0 is.1
+  reason_found reasons.BadTrack is = track_reason is.0 is.1 is.2
+  reason_found reasons.NewNameTooLong is = absurd is
+  reason_found reasons.NotExpired is = absurd is
+  reason_found reasons.NameExists is = absurd is
+  reason_found reasons.NotRelocatable is = absurd is
+  reason_found reasons.BlockTooLong is = absurd is
+  reason_found reasons.NoSpace is = absurd is
+  reason_found reasons.VtocFull is = absurd is
+
+  module _ (so_far : ReasonSoFar held name set stays None) where
+    pub place_reason : no_place → IsReason Bars reasons.NoSpace
+    place_reason = place_reason_so so_far.0 so_far.1 so_far.2
+
+    pub room_reason : ¬ no_place → no_room → IsReason Bars reasons.VtocFull
+    room_reason = room_reason_so so_far.0 so_far.1 so_far.2
+
+    pub no_reason : ¬ no_place → ¬ no_room → HasNoReason Bars
+    no_reason = no_reason_so so_far.0 so_far.1 so_far.2
 
 -- ---- holds
 

@@ -1,4 +1,4 @@
--- What is asked of a data set before it is released, and the data set that a unit has under the name.
+-- What is asked of a data set before anything is done with it, and the data set that a unit has under the name.
 use Rattle.std.proofs.Common.{◌≡◌, ◌⊎◌, ⊎_elim, inl, inr, ◌↔◌, ℕ, ◌<◌, ◌≤◌, List, [], ◌∷◌, length, get_or, not, Contains, IsTrue, true, false, Bool, Some, refl, sym, ap, subst, ◌∙◌, arith}
 use Rattle.std.specs.Prelude.{slice_get}
 use Rattle.std.proofs.lemmas.Bool.{cases_lt, false≢true}
@@ -13,7 +13,7 @@ use Rattle.dsn_filter.specs.Dsn.{IsDsn}
 use Rattle.redo_core.specs.declared.control.Control.{Control}
 use Rattle.redo_core.specs.declared.control.Control.TheVariants.{Idle, Slide}
 use Rattle.redo_core.specs.Reading.{journal_of}
-use Rattle.volume_model.specs.Pinned.{IsNameOf, IsPinned, IsSequentialOrPartitioned, organization_in, kept_tracks}
+use Rattle.volume_model.specs.Pinned.{IsNameOf, IsPinned, kept_tracks}
 use Rattle.volume_model.specs.Reads.{extent_in, fields_of_1}
 use Rattle.volume_model.specs.Unit.{Extent, DataSet, OnlineVolume, UnitModel, online, tracks_of}
 use Rattle.vtoc_core.specs.declared.volume.Row.{Row}
@@ -29,9 +29,11 @@ use Rattle.unit_load.specs.Kept.{IsKept}
 use Rattle.unit_steps.specs.Loaded.{IsModel}
 use Rattle.unit_steps.specs.Plans.{IsLoadedAt, HasRow}
 use Rattle.step_plans.specs.Plans.{IsSound}
-use Rattle.job_ops.specs.declared.release.Candidate.{Candidate}
-use Rattle.job_ops.specs.Asked.{MayRelease, IsCandidate, IsSeen}
-use Rattle.job_ops.specs.Release.{StaysWhole}
+use Rattle.job_ops.specs.declared.asking.Candidate.{Candidate}
+use Rattle.job_ops.specs.declared.task.Task.{Task}
+use Rattle.job_ops.specs.declared.task.Task.TheVariants as tasks
+use Rattle.job_ops.specs.Asked.{MayProcess, IsCandidate, IsSeen}
+use Rattle.job_ops.specs.Task.{StaysFor}
 use Rattle.job_ops.proofs.Judging.{volume_in}
 use Rattle.job_ops.proofs.SetsOfRows.{named_set, one_set}
 
@@ -68,15 +70,14 @@ few_extents heads row false pinned = elim (cases_lt 16 (length row.extents)) [
 
 -- ---- the data set
 
-module _ {units : List UnitState} {unit : ℕ} {name : Dsn} {candidate : Candidate} (is : IsCandidate units unit name candidate) (volume : OnlineVolume) (describes : Describes is.volume volume) where
+module _ {task : Task} {units : List UnitState} {unit : ℕ} {name : Dsn} {candidate : Candidate} (is : IsCandidate task units unit name candidate) (volume : OnlineVolume) (describes : Describes is.volume volume) where
   heads_same : heads_of volume.device ≡ heads_of is.volume.device
   heads_same = ap heads_of describes.device_is
 
-  stays_as : (set : DataSet) → DescribesSet (heads_of is.volume.device) is.row set → IsTrue candidate.stays ↔ StaysWhole volume set
-  stays_as set has =
-      subst (λ (heads : ℕ). IsTrue candidate.stays ↔ (IsPinned heads set ⊎ (¬ IsSequentialOrPartitioned (organization_in set.fields)))) (sym heads_same) (is.stays set has)
+  stays_as : (set : DataSet) → DescribesSet (heads_of is.volume.device) is.row set → IsTrue candidate.stays ↔ StaysFor task (heads_of volume.device) set
+  stays_as set has = subst (λ (heads : ℕ). IsTrue candidate.stays ↔ StaysFor task heads set) (sym heads_same) (is.stays set has)
 
-  pub seen : (models : List UnitModel) → slice_get models unit ≡ Some (online volume) → IsSeen unit name candidate models
+  pub seen : (models : List UnitModel) → slice_get models unit ≡ Some (online volume) → IsSeen task unit name candidate models
   seen models at =
       let found = named_set is.volume volume is.sound describes name is.row is.row_is in
       let set = found.0 in
@@ -89,6 +90,7 @@ module _ {units : List UnitState} {unit : ℕ} {name : Dsn} {candidate : Candida
         alone = λ other there is_named. one_set is.volume volume is.sound describes name is.row is.row_is other set there found.1 is_named named;
         name_is = is.name_is ∙ sym has.name_is;
         size_is = is.size_is ∙ ap (λ (extents : List Extent). length (tracks_of extents)) (sym has.extents_are);
+        extents_are = is.extents_are ∙ sym (ap length has.extents_are ∙ length-map is.row.extents (λ (extent : Field). extent_in (heads_of is.volume.device) (field_of extent)));
         keep_is = is.keep_is set has ∙ ap (λ (heads : ℕ). kept_tracks heads set) (sym heads_same);
         repair_is = is.repair_is ∙ sym describes.repair_is;
         serial_is = is.serial_is ∙ sym describes.serial_is;
@@ -104,7 +106,7 @@ volume_of other (states.Offline why) = other
 pub one_volume : (units : List UnitState) (unit : ℕ) (a b : Volume) → IsLoadedAt units unit a → IsLoadedAt units unit b → a ≡ b
 one_volume units unit a b one other = ap (volume_of b) (same_Some (states.Online a) (states.Online b) (sym one ∙ other))
 
-pub loaded_there : {room : ℕ} {units : List UnitState} {unit : ℕ} (name : Dsn) → MayRelease room units unit (name ∷ []) → (volume : Volume) → IsLoadedAt units unit volume → (row : Row) × HasRow volume name row
+pub loaded_there : {room : ℕ} {units : List UnitState} {unit : ℕ} (name : Dsn) → MayProcess room units unit (name ∷ []) → (volume : Volume) → IsLoadedAt units unit volume → (row : Row) × HasRow volume name row
 loaded_there {room} {units} {unit} name may volume loaded =
     subst (λ (v : Volume). (row : Row) × HasRow v name row) (one_volume units unit may.may.volume volume may.may.loaded loaded)
     (All-head (λ (n : Dsn). (row : Row) × HasRow may.may.volume n row) name [] may.sets)
@@ -122,15 +124,18 @@ found_row volume name rows place row lawful are within named at =
       name_is = subst (λ (r : Row). IsNameOf name r.name) is named;
     }
 
--- ---- whether a release changes it
+-- ---- whether a statement changes it
 
-pub stays_pinned : {pinned stays : Bool} {A B : Type 0} → stays ≡ true → (IsTrue pinned ↔ A) → pinned ≡ true → IsTrue stays ↔ (A ⊎ (¬ B))
-stays_pinned {pinned} {stays} {A} {B} is first so = (λ s. inl (first.0 so), λ h. is)
+-- no statement changes one that is pinned
+pub stays_pinned : (task : Task) (heads : ℕ) (set : DataSet) → IsPinned heads set → StaysFor task heads set
+stays_pinned tasks.Release heads set pinned = inl pinned
+stays_pinned tasks.Consolidate heads set pinned = pinned
 
-pub stays_other : {pinned stays : Bool} {A B : Type 0} (moves : Bool) → stays ≡ not moves → (IsTrue pinned ↔ A) → pinned ≡ false → (IsTrue moves ↔ B) → IsTrue stays ↔ (A ⊎ (¬ B))
-stays_other {pinned} {stays} {A} {B} true is first free second =
-    (λ s. absurd (false≢true (sym is ∙ s)), ⊎_elim (λ h. absurd (false≢true (sym free ∙ first.1 h))) (λ other. absurd (other (second.0 refl))))
-stays_other {pinned} {stays} {A} {B} false is first free second = (λ s. inr (λ h. false≢true (second.1 h)), λ h. is)
+-- a release changes one that isn't pinned if it is sequential or partitioned
+pub stays_other : {pinned : Bool} {A B : Type 0} (moves : Bool) → (IsTrue pinned ↔ A) → pinned ≡ false → (IsTrue moves ↔ B) → IsTrue (not moves) ↔ (A ⊎ (¬ B))
+stays_other true first free second =
+    (λ s. absurd (false≢true s), ⊎_elim (λ h. absurd (false≢true (sym free ∙ first.1 h))) (λ other. absurd (other (second.0 refl))))
+stays_other false first free second = (λ s. inr (λ h. false≢true (second.1 h)), λ h. refl)
 
 -- ---- a unit and its volume
 

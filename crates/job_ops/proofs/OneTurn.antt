@@ -5,6 +5,7 @@ use Rattle.std.proofs.Math.Numerals.{add-one}
 use Rattle.std.proofs.Math.Seq.{drop-cons}
 use Rattle.std.proofs.lemmas.List.{append-nil}
 use Rattle.std.proofs.lemmas.List.Elements.{All-nil, All-cons, All-head, All-tail, All-weaker}
+use Rattle.ckd_image.specs.Device.{heads_of}
 use Rattle.dasd_pool.specs.Count.{Rose}
 use Rattle.dasd_pool.specs.declared.pool.Pool.{Ghosts}
 use Rattle.dsn_filter.specs.declared.dsn.Dsn.{Dsn}
@@ -13,6 +14,7 @@ use Rattle.volume_model.specs.Unit.{UnitModel}
 use Rattle.move_core.specs.declared.steps.Step.{Step}
 use Rattle.move_core.specs.Facts.{shown}
 use Rattle.move_core.specs.Runs.{IsRun}
+use Rattle.move_core.specs.Steps.{shrunk}
 use Rattle.move_core.proofs.Running.{run_less}
 use Rattle.vtoc_core.specs.declared.volume.Row.{Row}
 use Rattle.unit_load.specs.declared.state.UnitState.{UnitState}
@@ -21,41 +23,72 @@ use Rattle.unit_session.specs.Sessions.{SessionView, BrokenView, IsSameSession}
 use Rattle.job_lines.specs.declared.message.Message.{Message}
 use Rattle.job_lines.specs.declared.message.Message.TheVariants as messages
 use Rattle.job_lines.specs.declared.message.Reason.{Reason}
-use Rattle.job_lines.specs.declared.severity.Severity.TheVariants as severities
 use Rattle.job_steps.specs.declared.cut.Cut.{Cut}
 use Rattle.job_steps.specs.declared.cut.Cut.TheVariants as cuts
-use Rattle.job_ops.specs.declared.release.Candidate.{Candidate}
-use Rattle.job_ops.specs.Asked.{MayRelease, IsSeen, IsReasonBefore}
+use Rattle.job_ops.specs.declared.asking.Candidate.{Candidate}
+use Rattle.job_ops.specs.declared.task.Task.{Task}
+use Rattle.job_ops.specs.declared.task.Task.TheVariants as tasks
+use Rattle.job_ops.specs.Asked.{MayProcess, IsSeen, IsReasonBefore}
 use Rattle.job_ops.specs.Ends.{ForUnits, Ends}
-use Rattle.job_ops.specs.Release.{ReleasesSet}
-use Rattle.job_ops.specs.Shrinking.{StaysChangeable}
+use Rattle.job_ops.specs.Consolidate.{HasSeveral, LacksPlace, LacksRoomAtPlace}
+use Rattle.job_ops.specs.Meaning.{TurnOf}
+use Rattle.job_ops.specs.Reasons.{LacksRoomFor}
+use Rattle.job_ops.specs.Release.{keep_of, HasUnused}
+use Rattle.job_ops.specs.Reshaping.{StaysChangeable}
+use Rattle.job_ops.specs.Task.{StaysFor, severity_for}
 use Rattle.job_ops.specs.Turns.{Action, IsCutAction}
+use Rattle.job_ops.proofs.Judging.{reason_found}
 use Rattle.job_ops.proofs.SameSessions.{for_new, keeps_same, ends_after, ends_said}
 
 -- a reason is told
-pub reason_told : (held : List Hold) {unit : ℕ} {name : Dsn} {candidate : Candidate} {units : List UnitModel} (reason : Reason) → IsSeen unit name candidate units
-    → IsReasonBefore held unit name (Some reason) units → ReleasesSet held unit name units [] (messages.NotProcessed candidate.name reason severities.Error ∷ [])
-reason_told held {unit} {name} {candidate} {units} reason seen before = record {
-  volume = seen.volume;
-  online_is = seen.set_is.online_is;
-  set = seen.set;
-  there = seen.set_is.there;
-  name_is = seen.set_is.name_is;
-  outcome = inl (reason, before seen.volume seen.set seen.set_is, refl, ap (λ (n : List ℕ). messages.NotProcessed n reason severities.Error ∷ []) seen.name_is);
-}
+pub reason_told : (task : Task) (held : List Hold) {unit : ℕ} {name : Dsn} {candidate : Candidate} {units : List UnitModel} (reason : Reason) → IsSeen task unit name candidate units
+    → IsReasonBefore task held unit name (Some reason) units → TurnOf task held unit name units [] (messages.NotProcessed candidate.name reason (severity_for task reason) ∷ [])
+reason_told tasks.Release held {unit} {name} {candidate} {units} reason seen before =
+    let size = HasUnused seen.volume seen.set × LacksRoomFor seen.volume (seen.set ∷ []) (shrunk (keep_of seen.volume seen.set) seen.set ∷ []) in
+    record {
+      volume = seen.volume;
+      online_is = seen.set_is.online_is;
+      set = seen.set;
+      there = seen.set_is.there;
+      name_is = seen.set_is.name_is;
+      outcome =
+          inl (
+            reason,
+            reason_found held name seen.set (StaysFor tasks.Release (heads_of seen.volume.device) seen.set) ⊥ size reason (before seen.volume seen.set seen.set_is),
+            refl,
+            ap (λ (n : List ℕ). messages.NotProcessed n reason (severity_for tasks.Release reason) ∷ []) seen.name_is,
+          );
+    }
+reason_told tasks.Consolidate held {unit} {name} {candidate} {units} reason seen before =
+    let place = HasSeveral seen.set × LacksPlace seen.volume seen.set in
+    let room = HasSeveral seen.set × LacksRoomAtPlace seen.volume seen.set in
+    record {
+      volume = seen.volume;
+      online_is = seen.set_is.online_is;
+      set = seen.set;
+      there = seen.set_is.there;
+      name_is = seen.set_is.name_is;
+      outcome =
+          inl (
+            reason,
+            reason_found held name seen.set (StaysFor tasks.Consolidate (heads_of seen.volume.device) seen.set) place room reason (before seen.volume seen.set seen.set_is),
+            refl,
+            ap (λ (n : List ℕ). messages.NotProcessed n reason (severity_for tasks.Consolidate reason) ∷ []) seen.name_is,
+          );
+    }
 
 module _ {P : Type 0} (pools : Ghosts P) {old new : SessionView P} (run : IsRun pools.tells (shown pools old.pool) (shown pools new.pool) (Unit {0}) [] None) (same : IsSameSession pools old new) where
   -- the data set isn't processed
-  pub refused : (held : List Hold) {unit : ℕ} {name : Dsn} {candidate : Candidate} {steps_before steps_after : List Step} {messages_before messages_after : List Message} (reason : Reason)
-      (found : Option Reason) (result : Result (SessionView P) (Cut P)) → found ≡ Some reason → ForUnits pools old (IsSeen unit name candidate) → ForUnits pools old (IsReasonBefore held unit name found)
-      → steps_after ≡ steps_before → IfOk result (λ next. (next ≡ new) × (messages_after ≡ messages_before ++ (messages.NotProcessed candidate.name reason severities.Error ∷ [])))
+  pub refused : (task : Task) (held : List Hold) {unit : ℕ} {name : Dsn} {candidate : Candidate} {steps_before steps_after : List Step} {messages_before messages_after : List Message} (reason : Reason)
+      (found : Option Reason) (result : Result (SessionView P) (Cut P)) → found ≡ Some reason → ForUnits pools old (IsSeen task unit name candidate) → ForUnits pools old (IsReasonBefore task held unit name found)
+      → steps_after ≡ steps_before → IfOk result (λ next. (next ≡ new) × (messages_after ≡ messages_before ++ (messages.NotProcessed candidate.name reason (severity_for task reason) ∷ [])))
       → IfErr result (λ cut. (cut ≡ cuts.Short new) × (messages_after ≡ messages_before))
-      → Ends pools (ReleasesSet held unit name) (IsCutAction (ReleasesSet held unit name)) old steps_before steps_after messages_before messages_after result
-  refused held {unit} {name} {candidate} {steps_before} {steps_after} {messages_before} {messages_after} reason found result is seen before steps ok err =
-      let told_before : ForUnits pools old (IsReasonBefore held unit name (Some reason)) = subst (λ (o : Option Reason). ForUnits pools old (IsReasonBefore held unit name o)) is before in
+      → Ends pools (TurnOf task held unit name) (IsCutAction (TurnOf task held unit name)) old steps_before steps_after messages_before messages_after result
+  refused task held {unit} {name} {candidate} {steps_before} {steps_after} {messages_before} {messages_after} reason found result is seen before steps ok err =
+      let told_before : ForUnits pools old (IsReasonBefore task held unit name (Some reason)) = subst (λ (o : Option Reason). ForUnits pools old (IsReasonBefore task held unit name o)) is before in
       ends_after pools run same
-      (ends_said pools (messages.NotProcessed candidate.name reason severities.Error ∷ []) result steps ok err
-      (for_new pools same (λ told units settled. reason_told held reason (seen told units settled) (told_before told units settled))) (λ units. inl (refl, refl)))
+      (ends_said pools (messages.NotProcessed candidate.name reason (severity_for task reason) ∷ []) result steps ok err
+      (for_new pools same (λ told units settled. reason_told task held reason (seen told units settled) (told_before told units settled))) (λ units. inl (refl, refl)))
 
   -- the pool failed
   pub halted : {Means : Action} {steps : List Step} {messages : List Message} (broken : BrokenView P) → Rose (pools.faults old.pool) (pools.faults new.pool) → broken.pool ≡ new.pool → broken.pending ≡ None
@@ -103,17 +136,17 @@ module _ {P : Type 0} (pools : Ghosts P) {old new : SessionView P} (same : IsSam
 
 -- ---- the names that are left
 
-pub may_one : {room : ℕ} {units : List UnitState} {unit : ℕ} (name : Dsn) (left later : List Dsn) → left ≡ name ∷ later → MayRelease room units unit left → MayRelease room units unit (name ∷ [])
+pub may_one : {room : ℕ} {units : List UnitState} {unit : ℕ} (name : Dsn) (left later : List Dsn) → left ≡ name ∷ later → MayProcess room units unit left → MayProcess room units unit (name ∷ [])
 may_one {room} {units} {unit} name left later is may =
     let Has : Dsn → Type 0 = λ other. (row : Row) × HasRow may.may.volume other row in
     record { may = may.may; sets = All-cons Has name [] (All-head Has name later (subst (All Has) is may.sets)) (All-nil Has) }
 
-pub may_later : {room after : ℕ} {units next : List UnitState} {unit : ℕ} (name : Dsn) (left later : List Dsn) → left ≡ name ∷ later → MayRelease room units unit left
-    → StaysChangeable room units next unit → after ≡ room → MayRelease after next unit later
+pub may_later : {room after : ℕ} {units next : List UnitState} {unit : ℕ} (name : Dsn) (left later : List Dsn) → left ≡ name ∷ later → MayProcess room units unit left
+    → StaysChangeable room units next unit → after ≡ room → MayProcess after next unit later
 may_later {room} {after} {units} {next} {unit} name left later is may stays same =
     let Has : Dsn → Type 0 = λ other. (row : Row) × HasRow may.may.volume other row in
     let new = stays may.may in
-    subst (λ (r : ℕ). MayRelease r next unit later) (sym same) (record {
+    subst (λ (r : ℕ). MayProcess r next unit later) (sym same) (record {
       may = new.0;
       sets =
           All-weaker Has (λ other. (row : Row) × HasRow new.0.volume other row) (λ other has. new.1 other has.0 has.1) later (All-tail Has name later (subst (All Has) is may.sets));

@@ -8,7 +8,9 @@ use Rattle.dasd_pool.specs.declared.pool.Pool.{Ghosts}
 use Rattle.dsn_filter.specs.declared.dsn.Dsn.{Dsn}
 use Rattle.enq_table.specs.declared.hold.Hold.{Hold}
 use Rattle.sysin_lang.specs.declared.command.Command.{Command}
+use Rattle.sysin_lang.specs.declared.command.Filter.{Filter}
 use Rattle.sysin_lang.specs.declared.command.Command.TheVariants as commands
+use Rattle.vol_label.specs.declared.serial.Serial.{Serial}
 use Rattle.volume_model.specs.Unit.{UnitModel}
 use Rattle.move_core.specs.declared.steps.Step.{Step}
 use Rattle.move_core.specs.Facts.{Facts}
@@ -19,8 +21,11 @@ use Rattle.job_lines.specs.declared.message.Message.TheVariants as messages
 use Rattle.job_lines.specs.Severity.{greatest_code}
 use Rattle.job_steps.specs.declared.cut.Cut.{Cut}
 use Rattle.job_steps.specs.declared.cut.Cut.TheVariants as cuts
+use Rattle.job_ops.specs.Consolidate.{ConsolidatesSet}
 use Rattle.job_ops.specs.Ends.{Ends}
 use Rattle.job_ops.specs.Meaning.{Means, MeansWhole, IsCutCommand, verb_of}
+use Rattle.job_ops.specs.Release.{ReleasesSet}
+use Rattle.job_ops.specs.Sets.{OverSets, IsCutOverSets}
 use Rattle.job_ops.specs.Setting.{Setting, setting_of}
 use Rattle.job_ops.specs.Turns.{Action, Turns, AreCutTurns}
 use Rattle.job_ops.proofs.Codes.{code_started}
@@ -32,7 +37,7 @@ use Rattle.job_ops.proofs.SameSessions.{no_change, ends_told, told_grows}
 cut_before : (setting : Setting) (command : Command) (units : List UnitModel) → IsCutCommand setting command units [] None
 cut_before setting (commands.PrintVtoc unit) units = (refl, refl)
 cut_before setting (commands.Release filter unit) units = inl (refl, refl)
-cut_before setting (commands.Consolidate filter unit) units = (refl, refl)
+cut_before setting (commands.Consolidate filter unit) units = inl (refl, refl)
 cut_before setting (commands.Defrag unit index limit) units = (refl, refl)
 cut_before setting (commands.Copy filter unit to delete purge replace rename tolerate) units = (refl, refl)
 cut_before setting (commands.DumpDataset filter unit outs reset delete purge tolerate) units = (refl, refl)
@@ -47,15 +52,20 @@ turns_cut facts Turn [] units steps said turns = (turns.0, refl)
 turns_cut facts Turn (name ∷ names) units steps said (done, more, first, told, after, ends, rest, steps_are, said_are) =
     inr (done, more, first, after, ends, turns_cut facts Turn names after more told rest, steps_are)
 
+-- so may a statement that goes through data sets
+sets_cut : (Turn : ℕ → Dsn → Action) (setting : Setting) (filter : Filter) (serial : Serial) (units : List UnitModel) (steps : List Step) (said : List Message)
+    → OverSets Turn setting filter serial units steps said → IsCutOverSets Turn setting filter serial units steps None
+sets_cut Turn setting filter serial units steps said (inl (message, refused, none, is)) = inl (none, refl)
+sets_cut Turn setting filter serial units steps said (inr (place, names, goes, inl (no_names, none, is))) = inl (none, refl)
+sets_cut Turn setting filter serial units steps said (inr (place, names, goes, inr (some, turns))) =
+    inr (place, names, goes, turns_cut setting.facts (Turn place) names units steps said turns)
+
 -- so may a command
 cut_behind : (setting : Setting) (command : Command) (units : List UnitModel) (steps : List Step) (said : List Message)
     → Means setting command units steps said → IsCutCommand setting command units steps None
 cut_behind setting (commands.PrintVtoc unit) units steps said means = (means.0, refl)
-cut_behind setting (commands.Release filter unit) units steps said (inl (message, refused, none, is)) = inl (none, refl)
-cut_behind setting (commands.Release filter unit) units steps said (inr (place, names, goes, inl (no_names, none, is))) = inl (none, refl)
-cut_behind setting (commands.Release filter unit) units steps said (inr (place, names, goes, inr (some, turns))) =
-    inr (place, names, goes, turns_cut setting.facts _ names units steps said turns)
-cut_behind setting (commands.Consolidate filter unit) units steps said means = absurd means
+cut_behind setting (commands.Release filter unit) units steps said means = sets_cut (ReleasesSet setting.held) setting filter unit units steps said means
+cut_behind setting (commands.Consolidate filter unit) units steps said means = sets_cut (ConsolidatesSet setting.held) setting filter unit units steps said means
 cut_behind setting (commands.Defrag unit index limit) units steps said means = absurd means
 cut_behind setting (commands.Copy filter unit to delete purge replace rename tolerate) units steps said means = absurd means
 cut_behind setting (commands.DumpDataset filter unit outs reset delete purge tolerate) units steps said means = absurd means

@@ -1,10 +1,13 @@
 pub mod Setting
 pub mod Refusal
 pub mod Reasons
+pub mod Task
 pub mod Turns
+pub mod Sets
 pub mod Listing
 pub mod Release
+pub mod Consolidate
 pub mod Meaning
 pub mod Ends
 pub mod Asked
-pub mod Shrinking
+pub mod Reshaping

@@ -1,9 +1,11 @@
 -- What a statement means.
-use Rattle.std.specs.Prelude.{◌≡◌, List, [], ◌∷◌, ◌++◌, Option, None}
+use Rattle.std.specs.Prelude.{◌≡◌, ℕ, List, [], ◌∷◌, ◌++◌, Option, None}
 use Rattle.sysin_words.specs.declared.lead.Verb.{Verb}
 use Rattle.sysin_lang.specs.declared.command.Command.{Command}
 use Rattle.sysin_lang.specs.declared.command.Command.TheVariants as commands
 use Rattle.sysin_forms.specs.Form.{form_of, verb_of_form}
+use Rattle.dsn_filter.specs.declared.dsn.Dsn.{Dsn}
+use Rattle.enq_table.specs.declared.hold.Hold.{Hold}
 use Rattle.volume_model.specs.Unit.{UnitModel}
 use Rattle.move_core.specs.declared.steps.Step.{Step}
 use Rattle.job_lines.specs.declared.message.Message.{Message}
@@ -12,24 +14,36 @@ use Rattle.job_lines.specs.Severity.{greatest_code}
 use Rattle.job_ops.specs.declared.report.Report.{Report}
 use Rattle.job_ops.specs.Setting.{Setting}
 use Rattle.job_ops.specs.Listing.{Prints}
-use Rattle.job_ops.specs.Release.{Releases, IsCutRelease}
+use Rattle.job_ops.specs.declared.task.Task.{Task}
+use Rattle.job_ops.specs.declared.task.Task.TheVariants as tasks
+use Rattle.job_ops.specs.Consolidate.{ConsolidatesSet}
+use Rattle.job_ops.specs.Release.{ReleasesSet}
+use Rattle.job_ops.specs.Sets.{OverSets, IsCutOverSets}
 use Rattle.job_ops.specs.Turns.{Action}
 
 -- the commands that are built
 abbrev pub IsBuilt : Command → Type 0
 IsBuilt (commands.PrintVtoc unit) = Unit {0}
 IsBuilt (commands.Release filter unit) = Unit {0}
+IsBuilt (commands.Consolidate filter unit) = Unit {0}
 IsBuilt _ = ⊥
+
+-- the turn of a data set in what a statement does with each
+abbrev pub TurnOf : Task → List Hold → ℕ → Dsn → Action
+TurnOf tasks.Release held = ReleasesSet held
+TurnOf tasks.Consolidate held = ConsolidatesSet held
 
 -- what a command does and says between the line that it started and the line that it ended
 abbrev pub Means : Setting → Command → List UnitModel → List Step → List Message → Type 0
 Means setting (commands.PrintVtoc serial) units steps said = Prints setting serial units steps said
-Means setting (commands.Release filter serial) units steps said = Releases setting filter serial units steps said
+Means setting (commands.Release filter serial) units steps said = OverSets (ReleasesSet setting.held) setting filter serial units steps said
+Means setting (commands.Consolidate filter serial) units steps said = OverSets (ConsolidatesSet setting.held) setting filter serial units steps said
 Means setting _ units steps said = ⊥
 
 -- what it had done where it was cut
 abbrev pub IsCutCommand : Setting → Command → List UnitModel → List Step → Option Step → Type 0
-IsCutCommand setting (commands.Release filter serial) units steps pending = IsCutRelease setting filter serial units steps pending
+IsCutCommand setting (commands.Release filter serial) units steps pending = IsCutOverSets (ReleasesSet setting.held) setting filter serial units steps pending
+IsCutCommand setting (commands.Consolidate filter serial) units steps pending = IsCutOverSets (ConsolidatesSet setting.held) setting filter serial units steps pending
 IsCutCommand setting _ units steps pending = (steps ≡ []) × (pending ≡ None)
 
 abbrev pub verb_of : Command → Verb

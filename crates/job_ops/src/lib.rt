@@ -1,13 +1,17 @@
 //! Statements: what each command does to the volumes of a session, and what it says of it (DFSMSdss Storage Administration).
 #![tactic(auto)]
 
+mod asking;
+mod consolidate;
 mod listing;
 mod log;
 mod outcome;
 mod release;
 mod report;
-mod shrinking;
+mod reshaping;
+mod sets;
 mod statement;
+mod task;
 mod units;
 
 pub use job_lines::{Message, Reason, Severity, line_of};

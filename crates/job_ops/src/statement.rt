@@ -11,8 +11,9 @@ ghost use Rattle.job_ops.specs.Setting.{setting_of};
 use crate::listing::print;
 use crate::log::{Log, say};
 use crate::outcome::Outcome;
-use crate::release::release;
 use crate::report::Report;
+use crate::sets::{SetJob, go_through};
+use crate::task::Task;
 use by_rules::Day;
 use ckd_image::Listed;
 use dasd_pool::Pool;
@@ -45,7 +46,7 @@ pub fn is_built(command: &Command) -> bool
     ensures { IsTrue result ↔ IsBuilt command.now }
 {
     match command {
-        Command::PrintVtoc { .. } | Command::Release { .. } => true,
+        Command::PrintVtoc { .. } | Command::Release { .. } | Command::Consolidate { .. } => true,
         _ => false,
     }
 }
@@ -82,7 +83,32 @@ fn perform<P: Pool>(
             Err(_) => Err(Cut::Short(session)),
         },
         Command::Release { filter, unit } => {
-            release(alloc, session, filter, *unit, held, today, log)
+            go_through(
+                alloc,
+                session,
+                SetJob {
+                    task: Task::Release,
+                    filter,
+                    serial: *unit,
+                    held,
+                    today,
+                },
+                log,
+            )
+        }
+        Command::Consolidate { filter, unit } => {
+            go_through(
+                alloc,
+                session,
+                SetJob {
+                    task: Task::Consolidate,
+                    filter,
+                    serial: *unit,
+                    held,
+                    today,
+                },
+                log,
+            )
         }
         _ => unreachable!(),
     }

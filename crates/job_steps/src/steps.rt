@@ -4,7 +4,6 @@ ghost use Rattle.std.specs.Prelude.{◌≡◌, [], ◌∷◌, ◌++◌, None, If
 ghost use Rattle.move_core.specs.Facts.{shown};
 ghost use Rattle.move_core.specs.Runs.{IsRun, Ended};
 ghost use Rattle.unit_session.specs.Planned.{MayBegin, pool_switched, done_by};
-ghost use Rattle.unit_steps.specs.declared.plan.Tracks.TheVariants as texts;
 ghost use Rattle.unit_steps.specs.Plans.{IsPlan};
 ghost use Rattle.job_steps.specs.Carried.{pool_left, pending_left, Continues, steps_of, pool_tried, pending_tried, IsTried, IsReadyOrFull, IsCutBefore, AreAfter, IsUnderWay, IsCutIn, pending_made};
 
@@ -21,11 +20,10 @@ pub enum Attempt<P: Pool> {
     Full(Session<P>),
 }
 
-/// Plans a step that moves no text.
+/// Plans a step. A plan that copies a track without a text is refused as if memory ran out, and nothing was done: a statement asks for the texts first.
 pub fn try_plan<P: Pool>(session: Session<P>, plan: Plan) -> Result<Attempt<P>, Cut<P>>
     requires plan { IsPlan session.units plan }
     requires may { MayBegin session.room session.units plan.changes }
-    requires texts { plan.tracks ≡ texts.None }
     ensures run { IsRun P.tells (shown P.Pool session.pool) (shown P.Pool (pool_tried result)) (IsTried result) [] (pending_tried result) }
     ensures tried { IfOk result (IsReadyOrFull P.Pool session plan) }
     ensures cut { IfErr result (IsCutBefore P.Pool session) }

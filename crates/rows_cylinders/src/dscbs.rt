@@ -9,23 +9,32 @@ pub type Dscb = [u8; 140];
 /// A run of free tracks: the first, whole cylinders, and more tracks.
 pub type Free = (u8, u8, u8);
 
+/// An extent: its kind, its first and its last track.
+pub type SetExtent = (u8, u8, u8);
+
 /// A data set.
 #[derive(Clone, Copy, Debug)]
 pub struct Set {
     /// What its name begins with. Blanks follow.
     pub name: [u8; 3],
-    /// The kind, the first and the last track of its extent, where it has one.
-    pub extent: Option<(u8, u8, u8)>,
+    /// The high byte of its organization.
+    pub organization: u8,
+    pub extents: [Option<SetExtent>; 3],
     /// Track and record of its last block.
     pub last: [u8; 3],
 }
 
-/// What a volume has: its cylinders, its data sets in the order of their records, and its runs of free tracks.
+/// What a volume has: its cylinders, its data sets in the order of their records, its runs of free tracks, and whether they are stated.
 #[derive(Drop)]
 pub struct Contents {
     pub cylinders: u8,
     pub sets: Vec<Set>,
     pub free: Vec<Free>,
+    pub stated: bool,
+    /// Tracks that have a record 1 of one byte, and that byte.
+    pub blocks: Vec<(u8, u8)>,
+    /// A track that has no end mark.
+    pub bad: Option<u8>,
 }
 
 /// Cylinder and head of a track.
@@ -58,6 +67,9 @@ fn format_4(contents: &Contents) -> Dscb {
     if contents.free.len() > 26 {
         dscb[51] = 49u8.saturating_sub(last);
     }
+    if !contents.stated {
+        dscb[58] = 0x80;
+    }
     dscb[59] = 1;
     dscb[63] = contents.cylinders;
     dscb[65] = 15; // heads
@@ -87,7 +99,7 @@ fn format_5(runs: &[Free], next: u8) -> Dscb {
     dscb
 }
 
-/// The format 1 of a data set: PS, blocked records of 80 bytes.
+/// The format 1 of a data set of blocked records of 80 bytes.
 fn format_1(set: Set) -> Dscb {
     let mut dscb = [0; 140];
     put(&mut dscb, 0, &[0x40; 44]);
@@ -95,17 +107,19 @@ fn format_1(set: Set) -> Dscb {
     dscb[44] = 0xf1;
     put(&mut dscb, 45, &VOL001);
     dscb[52] = 1; // the volume's number among those of the data set
-    dscb[82] = 0x40; // organization
+    dscb[82] = set.organization;
     dscb[84] = 0x90; // format of the records
     dscb[87] = 80; // length of a block
     dscb[89] = 80; // and of a record
     dscb[93] = 0x80; // the last volume
     put(&mut dscb, 98, &set.last);
-    if let Some((kind, first, last)) = set.extent {
-        dscb[59] = 1; // extents
-        dscb[105] = kind;
-        put(&mut dscb, 107, &address(first));
-        put(&mut dscb, 111, &address(last));
+    for (number, extent) in set.extents.iter().enumerate() {
+        if let Some((kind, first, last)) = extent {
+            dscb[59] = (number as u8).saturating_add(1); // extents
+            put(&mut dscb, 10 * number + 105, &[*kind, number as u8]);
+            put(&mut dscb, 10 * number + 107, &address(*first));
+            put(&mut dscb, 10 * number + 111, &address(*last));
+        }
     }
     dscb
 }
@@ -120,7 +134,11 @@ pub fn dscbs_of(alloc: Global, contents: &Contents) -> Result<Vec<Dscb>, RowsFau
         last_format_1(contents).saturating_add(1)
     };
     dscbs.push(format_4(contents))?;
-    dscbs.push(format_5(runs, next))?;
+    if contents.stated {
+        dscbs.push(format_5(runs, next))?;
+    } else {
+        dscbs.push([0; 140])?;
+    }
     for set in &contents.sets {
         dscbs.push(format_1(*set))?;
     }

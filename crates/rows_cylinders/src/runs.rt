@@ -5,7 +5,7 @@ use crate::volumes::volume;
 use adr_top::{Day, batch};
 use ckd_image::{Bytes, Word};
 use dasd_pool::{MemoryPool, MemorySink, MemorySource, Pool};
-use rows_base::{LISTING_WORDS, REGISTERED, RowsFault, SLOT, journal};
+use rows_base::{HELD_WORDS, REGISTERED, RowsFault, SLOT, journal};
 use std::alloc::Global;
 
 /// What a run leaves.
@@ -16,10 +16,10 @@ pub struct Ran {
     pool: MemoryPool,
 }
 
-/// The words of a text over VOL001.
+/// The words of a text and a text of holds over VOL001.
 fn words(alloc: Global) -> Result<Vec<Word>, RowsFault> {
     let mut list = Vec::new(alloc);
-    for word in LISTING_WORDS {
+    for word in HELD_WORDS {
         list.push(Word::copy_of(alloc, word)?)?;
     }
     Ok(list)
@@ -47,12 +47,17 @@ fn pool_of(alloc: Global, contents: &Contents) -> Result<MemoryPool, RowsFault> 
     Ok(MemoryPool::new(alloc, units, Vec::new(alloc), 0)?)
 }
 
-/// Runs a text over a volume.
-pub fn run(alloc: Global, contents: &Contents, text: &[u8]) -> Result<Ran, RowsFault> {
+/// Runs a text over a volume, with a text of holds.
+pub fn run(
+    alloc: Global,
+    contents: &Contents,
+    text: &[u8],
+    holds: &[u8],
+) -> Result<Ran, RowsFault> {
     let pool = pool_of(alloc, contents)?;
     let words = words(alloc)?;
     let mut sysin = source_of(alloc, text)?;
-    let mut held = source_of(alloc, &[])?;
+    let mut held = source_of(alloc, holds)?;
     let mut out = MemorySink::new(alloc, 8000, Vec::new(alloc))?;
     let (outs, ins) = (Vec::new(alloc), Vec::new(alloc));
     let today = Day { year: 2024, day: 1 };

@@ -8,13 +8,17 @@ use std::test::*;
 fn five(alloc: Global, last: u8, free: Free) -> Result<Contents, RowsFault> {
     let set = Set {
         name: [0xc1, 0x4b, 0xc2],
-        extent: Some((0x81, 15, last)),
+        organization: 0x40,
+        extents: [Some((0x81, 15, last)), None, None],
         last: [0, 15, 1],
     };
     Ok(Contents {
         cylinders: 5,
         sets: vec![in alloc; set]?,
         free: vec![in alloc; (2, 0, 13), free]?,
+        stated: true,
+        blocks: Vec::new(alloc),
+        bad: None,
     })
 }
 
@@ -25,7 +29,7 @@ ADR103I (000) MAXIMUM CODE 0
 ";
 
 /// Bytes of the VTOC from a place on.
-type Place = (usize, &'static [u8]);
+pub(crate) type Place = (usize, &'static [u8]);
 
 /// The entries of the format 5, and the extent of A.B: cylinder 1 head 0 to cylinder 2 head 14.
 const LEFT_OF_FIVE: [Place; 2] = [
@@ -34,7 +38,7 @@ const LEFT_OF_FIVE: [Place; 2] = [
 ];
 
 /// Whether these bytes stand at their places.
-fn stand(slot: &[u8], places: &[Place]) -> bool {
+pub(crate) fn stand(slot: &[u8], places: &[Place]) -> bool {
     places.iter().all(|(at, want)| slot.iter().skip(*at).take(want.len()).eq(want.iter()))
 }
 
@@ -43,7 +47,7 @@ fn a_release_of_whole_cylinders_keeps_the_last_used_one(rt: HostRuntime) -> Resu
     let given = five(rt.alloc(), 59, (60, 1, 0))?;
     let after = five(rt.alloc(), 44, (45, 2, 0))?;
     let text = b" RELEASE DATASET(INCLUDE(A.B)) DDNAME(VOL001)\n";
-    let mut ran = run(rt.alloc(), &given, text)?;
+    let mut ran = run(rt.alloc(), &given, text, &[])?;
     assert_eq!(rt; ran.lines.as_str(), FIFTEEN_RELEASED);
     assert_eq!(rt; ran.status, 0);
     assert!(rt; stand(&ran.slot(rt.alloc(), 1)?, &LEFT_OF_FIVE));
@@ -53,10 +57,11 @@ fn a_release_of_whole_cylinders_keeps_the_last_used_one(rt: HostRuntime) -> Resu
 }
 
 /// A data set of tracks, of which no block is used.
-fn set_of(name: [u8; 3], first: u8, last: u8) -> Set {
+pub(crate) fn set_of(name: [u8; 3], first: u8, last: u8) -> Set {
     Set {
         name,
-        extent: Some((1, first, last)),
+        organization: 0x40,
+        extents: [Some((1, first, last)), None, None],
         last: [0, 0, 0],
     }
 }
@@ -67,7 +72,7 @@ fn numbered(letter: u8, number: u8) -> [u8; 3] {
 }
 
 /// Adds 26 data sets of two tracks, each behind a free one, and one of the track before them all.
-fn push_small(sets: &mut Vec<Set>) -> Result<(), RowsFault> {
+pub(crate) fn push_small(sets: &mut Vec<Set>) -> Result<(), RowsFault> {
     for number in 1..27u8 {
         sets.push(set_of(numbered(0xc4, number), 3 * number, 3 * number + 1))?;
     }
@@ -76,11 +81,12 @@ fn push_small(sets: &mut Vec<Set>) -> Result<(), RowsFault> {
 }
 
 /// Adds so many data sets without extents.
-fn push_empty(sets: &mut Vec<Set>, count: u8) -> Result<(), RowsFault> {
+pub(crate) fn push_empty(sets: &mut Vec<Set>, count: u8) -> Result<(), RowsFault> {
     for number in 0..count.min(99) {
         sets.push(Set {
             name: numbered(0xe9, number + 1),
-            extent: None,
+            organization: 0x40,
+            extents: [None; 3],
             last: [0, 0, 0],
         })?;
     }
@@ -94,7 +100,7 @@ const SINGLE: [u8; 25] = [
 ];
 
 /// The single free tracks, and these runs.
-fn free_runs(alloc: Global, others: &[Free]) -> Result<Vec<Free>, RowsFault> {
+pub(crate) fn free_runs(alloc: Global, others: &[Free]) -> Result<Vec<Free>, RowsFault> {
     let mut free = Vec::new(alloc);
     for track in SINGLE {
         free.push((track, 0, 1))?;
@@ -117,6 +123,9 @@ fn ten(alloc: Global, last: u8, empty: u8, others: &[Free]) -> Result<Contents, 
         cylinders: 10,
         sets,
         free: free_runs(alloc, others)?,
+        stated: true,
+        blocks: Vec::new(alloc),
+        bad: None,
     })
 }
 
@@ -147,7 +156,7 @@ const LEFT_OF_TEN: [Place; 5] = [
 fn a_27th_run_takes_a_second_format_5(rt: HostRuntime) -> Result<(), Fail> {
     let given = ten(rt.alloc(), 82, 18, &[(84, 4, 6)])?;
     let after = ten(rt.alloc(), 80, 18, &[(81, 0, 2), (84, 4, 6)])?;
-    let mut ran = run(rt.alloc(), &given, RELEASE_E1)?;
+    let mut ran = run(rt.alloc(), &given, RELEASE_E1, &[])?;
     assert_eq!(rt; ran.lines.as_str(), TWO_RELEASED);
     assert_eq!(rt; ran.status, 0);
     assert!(rt; stand(&ran.slot(rt.alloc(), 1)?, &LEFT_OF_TEN));
@@ -159,7 +168,7 @@ fn a_27th_run_takes_a_second_format_5(rt: HostRuntime) -> Result<(), Fail> {
 #[test]
 fn a_27th_run_without_a_free_dscb_changes_nothing(rt: HostRuntime) -> Result<(), Fail> {
     let given = ten(rt.alloc(), 82, 19, &[(84, 4, 6)])?;
-    let mut ran = run(rt.alloc(), &given, RELEASE_E1)?;
+    let mut ran = run(rt.alloc(), &given, RELEASE_E1, &[])?;
     assert_eq!(rt; ran.lines.as_str(), VTOC_FULL);
     assert_eq!(rt; ran.status, 8);
     assert!(rt; ran.changed(rt.alloc(), &given)?.is_empty());

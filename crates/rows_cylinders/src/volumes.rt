@@ -1,4 +1,4 @@
-//! Volumes of several cylinders of a 3390, byte by byte: a label, a VTOC on track 1, and other tracks that have record 0 alone.
+//! Volumes of several cylinders of a 3390, byte by byte: a label, a VTOC on track 1, and other tracks that have record 0 and at most one block.
 
 use crate::dscbs::{Contents, address, dscbs_of};
 use ckd_image::Bytes;
@@ -36,12 +36,28 @@ fn vtoc_slot(alloc: Global, contents: &Contents) -> Result<Vec<u8>, RowsFault> {
     slot_of(track)
 }
 
+/// The slot of a track of data.
+fn data_slot(alloc: Global, contents: &Contents, track: u8) -> Result<Vec<u8>, RowsFault> {
+    let mut slot = new_track(alloc, track)?;
+    for (on, byte) in &contents.blocks {
+        if *on == track {
+            slot.extend_from_slice(&address(track))?;
+            slot.extend_from_slice(&[1, 0, 0, 1, *byte])?;
+        }
+    }
+    if contents.bad == Some(track) {
+        slot.resize(SLOT, 0)?;
+        return Ok(slot);
+    }
+    slot_of(slot)
+}
+
 /// The slot of a track.
 fn slot_at(alloc: Global, contents: &Contents, track: u8) -> Result<Vec<u8>, RowsFault> {
     match track {
         0 => label_slot(alloc, BASE),
         1 => vtoc_slot(alloc, contents),
-        _ => slot_of(new_track(alloc, track)?),
+        _ => data_slot(alloc, contents, track),
     }
 }
 

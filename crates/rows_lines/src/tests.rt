@@ -315,6 +315,14 @@ fn releases_are_told(rt: HostRuntime) -> Result<(), Fail> {
     Ok(())
 }
 
+#[test]
+fn consolidations_are_told(rt: HostRuntime) -> Result<(), Fail> {
+    let message = Message::Consolidated(filled(A_B), 2, 8);
+    let line = line_of(rt.alloc(), 1, &message)?;
+    assert_eq!(rt; line.as_str(), "ADR127I (001) A.B CONSOLIDATED FROM 2 EXTENTS TO 8\n");
+    Ok(())
+}
+
 /// Why a data set isn't processed, and how grave that is.
 const REASONS: [(&[u8], Reason, Severity, &str); 11] = [
     (

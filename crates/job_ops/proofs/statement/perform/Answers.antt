@@ -46,5 +46,14 @@ returns-in-Release-clause-reads g c = λ reads. absurd (subst OnlyReads c.in-Rel
 pub returns-in-Release-clause-ends : goal.returns-in-Release-clause-ends
 returns-in-Release-clause-ends g c =
     let setting = setting_of g.P.Pool c.args.session c.args.held.now c.args.today in
-    subst (λ (command : Command). Ends g.P.Pool (Means setting command) (IsCutCommand setting command) c.args.session c.args.log.now.steps.items c.release.new.log.steps.items
-    c.args.log.now.messages.items c.release.new.log.messages.items c.release.result) (sym c.in-Release.is) c.release.ensures
+    subst (λ (command : Command). Ends g.P.Pool (Means setting command) (IsCutCommand setting command) c.args.session c.args.log.now.steps.items c.go_through.new.log.steps.items
+    c.args.log.now.messages.items c.go_through.new.log.messages.items c.go_through.result) (sym c.in-Release.is) c.go_through.ensures
+
+pub returns-in-Consolidate-clause-reads : goal.returns-in-Consolidate-clause-reads
+returns-in-Consolidate-clause-reads g c = λ reads. absurd (subst OnlyReads c.in-Consolidate.is reads)
+
+pub returns-in-Consolidate-clause-ends : goal.returns-in-Consolidate-clause-ends
+returns-in-Consolidate-clause-ends g c =
+    let setting = setting_of g.P.Pool c.args.session c.args.held.now c.args.today in
+    subst (λ (command : Command). Ends g.P.Pool (Means setting command) (IsCutCommand setting command) c.args.session c.args.log.now.steps.items c.go_through-in-Consolidate.new.log.steps.items
+    c.args.log.now.messages.items c.go_through-in-Consolidate.new.log.messages.items c.go_through-in-Consolidate.result) (sym c.in-Consolidate.is) c.go_through-in-Consolidate.ensures

@@ -1,0 +1,143 @@
+-- A data set was changed, or not, and what is told of it.
+use Rattle.std.proofs.Common.{◌≡◌, ◌⊎◌, ⊎_elim, inl, inr, ℕ, List, [], ◌++◌, IsTrue, None, refl, sym, ap, subst, ◌∙◌}
+use Rattle.std.specs.Prelude.{Result, Ok, Err, IfOk, IfErr}
+use Rattle.std.proofs.lemmas.List.{append-nil}
+use Rattle.dasd_pool.specs.declared.pool.Pool.{Ghosts}
+use Rattle.dsn_filter.specs.declared.dsn.Dsn.{Dsn}
+use Rattle.volume_model.specs.Unit.{UnitModel}
+use Rattle.move_core.specs.declared.steps.Step.{Step}
+use Rattle.move_core.specs.Runs.{moves_of}
+use Rattle.move_core.proofs.Running.{run_steps}
+use Rattle.vtoc_core.specs.declared.volume.Volume.{Volume}
+use Rattle.unit_load.specs.declared.state.UnitState.{UnitState}
+use Rattle.unit_steps.specs.Plans.{HasRow}
+use Rattle.step_plans.specs.Plans.{IsSound}
+use Rattle.unit_session.specs.Sessions.{SessionView}
+use Rattle.job_lines.specs.declared.message.Message.{Message}
+use Rattle.job_steps.specs.declared.cut.Cut.{Cut}
+use Rattle.job_steps.specs.declared.cut.Cut.TheVariants as cuts
+use Rattle.job_steps.specs.Carried.{pending_cut}
+use Rattle.job_ops.specs.declared.asking.Candidate.{Candidate}
+use Rattle.job_ops.specs.declared.reshaping.Layout.{Layout}
+use Rattle.job_ops.specs.declared.reshaping.Reshape.{Reshape}
+use Rattle.job_ops.specs.declared.reshaping.Reshaped.{Reshaped}
+use Rattle.job_ops.specs.declared.reshaping.Reshaped.TheVariants as variants
+use Rattle.job_ops.specs.declared.task.Task.{Task}
+use Rattle.job_ops.specs.Asked.{MayBeChanged, IsCandidate, IsSeen}
+use Rattle.job_ops.specs.Ends.{ForUnits, LeavesFacts, Ends}
+use Rattle.job_ops.specs.Reshaping.{CanHave, MayReshape, NeedsRepair, StaysChangeable, EndsReshape, CutKeepsFacts, HasRoomToReshape, LacksRoomToReshape, IsTarget, steps_of_reshape}
+use Rattle.job_ops.specs.Turns.{Action, IsCutAction}
+use Rattle.job_ops.proofs.SameSessions.{keeps_same, ends_told, told_grows}
+use Rattle.job_ops.proofs.Looking.{one_volume}
+
+-- what a turn asks for
+abbrev pub reshape_of : ℕ → Dsn → Candidate → Layout → Reshape
+reshape_of unit name candidate layout = record { unit = unit; name = name; layout = layout; repair = candidate.repair }
+
+pub target_seen : {task : Task} {unit : ℕ} {name : Dsn} {candidate : Candidate} {units : List UnitModel} (layout : Layout) (seen : IsSeen task unit name candidate units)
+    → IsTarget units (reshape_of unit name candidate layout) seen.volume seen.set
+target_seen layout seen = record { online_is = seen.set_is.online_is; there = seen.set_is.there; name_is = seen.set_is.name_is }
+
+-- ---- what was cut
+
+module _ {P : Type 0} (pools : Ghosts P) where
+  cut_leaves : (session : SessionView P) (cut : Cut P) → CutKeepsFacts pools session cut → LeavesFacts pools session (Err cut)
+  cut_leaves session (cuts.Halted broken) keeps = tt
+  cut_leaves session (cuts.Short kept) keeps = keeps
+
+  -- a session whose units are the same can be changed as before
+  pub stays_same : (room : ℕ) (unit : ℕ) {before after : List UnitState} → after ≡ before → StaysChangeable room before after unit
+  stays_same room unit {before} {after} same = subst (λ (units : List UnitState). StaysChangeable room before units unit) (sym same) (λ old. (old, λ name row has. (row, has)))
+
+  only_short : (session : SessionView P) (before after : List Message) (result : Result (SessionView P) (Cut P)) → IfErr result (λ cut. (cut ≡ cuts.Short session) × (after ≡ before))
+      → IfErr result (λ cut. cut ≡ cuts.Short session)
+  only_short session before after (Ok next) err = tt
+  only_short session before after (Err cut) err = err.0
+
+  -- steps all done, of an action that was then cut
+  all_done : (Means : Action) (units : List UnitModel) (all : List Step) (said : List Message) → Means units all said → IsCutAction Means units all None
+  all_done Means units all said means = inr (all, [], said, means, sym (append-nil all))
+
+  pub cut_reshape : {Means : Action} {session : SessionView P} {reshape : Reshape} {before after : List Step} {messages : List Message} {cut : Cut P} (said : List Message)
+      → EndsReshape pools session reshape before after (Err cut) → ForUnits pools session (λ units. HasRoomToReshape reshape units → Means units (steps_of_reshape reshape) said)
+      → Ends pools Means (IsCutAction Means) session before after messages messages (Err cut)
+  cut_reshape {Means} {session} {reshape} {before} {after} {messages} {cut} said ends means = record {
+    added = ends.added;
+    said = [];
+    steps_are = ends.steps_are;
+    messages_are = sym (append-nil messages);
+    run = ends.run;
+    facts = cut_leaves session cut ends.answers.0;
+    ended = tt;
+    cut = within ends.answers.1;
+  }
+    where
+      within : (((ends.added ≡ []) × (pending_cut cut ≡ None))
+          ⊎ ((rest : List Step) × (steps_of_reshape reshape ≡ moves_of ends.added (pending_cut cut) ++ rest) × ForUnits pools session (HasRoomToReshape reshape)))
+          → ForUnits pools session (λ units. IsCutAction Means units ends.added (pending_cut cut))
+      within (inl none) told units settled = inl none
+      within (inr some) told units settled = inr (steps_of_reshape reshape, some.0, said, means told units settled (some.2 told units settled), some.1)
+
+  -- there was no room, and that is told
+  pub full_reshape : {Means : Action} {session kept : SessionView P} {reshape : Reshape} {before after last : List Step} {messages_before messages_after : List Message} (said : List Message)
+      (given : Reshaped P) (result : Result (SessionView P) (Cut P)) → EndsReshape pools session reshape before after (Ok given) → given ≡ variants.Full kept → last ≡ after → IfOk result (λ next. (next ≡ kept) × (messages_after ≡ messages_before ++ said))
+      → IfErr result (λ cut. (cut ≡ cuts.Short kept) × (messages_after ≡ messages_before)) → ForUnits pools session (λ units. LacksRoomToReshape reshape units → Means units [] said)
+      → Ends pools Means (IsCutAction Means) session before last messages_before messages_after result
+  full_reshape {Means} {session} {kept} {reshape} {before} {after} {last} {messages_before} {messages_after} said given result ends_so is steps ok err means =
+      let ends : EndsReshape pools session reshape before after (Ok (variants.Full kept)) = subst (λ (r : Reshaped P). EndsReshape pools session reshape before after (Ok r)) is ends_so in
+      ends_told pools said result (run_steps (λ told. ends.answers.0) ends.run) (keeps_same pools ends.answers.1) (steps ∙ ends.steps_are ∙ ap (λ (l : List Step). before ++ l) ends.answers.0) ok
+      (only_short kept messages_before messages_after result err)
+      (told_grows (λ next. next ≡ kept) (λ cut. cut ≡ cuts.Short kept) messages_before messages_after said result ok err)
+      (λ told units settled. means told units settled (ends.answers.2 told units settled)) (λ told units settled. inl (refl, refl))
+
+  -- all was done, and that is told
+  pub done_reshape : {Means : Action} {session next : SessionView P} {reshape : Reshape} {before after last : List Step} {messages_before messages_after : List Message} (said : List Message)
+      (given : Reshaped P) (result : Result (SessionView P) (Cut P)) → EndsReshape pools session reshape before after (Ok given) → given ≡ variants.Done next → last ≡ after
+      → IfOk result (λ left. (left ≡ next) × (messages_after ≡ messages_before ++ said))
+      → IfErr result (λ cut. cut ≡ cuts.Short next) → ((more : List Message) × (messages_after ≡ messages_before ++ more))
+      → ForUnits pools session (λ units. HasRoomToReshape reshape units → Means units (steps_of_reshape reshape) said)
+      → Ends pools Means (IsCutAction Means) session before last messages_before messages_after result
+  done_reshape {Means} {session} {next} {reshape} {before} {after} {last} {messages_before} {messages_after} said given result ends_so is steps ok err grows means =
+      let ends : EndsReshape pools session reshape before after (Ok (variants.Done next)) = subst (λ (r : Reshaped P). EndsReshape pools session reshape before after (Ok r)) is ends_so in
+      ends_told pools said result (run_steps (λ told. ends.answers.0) ends.run) ends.answers.1 (steps ∙ ends.steps_are ∙ ap (λ (l : List Step). before ++ l) ends.answers.0) ok err grows
+      (λ told units settled. means told units settled (ends.answers.3 told units settled))
+      (λ told units settled. all_done Means units (steps_of_reshape reshape) said (means told units settled (ends.answers.3 told units settled)))
+
+  -- ---- what can be changed then
+
+  pub full_stays : {session kept : SessionView P} {reshape : Reshape} {before after : List Step} (messages_before messages_after said : List Message) (given : Reshaped P)
+      (result : Result (SessionView P) (Cut P)) → EndsReshape pools session reshape before after (Ok given) → given ≡ variants.Full kept
+      → IfOk result (λ next. (next ≡ kept) × (messages_after ≡ messages_before ++ said)) → IfOk result (λ next. StaysChangeable session.room session.units next.units reshape.unit)
+  full_stays {session} {kept} {reshape} {before} {after} messages_before messages_after said given (Ok next) ends_so is ok =
+      let ends : EndsReshape pools session reshape before after (Ok (variants.Full kept)) = subst (λ (r : Reshaped P). EndsReshape pools session reshape before after (Ok r)) is ends_so in
+      stays_same session.room reshape.unit (ap (λ (s : SessionView P). s.units) ok.0 ∙ ends.answers.1.units)
+  full_stays {session} {kept} {reshape} {before} {after} messages_before messages_after said given (Err cut) ends_so is ok = tt
+
+  pub done_stays : {session next : SessionView P} {reshape : Reshape} {before after : List Step} (messages_before messages_after said : List Message) (given : Reshaped P)
+      (result : Result (SessionView P) (Cut P)) → EndsReshape pools session reshape before after (Ok given) → given ≡ variants.Done next
+      → IfOk result (λ left. (left ≡ next) × (messages_after ≡ messages_before ++ said)) → IfOk result (λ left. StaysChangeable session.room session.units left.units reshape.unit)
+  done_stays {session} {next} {reshape} {before} {after} messages_before messages_after said given (Ok left) ends_so is ok =
+      let ends : EndsReshape pools session reshape before after (Ok (variants.Done next)) = subst (λ (r : Reshaped P). EndsReshape pools session reshape before after (Ok r)) is ends_so in
+      subst (λ (s : SessionView P). StaysChangeable session.room session.units s.units reshape.unit) (sym ok.0) ends.answers.2
+  done_stays {session} {next} {reshape} {before} {after} messages_before messages_after said given (Err cut) ends_so is ok = tt
+
+-- ---- before
+
+-- what was asked is what the step needs
+pub may_reshape : {task : Task} {room : ℕ} {units : List UnitState} {unit : ℕ} {name : Dsn} {candidate : Candidate} (layout : Layout) → MayBeChanged room units unit
+    → (is : IsCandidate task units unit name candidate) → ¬ IsTrue candidate.stays → CanHave layout is.volume is.row → MayReshape room units (reshape_of unit name candidate layout)
+may_reshape {task} {room} {units} {unit} {name} {candidate} layout may is moves can =
+    let same : is.volume ≡ may.volume = one_volume units unit is.volume may.volume is.loaded may.loaded in
+    record {
+      may = may;
+      sound = subst IsSound same is.sound;
+      row = is.row;
+      row_is = subst (λ (v : Volume). HasRow v name is.row) same is.row_is;
+      few = ⊎_elim (λ stays. absurd (moves stays)) (λ few. few) is.few;
+      can = subst (λ (v : Volume). CanHave layout v is.row) same can;
+    }
+
+pub needs_repair : {task : Task} {units : List UnitState} {unit : ℕ} {name : Dsn} {candidate : Candidate} (layout : Layout) → IsCandidate task units unit name candidate
+    → NeedsRepair units (reshape_of unit name candidate layout)
+needs_repair {task} {units} {unit} {name} {candidate} layout is volume loaded =
+    is.repair_is ∙ ap (λ (v : Volume). v.repair) (one_volume units unit is.volume volume is.loaded loaded)
