@@ -119,7 +119,7 @@ fn run_words<S: Source, H: Source, O: Sink, P: Pool>(
 ///
 /// The work is done in this order, and the first cause that stands against it ends the run: the words, with which the pool and the lists must agree (36);
 /// the held text and then SYSIN are read (24, 40); their grammars (44); the journal is opened (20, 16); each statement runs (16, 32), and then its lines
-/// are written (28). Built are PRINT and RELEASE, and the making of a journal; where another command or a sample volume is asked for, nothing is done (48).
+/// are written (28). Built are PRINT, RELEASE and CONSOLIDATE, and the making of a journal; where another command or a sample volume is asked for, nothing is done (48).
 pub fn batch<S: Source, H: Source, O: Sink, P: Pool>(
     alloc: Global,
     words: &[Word],
