@@ -319,7 +319,10 @@ fn releases_are_told(rt: HostRuntime) -> Result<(), Fail> {
 fn consolidations_are_told(rt: HostRuntime) -> Result<(), Fail> {
     let message = Message::Consolidated(filled(A_B), 2, 8);
     let line = line_of(rt.alloc(), 1, &message)?;
-    assert_eq!(rt; line.as_str(), "ADR127I (001) A.B CONSOLIDATED FROM 2 EXTENTS TO 8\n");
+    assert_eq!(rt;
+        line.as_str(),
+        "ADR127I (001) A.B CONSOLIDATED FROM 2 EXTENTS TO 8\n"
+    );
     Ok(())
 }
 

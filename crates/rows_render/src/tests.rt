@@ -436,6 +436,30 @@ fn only_tracks_that_change_are_written(rt: HostRuntime) -> Result<(), Fail> {
     )
 }
 
+// A's extents become one; its format 1 keeps its record, and the record of its format 3 is free.
+#[test]
+fn a_swapped_data_set_keeps_its_record(rt: HostRuntime) -> Result<(), Fail> {
+    let Ok(name) = Dsn::read(b"A00") else {
+        return Err(Fail::new("no name"));
+    };
+    let a = one(A, 4, &[(4, 4), (6, 6), (8, 8)], (1, 4));
+    let b = one(B, 1, &[(5, 5)], (0, 0));
+    let stated = five(&[(2, 2), (7, 1), (9, 1), (11, 4)], (0, 0));
+    let before = [
+        four((1, 5), 1, 0, 1, 1),
+        stated,
+        a,
+        three(&[(10, 10)]),
+        b,
+        FREE,
+    ];
+    let stated = five(&[(2, 3), (6, 6), (14, 1)], (0, 0));
+    let a = one(A, 1, &[(12, 13)], (0, 0));
+    let after = [four((1, 5), 2, 0, 1, 1), stated, a, FREE, b, FREE];
+    let change = Change::Swap(name, row(&rt, A, &[(12, 13)])?);
+    expect(&rt, 1, &[&before], &change, &[(1, &after)], (2, 1))
+}
+
 // The highest format 1 is then B's, on the second track.
 #[test]
 fn the_highest_format_1_goes(rt: HostRuntime) -> Result<(), Fail> {

@@ -1,0 +1,3 @@
+mod Starts
+mod Adding
+mod Moving
