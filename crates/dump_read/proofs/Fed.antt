@@ -1,0 +1,148 @@
+-- What was read from a reel, one part after the other.
+use Rattle.std.proofs.Common.{◌≡◌, inl, inr, ℕ, ◌+◌, ◌≤◌, ◌<◌, min, List, [], ◌++◌, length, take, Option, Some, None, refl, sym, ap, subst, ◌∙◌, arith, length-append, append_assoc}
+use Rattle.std.proofs.lemmas.Bool.{cases_lt}
+use Rattle.byteorder.specs.Endian.{big_bytes}
+use Rattle.std.proofs.lemmas.List.{take-append-le, append-nil, length-take}
+use Rattle.sha2.specs.Hashers.{Holds256}
+use Rattle.dasd_pool.specs.Stream.{Takes, EndsOnly}
+use Rattle.ckd_image.specs.Bytes.{Begins}
+use Rattle.dump_fmt.specs.declared.piece.DumpHead.{DumpHead}
+use Rattle.dump_fmt.specs.Head.{IsDumpHead, header_text, day_text}
+use Rattle.dump_fmt.specs.declared.fault.DumpFault.{DumpFault}
+use Rattle.dump_read.specs.declared.feed.Feed.{Feed}
+use Rattle.dump_read.specs.declared.header.HeaderField.{HeaderField}
+use Rattle.dump_read.specs.declared.header.HeaderField.TheVariants as fields
+use Rattle.dump_read.specs.declared.header.HeaderStop.{HeaderStop}
+use Rattle.dump_read.specs.declared.header.HeaderStop.TheVariants.{Wrong, Cut}
+use Rattle.dump_read.specs.Tape.{TapeSeen}
+use Rattle.dump_read.specs.Feed.{coming, largest_offset}
+use Rattle.dump_read.specs.Fields.{GoesOn, IsFirstWrong}
+use Rattle.dump_read.specs.Header.{offset_of, length_of, IsHeader, IsHeaderStop}
+use Rattle.dump_read.specs.Reading.{HasRead, IsHeaderFault, header_fault}
+use Rattle.dump_read.proofs.Words.{whole_front}
+
+takes_none : (held left : Option (List ℕ)) → held ≡ left → Takes held (coming [] left) []
+takes_none None left same = subst (λ (o : Option (List ℕ)). coming [] o ≡ None) same refl
+takes_none (Some bytes) left same = (bytes, subst (λ (o : Option (List ℕ)). coming [] o ≡ Some bytes) same refl, refl)
+
+pub read_none : (tape : TapeSeen) (feed : Feed) → tape.left ≡ tape.held → feed.window ≡ [] → feed.offset ≡ 0 → Holds256 feed.digest [] → HasRead tape feed []
+read_none tape feed same window offset digest = record {
+  taken = subst (λ (w : List ℕ). Takes tape.held (coming w tape.left) []) (sym window) (takes_none tape.held tape.left (sym same));
+  offset = omega arith;
+  digest = digest;
+}
+
+takes_behind : (old new : Option (List ℕ)) (bytes piece left : List ℕ) (whole : List ℕ) → whole ≡ bytes ++ left → old ≡ Some left → Takes old new piece → Takes (Some whole) new (bytes ++ piece)
+takes_behind old new bytes piece left whole is there took =
+    let more : Takes (Some left) new piece = subst (λ (o : Option (List ℕ)). Takes o new piece) there took in
+    (more.0, more.1, is ∙ ap (λ (t : List ℕ). bytes ++ t) more.2 ∙ sym (append_assoc bytes piece more.0))
+
+pub takes_more : (held old new : Option (List ℕ)) (bytes piece : List ℕ) → Takes held old bytes → Takes old new piece → Takes held new (bytes ++ piece)
+takes_more None old new bytes piece first then' = subst (λ (o : Option (List ℕ)). Takes o new piece) first then'
+takes_more (Some whole) old new bytes piece first then' = takes_behind old new bytes piece first.0 whole first.2 first.1 then'
+
+pub read_more : (old new : TapeSeen) (before after : Feed) (bytes piece : List ℕ) → HasRead old before bytes → new.held ≡ old.held
+    → Takes (coming before.window old.left) (coming after.window new.left) piece → after.offset ≡ min (before.offset + length piece) largest_offset
+    → ((message : List ℕ) → Holds256 before.digest message → Holds256 after.digest (message ++ piece)) → HasRead new after (bytes ++ piece)
+read_more old new before after bytes piece is same took offset holds = record {
+  taken = subst (λ (h : Option (List ℕ)). Takes h (coming after.window new.left) (bytes ++ piece)) (sym same)
+      (takes_more old.held (coming before.window old.left) (coming after.window new.left) bytes piece is.taken took);
+  offset = let a = is.offset in let b = length-append bytes piece in omega arith;
+  digest = holds bytes is.digest;
+}
+
+-- ---- what was read of the header
+
+same_take : (rest more : List ℕ) (len : ℕ) → (length rest < len → more ≡ []) → take len (rest ++ more) ≡ take len rest
+same_take rest more len ends = elim (cases_lt (length rest) len) [
+  | inl short ↦ ap (λ (t : List ℕ). take len (rest ++ t)) (ends short) ∙ ap (take len) (append-nil rest)
+  | inr long ↦ take-append-le len rest more long
+]
+
+-- a field that is wrong within some bytes is so with more behind them
+pub wrong_with_more : (Is : List ℕ → Type 0) (bytes more : List ℕ) (place len : ℕ) → (length bytes < place + len → more ≡ []) → IsFirstWrong Is bytes place len → IsFirstWrong Is (bytes ++ more) place len
+wrong_with_more Is bytes more place len ends is =
+    let long : length bytes ≡ place + length is.rest = ap length is.spelled ∙ length-append is.front is.rest ∙ ap (λ (n : ℕ). n + length is.rest) is.place_is in
+    record {
+      front = is.front;
+      rest = is.rest ++ more;
+      spelled = ap (λ (t : List ℕ). t ++ more) is.spelled ∙ append_assoc is.front is.rest more;
+      place_is = is.place_is;
+      begun = is.begun;
+      wrong = subst (λ (t : List ℕ). ¬ GoesOn Is (is.front ++ t)) (sym (same_take is.rest more len (λ short. ends (omega arith)))) is.wrong;
+    }
+
+fields_within : (field : HeaderField) → offset_of field + length_of field ≤ 32
+fields_within fields.Magic = omega arith
+fields_within fields.Kind = omega arith
+fields_within fields.Device = omega arith
+fields_within fields.Serial = omega arith
+fields_within fields.Tracks = omega arith
+fields_within fields.Vtoc = omega arith
+fields_within fields.Zeros = omega arith
+
+-- what is left is nothing, where fewer than 32 bytes came
+nothing_left : (whole left bytes : List ℕ) (next : Option (List ℕ)) → next ≡ Some left → (length bytes < 32 → EndsOnly next) → length bytes < 32 → left ≡ []
+nothing_left whole left bytes next is ends short = subst EndsOnly is (ends short)
+
+stop_so : (whole : List ℕ) (bytes left : List ℕ) (stop : HeaderStop) → whole ≡ bytes ++ left → (length bytes < 32 → left ≡ []) → IsHeaderStop bytes stop
+    → IsHeaderFault (Some whole) (header_fault (length bytes) stop)
+stop_so whole bytes left (Wrong field) is ends wrong = record {
+  field = field;
+  at = refl;
+  number = refl;
+  wrong = subst (λ (t : List ℕ). IsFirstWrong IsHeader t (offset_of field) (length_of field)) (sym is)
+      (wrong_with_more IsHeader bytes left (offset_of field) (length_of field) (λ short. ends (let h = fields_within field in omega arith)) wrong);
+}
+stop_so whole bytes left Cut is ends (short, goes) =
+    let all : whole ≡ bytes = is ∙ ap (λ (t : List ℕ). bytes ++ t) (ends short) ∙ append-nil bytes in
+    record {
+      all = ap length (sym all);
+      short = let h = ap length all in omega arith;
+      goes = subst (GoesOn IsHeader) (sym all) goes;
+    }
+
+untold : (count : ℕ) (stop : HeaderStop) → IsHeaderFault None (header_fault count stop)
+untold count (Wrong field) = tt
+untold count Cut = tt
+
+refused_by : (held next : Option (List ℕ)) (bytes : List ℕ) (stop : HeaderStop) → Takes held next bytes → (length bytes < 32 → EndsOnly next) → IsHeaderStop bytes stop
+    → IsHeaderFault held (header_fault (length bytes) stop)
+refused_by None next bytes stop took ends is = untold (length bytes) stop
+refused_by (Some whole) next bytes stop took ends is = stop_so whole bytes took.0 stop took.2 (λ short. nothing_left whole took.0 bytes next took.1 ends short) is
+
+pub header_refused : (tape : TapeSeen) (feed : Feed) (bytes : List ℕ) (stop : HeaderStop) → HasRead tape feed bytes → (length bytes < 32 → EndsOnly (coming feed.window tape.left)) → IsHeaderStop bytes stop
+    → IsHeaderFault tape.held (header_fault (length bytes) stop)
+header_refused tape feed bytes stop is ends stops = refused_by tape.held (coming feed.window tape.left) bytes stop is.taken ends stops
+
+pub long_header : (head : DumpHead) → IsDumpHead head → length (header_text head) ≡ 32
+long_header head sound =
+    let a = length-append head.serial.text (big_bytes 4 head.tracks) in
+    let b = length-append (head.serial.text ++ big_bytes 4 head.tracks) (day_text head) in
+    let six = sound.serial.1.six in
+    omega arith
+
+-- no more than 32 bytes that begin with a header are it
+pub header_is : (head : DumpHead) (bytes : List ℕ) → IsDumpHead head → length bytes ≤ 32 → Begins (header_text head) bytes → bytes ≡ header_text head
+header_is head bytes sound short (more, is) = whole_front (header_text head) bytes more is (let h = long_header head sound in omega arith)
+
+-- ---- the beginning
+
+-- the first bytes that were fetched, by what was done
+pub first_fetched : (old new : TapeSeen) (fresh after : Feed) (buf : List ℕ) (count : ℕ) → old.left ≡ old.held → fresh.window ≡ [] → fresh.offset ≡ 0 → Holds256 fresh.digest []
+    → count ≤ length buf → Takes (coming fresh.window old.left) (coming after.window new.left) (take count buf) → after.offset ≡ min (fresh.offset + count) largest_offset
+    → ((message : List ℕ) → Holds256 fresh.digest message → Holds256 after.digest (message ++ take count buf)) → new.held ≡ old.held → HasRead new after (take count buf)
+first_fetched old new fresh after buf count same window none empty within took offset holds held =
+    let len : length (take count buf) ≡ count = length-take count buf ∙ (let e : min count (length buf) ≡ count = omega arith in e) in
+    read_more old new fresh after [] (take count buf) (read_none old fresh same window none empty) held took (subst (λ (n : ℕ). after.offset ≡ min (fresh.offset + n) largest_offset) (sym len) offset) holds
+
+pub whole_header : (tape : TapeSeen) (feed : Feed) (head : DumpHead) (bytes : List ℕ) → HasRead tape feed bytes → length bytes ≤ 32 → IsDumpHead head → Begins (header_text head) bytes
+    → HasRead tape feed (header_text head)
+whole_header tape feed head bytes is short sound begins = subst (HasRead tape feed) (header_is head bytes sound short begins) is
+
+pub no_header : (tape : TapeSeen) (feed : Feed) (buf : List ℕ) (count : ℕ) (stop : HeaderStop) (fault : DumpFault) → HasRead tape feed (take count buf) → length buf ≡ 32 → count ≤ length buf
+    → (count < length buf → EndsOnly (coming feed.window tape.left)) → IsHeaderStop (take count buf) stop → fault ≡ header_fault count stop → IsHeaderFault tape.held fault
+no_header tape feed buf count stop fault is full within ends stops same =
+    let len : length (take count buf) ≡ count = length-take count buf ∙ (let e : min count (length buf) ≡ count = omega arith in e) in
+    subst (IsHeaderFault tape.held) (sym (same ∙ ap (λ (n : ℕ). header_fault n stop) (sym len)))
+    (header_refused tape feed (take count buf) stop is (λ short. ends (omega arith)) stops)

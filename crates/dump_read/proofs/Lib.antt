@@ -1,0 +1,15 @@
+pub mod Chains
+pub mod Numbers
+pub mod Serials
+pub mod Words
+pub mod Headers
+pub mod Stopping
+pub mod Fed
+pub mod Delimited
+pub mod Bounds
+pub mod OneDump
+pub mod Ends
+pub mod Names
+pub mod PartFields
+pub mod PartChain
+pub mod PartStops

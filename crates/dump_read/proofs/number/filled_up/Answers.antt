@@ -1,0 +1,5 @@
+use Rattle.dump_read.proofs.Chains.{put_filled}
+use Rattle.dump_read.proofs.number.filled_up.Goals as goal
+
+pub returns : goal.returns
+returns c = put_filled c.put.new.bytes c.args.bytes.now c.put.result 4 0 c.put.ensures.end c.put.ensures.written c.put.ensures.behind

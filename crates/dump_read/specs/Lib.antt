@@ -1,0 +1,8 @@
+pub mod Tape
+pub mod Feed
+pub mod Fields
+pub mod Header
+pub mod Reading
+pub mod DumpLaws
+pub mod Ending
+pub mod PartText

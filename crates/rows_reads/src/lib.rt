@@ -1,0 +1,5 @@
+//! Tests: dumps that are read.
+#![tactic(auto)]
+
+#[cfg(test)]
+mod tests;
