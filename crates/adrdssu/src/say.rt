@@ -93,7 +93,7 @@ fn first_unknown(words: &[Word]) -> Option<&str> {
 pub fn say_not_built(rt: &HostRuntime) {
     say(
         rt,
-        "PRINT, RELEASE and CONSOLIDATE are the commands that are built yet, and no sample volume is",
+        "PRINT, RELEASE, CONSOLIDATE and COPY are the commands that are built yet, and no sample volume is",
     );
 }
 

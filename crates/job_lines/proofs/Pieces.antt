@@ -1,5 +1,6 @@
 -- The texts of messages, as they are put together.
-use Rattle.std.proofs.Common.{◌≡◌, ℕ, List, ◌++◌, ap, ◌∙◌, append_assoc}
+use Rattle.std.proofs.Common.{◌≡◌, ℕ, List, [], ◌++◌, sym, ap, ◌∙◌, append_assoc}
+use Rattle.std.proofs.lemmas.List.{append-nil}
 use Rattle.std.specs.Prelude.{codes}
 use Rattle.std.specs.Fmt.{decimal}
 use Rattle.volume_model.specs.declared.why.Why.TheVariants as whys
@@ -80,3 +81,23 @@ volume_together text serial device volume is serial-is device-is =
     regroup : (V n s d U u F f I r R x : List ℕ)
         → V ++ (n ++ (s ++ (d ++ (U ++ (u ++ (F ++ (f ++ (I ++ (r ++ (R ++ x)))))))))) ≡ V ++ n ++ s ++ d ++ U ++ u ++ F ++ f ++ I ++ r ++ R ++ x
     regroup V n s d U u F f I r R x = simp append_assoc
+
+-- a copy, without and with another name
+pub copied_together : (text name shown serial volume : List ℕ) → text ≡ name ++ (codes " COPIED TO " ++ serial) → name ≡ shown → serial ≡ volume
+    → text ≡ shown ++ codes " COPIED TO " ++ volume ++ []
+copied_together text name shown serial volume is name-is serial-is =
+    is ∙ (λ i. name-is i ++ (codes " COPIED TO " ++ serial-is i)) ∙ regroup shown (codes " COPIED TO ") volume
+  where
+    regroup : (n c v : List ℕ) → n ++ (c ++ v) ≡ n ++ c ++ v ++ []
+    regroup n c v = sym (append_assoc n c v) ∙ sym (append-nil (n ++ c ++ v))
+
+pub renamed_together : (text name shown serial volume copy new : List ℕ) → text ≡ name ++ (codes " COPIED TO " ++ (serial ++ (codes " AS " ++ copy))) → name ≡ shown → serial ≡ volume → copy ≡ new
+    → text ≡ shown ++ codes " COPIED TO " ++ volume ++ (codes " AS " ++ new)
+renamed_together text name shown serial volume copy new is name-is serial-is copy-is =
+    is ∙ (λ i. name-is i ++ (codes " COPIED TO " ++ (serial-is i ++ (codes " AS " ++ copy-is i)))) ∙ regroup shown (codes " COPIED TO ") volume (codes " AS ") new
+  where
+    regroup : (n c v a w : List ℕ) → n ++ (c ++ (v ++ (a ++ w))) ≡ n ++ c ++ v ++ (a ++ w)
+    regroup n c v a w = simp append_assoc
+
+pub deleted_together : (text name shown : List ℕ) → text ≡ name ++ codes " DELETED" → name ≡ shown → text ≡ shown ++ codes " DELETED"
+deleted_together text name shown is name-is = is ∙ ap (λ (n : List ℕ). n ++ codes " DELETED") name-is

@@ -1,3 +1,4 @@
 pub mod Names
 pub mod Severity
 pub mod Lines
+pub mod Order

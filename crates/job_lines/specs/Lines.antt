@@ -1,5 +1,5 @@
 -- The lines that print messages.
-use Rattle.std.specs.Prelude.{ℕ, ◌+◌, ◌/◌, ◌%◌, List, [], ◌∷◌, ◌++◌, codes, slice_index, ◌==◌, if◌then◌else◌, bit_and}
+use Rattle.std.specs.Prelude.{ℕ, ◌+◌, ◌/◌, ◌%◌, List, [], ◌∷◌, ◌++◌, Option, Some, None, codes, slice_index, ◌==◌, if◌then◌else◌, bit_and}
 use Rattle.std.specs.Fmt.{decimal}
 use Rattle.ckd_image.specs.declared.device.Device.{Device}
 use Rattle.ckd_image.specs.declared.device.Device.TheVariants.{D3390, D3380}
@@ -113,6 +113,11 @@ abbrev pub extent_text : ExtentSummary → List ℕ
 extent_text extent =
     codes "EXTENT " ++ decimal extent.number ++ codes " KIND " ++ hex extent.kind ++ codes " FROM " ++ decimal extent.first ++ codes " LENGTH " ++ decimal extent.tracks
 
+-- what is said of the name of a copy where it is another than its origin's
+abbrev pub renamed : Option (List ℕ) → List ℕ
+renamed None = []
+renamed (Some name) = codes " AS " ++ printed name
+
 abbrev pub number_of : Message → ℕ
 number_of (messages.Started verb) = 101
 number_of (messages.Ended verb code) = 102
@@ -121,6 +126,8 @@ number_of (messages.Set set) = 111
 number_of (messages.Extent extent) = 112
 number_of (messages.Released name tracks) = 120
 number_of (messages.Consolidated name extents first) = 127
+number_of (messages.Copied name serial copy) = 121
+number_of (messages.Deleted name) = 124
 number_of messages.NothingSelected = 201
 number_of (messages.Rebuilt serial) = 202
 number_of (messages.NotProcessed name reason severity) = reason_number reason
@@ -128,6 +135,7 @@ number_of (messages.Offline serial why) = 401
 number_of (messages.Indexed serial) = 402
 number_of (messages.VtocTooLong serial) = 403
 number_of (messages.UnknownName serial) = 408
+number_of messages.UnlikeDevices = 411
 
 abbrev pub text_in : Message → List ℕ
 text_in (messages.Started verb) = command_name verb ++ codes " STARTED"
@@ -137,6 +145,8 @@ text_in (messages.Set set) = set_text set
 text_in (messages.Extent extent) = extent_text extent
 text_in (messages.Released name tracks) = printed name ++ codes " RELEASED " ++ decimal tracks
 text_in (messages.Consolidated name extents first) = printed name ++ codes " CONSOLIDATED FROM " ++ decimal extents ++ codes " EXTENTS TO " ++ decimal first
+text_in (messages.Copied name serial copy) = printed name ++ codes " COPIED TO " ++ printed serial.text ++ renamed copy
+text_in (messages.Deleted name) = printed name ++ codes " DELETED"
 text_in messages.NothingSelected = codes "NOTHING SELECTED"
 text_in (messages.Rebuilt serial) = printed serial.text ++ codes " VTOC REBUILT"
 text_in (messages.NotProcessed name reason severity) = printed name ++ codes " NOT PROCESSED: " ++ reason_words reason
@@ -144,6 +154,7 @@ text_in (messages.Offline serial why) = codes "UNIT " ++ printed serial.text ++ 
 text_in (messages.Indexed serial) = codes "VOLUME " ++ printed serial.text ++ codes " INDEXED"
 text_in (messages.VtocTooLong serial) = codes "VOLUME " ++ printed serial.text ++ codes " VTOC TOO LONG"
 text_in (messages.UnknownName serial) = codes "UNKNOWN NAME " ++ printed serial.text
+text_in messages.UnlikeDevices = codes "UNLIKE DEVICES"
 
 -- a line: the message's number and letter, the number of its statement in brackets, and its text
 abbrev pub line : ℕ → Message → List ℕ

@@ -27,6 +27,7 @@ severity_in (messages.Offline serial why) = severities.Ending
 severity_in (messages.Indexed serial) = severities.Ending
 severity_in (messages.VtocTooLong serial) = severities.Ending
 severity_in (messages.UnknownName serial) = severities.Ending
+severity_in messages.UnlikeDevices = severities.Ending
 severity_in _ = severities.Information
 
 -- the condition code of a statement that said these: that of the gravest

@@ -69,6 +69,9 @@ pub enum Message {
     Released([u8; 44], u32),
     /// A data set that stood in so many extents, and the first track of the one in which it stands now.
     Consolidated([u8; 44], usize, u32),
+    /// A data set, the volume to which it was copied, and the name of the copy where it is another.
+    Copied([u8; 44], Serial, Option<[u8; 44]>),
+    Deleted([u8; 44]),
     /// The filter takes no data set.
     NothingSelected,
     /// The free space of the volume with this serial was stated anew.
@@ -80,6 +83,8 @@ pub enum Message {
     VtocTooLong(Serial),
     /// No unit is registered under this serial.
     UnknownName(Serial),
+    /// A data set can't be copied to a volume of another device.
+    UnlikeDevices,
 }
 
 impl Message {
@@ -92,7 +97,8 @@ impl Message {
             Message::Offline(..)
             | Message::Indexed(_)
             | Message::VtocTooLong(_)
-            | Message::UnknownName(_) => Severity::Ending,
+            | Message::UnknownName(_)
+            | Message::UnlikeDevices => Severity::Ending,
             _ => Severity::Information,
         }
     }

@@ -30,6 +30,8 @@ pub(crate) fn text_in(alloc: Global, message: &Message) -> Result<String, AllocE
         Message::Consolidated(name, extents, first) => {
             consolidated_text(alloc, name, *extents, *first)
         }
+        Message::Copied(name, serial, copy) => copied_text(alloc, name, *serial, *copy),
+        Message::Deleted(name) => deleted_text(alloc, name),
         Message::NothingSelected => String::from_str(alloc, "NOTHING SELECTED"),
         Message::Rebuilt(serial) => rebuilt_text(alloc, *serial),
         Message::NotProcessed(name, reason, _) => not_processed_text(alloc, name, *reason),
@@ -37,6 +39,7 @@ pub(crate) fn text_in(alloc: Global, message: &Message) -> Result<String, AllocE
         Message::Indexed(serial) => indexed_text(alloc, *serial),
         Message::VtocTooLong(serial) => too_long_text(alloc, *serial),
         Message::UnknownName(serial) => unknown_text(alloc, *serial),
+        Message::UnlikeDevices => String::from_str(alloc, "UNLIKE DEVICES"),
     }
 }
 
@@ -134,6 +137,33 @@ fn consolidated_text(
 {
     let name = printed_name(alloc, name)?;
     format!(in alloc; "{name} CONSOLIDATED FROM {extents} EXTENTS TO {first}")
+}
+
+/// With the name of the copy where it is another than its origin's.
+fn copied_text(
+    alloc: Global,
+    name: &[u8; 44],
+    serial: Serial,
+    copy: Option<[u8; 44]>,
+) -> Result<String, AllocError>
+    ensures { IfOk result (λ text. string_bytes text ≡ printed name.now ++ codes " COPIED TO " ++ printed serial.text ++ spec.renamed copy) }
+{
+    let name = printed_name(alloc, name)?;
+    let serial = printed_name(alloc, &serial.text)?;
+    match copy {
+        None => format!(in alloc; "{name} COPIED TO {serial}"),
+        Some(copy) => {
+            let copy = printed_name(alloc, &copy)?;
+            format!(in alloc; "{name} COPIED TO {serial} AS {copy}")
+        }
+    }
+}
+
+fn deleted_text(alloc: Global, name: &[u8; 44]) -> Result<String, AllocError>
+    ensures { IfOk result (λ text. string_bytes text ≡ printed name.now ++ codes " DELETED") }
+{
+    let name = printed_name(alloc, name)?;
+    format!(in alloc; "{name} DELETED")
 }
 
 fn rebuilt_text(alloc: Global, serial: Serial) -> Result<String, AllocError>

@@ -33,6 +33,8 @@ pub(crate) fn number_of(message: &Message) -> u16
         Message::Extent(_) => 112,
         Message::Released(..) => 120,
         Message::Consolidated(..) => 127,
+        Message::Copied(..) => 121,
+        Message::Deleted(_) => 124,
         Message::NothingSelected => 201,
         Message::Rebuilt(_) => 202,
         Message::NotProcessed(_, reason, _) => reason_number(*reason),
@@ -40,6 +42,7 @@ pub(crate) fn number_of(message: &Message) -> u16
         Message::Indexed(_) => 402,
         Message::VtocTooLong(_) => 403,
         Message::UnknownName(_) => 408,
+        Message::UnlikeDevices => 411,
     }
 }
 

@@ -17,7 +17,8 @@ use Rattle.job_lines.specs.declared.message.Reason.TheVariants as reasons
 use Rattle.job_ops.specs.declared.asking.Candidate.{Candidate}
 use Rattle.job_ops.specs.declared.task.Task.{Task}
 use Rattle.job_ops.specs.Asked.{IsSet, IsSeen, ReasonSoFar}
-use Rattle.job_ops.specs.Reasons.{IsReason, HasNoReason, IsHeld, PreventsInPlace}
+use Rattle.job_lines.specs.Order.{IsReason, HasNoReason}
+use Rattle.job_ops.specs.Reasons.{IsHeld, PreventsInPlace}
 
 -- ---- the data set that was seen
 

@@ -6,6 +6,7 @@ mod ReshapeParts
 mod ReshapePlans
 mod ReshapeKnown
 pub mod Standing
+mod TwoUnits
 mod SetsOfRows
 mod SameSessions
 mod Looking
@@ -22,3 +23,18 @@ pub mod Summaries
 pub mod Endings
 mod Going
 mod Wholly
+mod Acts
+mod CopyParts
+mod TransferPlans
+mod TransferUnits
+mod TransferActs
+mod TransferEnds
+mod CopyRoom
+mod CopyBehind
+mod CopyTurns
+mod CopySteps
+mod TextCounts
+mod CopyEnds
+mod CopyGoesOn
+mod CopyOrder
+mod CopyGoing

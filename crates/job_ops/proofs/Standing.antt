@@ -1,6 +1,6 @@
 -- How the unit that a statement names stands, as it was loaded, and what that says of the statement.
 use Rattle.std.proofs.Common.{◌≡◌, ℕ, zero, suc, ◌-◌, ◌/◌, ◌<◌, ◌≤◌, Bool, true, false, List, [], ◌∷◌, Some, refl, sym, ap, subst, ◌∙◌, arith}
-use Rattle.std.specs.Prelude.{slice_get, map, All}
+use Rattle.std.specs.Prelude.{slice_get, map}
 use Rattle.std.specs.Option.{option_map}
 use Rattle.std.proofs.lemmas.Bool.{false≢true}
 use Rattle.std.proofs.lemmas.List.Elements.{All-nil, All-cons}
@@ -13,9 +13,12 @@ use Rattle.unit_change.specs.Described.{Describes}
 use Rattle.unit_load.specs.declared.state.UnitState.{UnitState}
 use Rattle.unit_load.specs.declared.state.UnitState.TheVariants as loads
 use Rattle.unit_steps.specs.Loaded.{IsModel, AreModels}
+use Rattle.unit_steps.specs.Plans.{IsLoadedAt}
+use Rattle.job_lines.specs.declared.message.Message.{Message}
 use Rattle.job_lines.specs.declared.message.Message.TheVariants as messages
 use Rattle.job_ops.specs.declared.units.UnitUse.{UnitUse}
 use Rattle.job_ops.specs.Refusal.{IsUnitOf, Standing, gone, ready, standing_of, standing_in, StandsAs, IsUnknown, IsGone, HasIndex, HasLongVtoc, IsFirstNamed, IsNone, Refuses, Lets}
+use Rattle.job_ops.specs.Asked.{IsUnitFor}
 
 -- ---- units as they were loaded stand as those that they are
 
@@ -69,98 +72,105 @@ abbrev length_in : Standing → ℕ
 length_in (ready indexed tracks) = tracks
 length_in (gone why) = 0
 
--- a state has one volume
-pub one_index : (state : UnitState) (a b : Volume) → state ≡ loads.Online a → state ≡ loads.Online b → a.indexed ≡ b.indexed
-one_index state a b one other = ap (λ (s : UnitState). index_in (standing_in s)) (sym one ∙ other)
+-- ---- what holds of a named unit
+
+module _ (names : List Serial) (states : List UnitState) (named : UnitUse) (unit : ℕ) (is : IsUnitOf names named.serial unit) where
+  pub is_known : ¬ IsUnknown names named
+  is_known none = none unit named.serial (slice_get_within names unit named.serial is.name_is) (get_or_from_slice_get names unit named.serial named.serial is.name_is)
+
+  pub stands_so : (state : UnitState) → slice_get states unit ≡ Some state → StandsAs names (map standing_in states) named.serial (standing_in state)
+  stands_so state at = record {
+    unit = unit;
+    unit_is = is;
+    standing_is = slice_get-map standing_in states unit ∙ (λ i. option_map standing_in (at i));
+  }
+
+  pub is_gone : (why : Why) → slice_get states unit ≡ Some (loads.Offline why) → IsGone names (map standing_in states) named
+  is_gone why at = (why, stands_so (loads.Offline why) at)
+
+  module _ (volume : Volume) (at : IsLoadedAt states unit volume) where
+    stands : StandsAs names (map standing_in states) named.serial (ready volume.indexed volume.vtoc.len)
+    stands = stands_so (loads.Online volume) at
+
+    -- its standing is the one in which it was loaded
+    same_standing : (standing : Standing) → StandsAs names (map standing_in states) named.serial standing → ready volume.indexed volume.vtoc.len ≡ standing
+    same_standing standing other = one_standing names (map standing_in states) named.serial (ready volume.indexed volume.vtoc.len) standing stands other
+
+    pub is_there : ¬ IsGone names (map standing_in states) named
+    is_there went = subst IsReady (same_standing (gone went.0) went.1) (tt {0})
+
+    pub has_index : named.changes ≡ true → volume.indexed ≡ true → HasIndex names (map standing_in states) named
+    has_index changes indexed =
+        (changes, (volume.vtoc.len, subst (λ (b : Bool). StandsAs names (map standing_in states) named.serial (ready b volume.vtoc.len)) indexed stands))
+
+    pub has_no_index : (named.changes ≡ true → volume.indexed ≡ false) → ¬ HasIndex names (map standing_in states) named
+    has_no_index plain has = false≢true (sym (plain has.0) ∙ ap index_in (same_standing (ready true has.1.0) has.1.1))
+
+    pub has_long_vtoc : (room : ℕ) → named.changes ≡ true → (room - 1) / 2 < volume.vtoc.len → HasLongVtoc names room (map standing_in states) named
+    has_long_vtoc room changes long = (changes, (volume.vtoc.len, long, (volume.indexed, stands)))
+
+    pub has_short_vtoc : (room : ℕ) → (named.changes ≡ true → volume.vtoc.len ≤ (room - 1) / 2) → ¬ HasLongVtoc names room (map standing_in states) named
+    has_short_vtoc room short has =
+        let same : volume.vtoc.len ≡ has.1.0 = ap length_in (same_standing (ready has.1.2.0 has.1.0) has.1.2.1) in omega (arith, short has.0, has.1.1, same)
+
+    pub is_unit_for : (count room : ℕ) → unit < count → (named.changes ≡ true → volume.indexed ≡ false) → (named.changes ≡ true → volume.vtoc.len ≤ (room - 1) / 2)
+        → IsUnitFor count names room states named unit
+    is_unit_for count room below plain short = record {
+      unit_is = is;
+      below = below;
+      volume = volume;
+      loaded = at;
+      may = λ changes. record { volume = volume; loaded = at; not_indexed = plain changes; few_tracks = short changes };
+    }
 
 -- ---- one unit is named
 
-module _ (named : UnitUse) where
-  only : (P : UnitUse → Type 0) → ¬ P named → IsNone P (named ∷ [])
-  only P fails = All-cons (λ (some : UnitUse). ¬ P some) named [] fails (All-nil (λ (some : UnitUse). ¬ P some))
+module _ (P : UnitUse → Type 0) (named : UnitUse) where
+  only : ¬ P named → IsNone P (named ∷ [])
+  only fails = All-cons (λ (some : UnitUse). ¬ P some) named [] fails (All-nil (λ (some : UnitUse). ¬ P some))
 
-  first_is : (P : UnitUse → Type 0) → P named → IsFirstNamed P (named ∷ []) named.serial
-  first_is P is = (named, record { front = []; back = []; list_is = refl; holds = is; none = All-nil (λ (some : UnitUse). ¬ P some) }, refl)
+  pub first_is : (others : List UnitUse) → P named → IsFirstNamed P (named ∷ others) named.serial
+  first_is others is = (named, record { front = []; back = others; list_is = refl; holds = is; none = All-nil (λ (some : UnitUse). ¬ P some) }, refl)
 
-module _ (names : List Serial) (room : ℕ) (units : List Standing) (named : UnitUse) where
-  pub unknown_refused : All (λ name. ¬ (name ≡ named.serial)) names → Refuses names room units (named ∷ []) (messages.UnknownName named.serial)
-  unknown_refused none = first_is named (IsUnknown names) none
+module _ (names : List Serial) (room : ℕ) (states : List UnitState) (named : UnitUse) where
+  pub unknown_refused : (message : Message) → IsUnknown names named × (message ≡ messages.UnknownName named.serial)
+      → Refuses names room (map standing_in states) (named ∷ []) message
+  unknown_refused message (unknown, says) = subst (Refuses names room (map standing_in states) (named ∷ [])) (sym says) (first_is (IsUnknown names) named [] unknown)
 
-  known : (unit : ℕ) → IsUnitOf names named.serial unit → IsNone (IsUnknown names) (named ∷ [])
-  known unit is =
-      only named (IsUnknown names)
-      (λ none. none unit named.serial (slice_get_within names unit named.serial is.name_is) (get_or_from_slice_get names unit named.serial named.serial is.name_is))
+  module _ (unit : ℕ) (is : IsUnitOf names named.serial unit) where
+    known : IsNone (IsUnknown names) (named ∷ [])
+    known = only (IsUnknown names) named (is_known names states named unit is)
 
-  gone_refused : (unit : ℕ) (why : Why) → IsUnitOf names named.serial unit → slice_get units unit ≡ Some (gone why)
-      → Refuses names room units (named ∷ []) (messages.Offline named.serial why)
-  gone_refused unit why is at =
-      let stands : StandsAs names units named.serial (gone why) = record { unit = unit; unit_is = is; standing_is = at } in
-      (known unit is, first_is named (IsGone names units) (why, stands), stands)
+    pub offline_refused : (message : Message) → (why : Why) × (slice_get states unit ≡ Some (loads.Offline why)) × (message ≡ messages.Offline named.serial why)
+        → Refuses names room (map standing_in states) (named ∷ []) message
+    offline_refused message (why, at, says) =
+        subst (Refuses names room (map standing_in states) (named ∷ [])) (sym says)
+        (known, first_is (IsGone names (map standing_in states)) named [] (is_gone names states named unit is why at), stands_so names states named unit is (loads.Offline why) at)
 
-  module _ (unit : ℕ) (indexed : Bool) (tracks : ℕ) (is : IsUnitOf names named.serial unit) (at : slice_get units unit ≡ Some (ready indexed tracks)) where
-    stands : StandsAs names units named.serial (ready indexed tracks)
-    stands = record { unit = unit; unit_is = is; standing_is = at }
+    module _ (volume : Volume) (at : IsLoadedAt states unit volume) where
+      there : IsNone (IsGone names (map standing_in states)) (named ∷ [])
+      there = only (IsGone names (map standing_in states)) named (is_there names states named unit is volume at)
 
-    there : IsNone (IsGone names units) (named ∷ [])
-    there =
-        only named (IsGone names units)
-        (λ went. subst IsReady (one_standing names units named.serial (ready indexed tracks) (gone went.0) stands went.1) (tt {0}))
+      pub indexed_refused : (message : Message) → (named.changes ≡ true) × (volume.indexed ≡ true) × (message ≡ messages.Indexed named.serial)
+          → Refuses names room (map standing_in states) (named ∷ []) message
+      indexed_refused message (changes, indexed, says) =
+          subst (Refuses names room (map standing_in states) (named ∷ [])) (sym says)
+          (known, there, first_is (HasIndex names (map standing_in states)) named [] (has_index names states named unit is volume at changes indexed))
 
-    same_index : (b : Bool) (n : ℕ) → StandsAs names units named.serial (ready b n) → indexed ≡ b
-    same_index b n other = ap index_in (one_standing names units named.serial (ready indexed tracks) (ready b n) stands other)
+      module _ (plain : named.changes ≡ true → volume.indexed ≡ false) where
+        not_indexed : IsNone (HasIndex names (map standing_in states)) (named ∷ [])
+        not_indexed = only (HasIndex names (map standing_in states)) named (has_no_index names states named unit is volume at plain)
 
-    same_length : (b : Bool) (n : ℕ) → StandsAs names units named.serial (ready b n) → tracks ≡ n
-    same_length b n other = ap length_in (one_standing names units named.serial (ready indexed tracks) (ready b n) stands other)
+        pub long_refused : (message : Message) → (named.changes ≡ true) × ((room - 1) / 2 < volume.vtoc.len) × (message ≡ messages.VtocTooLong named.serial)
+            → Refuses names room (map standing_in states) (named ∷ []) message
+        long_refused message (changes, long, says) =
+            subst (Refuses names room (map standing_in states) (named ∷ [])) (sym says)
+            (known, there, not_indexed, first_is (HasLongVtoc names room (map standing_in states)) named [] (has_long_vtoc names states named unit is volume at room changes long))
 
-    not_indexed : (named.changes ≡ true → indexed ≡ false) → IsNone (HasIndex names units) (named ∷ [])
-    not_indexed plain = only named (HasIndex names units) (λ has. false≢true (sym (plain has.0) ∙ same_index true has.1.0 has.1.1))
-
-    not_long : (named.changes ≡ true → tracks ≤ (room - 1) / 2) → IsNone (HasLongVtoc names room units) (named ∷ [])
-    not_long few =
-        only named (HasLongVtoc names room units) (λ has. omega (arith, few has.0, has.1.1, same_length has.1.2.0 has.1.0 has.1.2.1))
-
-    index_refused : named.changes ≡ true → indexed ≡ true → Refuses names room units (named ∷ []) (messages.Indexed named.serial)
-    index_refused changes with_index = (
-      known unit is,
-      there,
-      first_is named (HasIndex names units) (changes, (tracks, subst (λ (b : Bool). StandsAs names units named.serial (ready b tracks)) with_index stands)),
-    )
-
-    long_refused : named.changes ≡ true → indexed ≡ false → (room - 1) / 2 < tracks → Refuses names room units (named ∷ []) (messages.VtocTooLong named.serial)
-    long_refused changes plain long = (
-      known unit is,
-      there,
-      not_indexed (λ _. plain),
-      first_is named (HasLongVtoc names room units) (changes, (tracks, long, (indexed, stands))),
-    )
-
-    all_lets : (named.changes ≡ true → (indexed ≡ false) × (tracks ≤ (room - 1) / 2)) → Lets names room units (named ∷ [])
-    all_lets may = record {
-      known = known unit is;
-      there = there;
-      not_indexed = not_indexed (λ changes. (may changes).0);
-      not_long = not_long (λ changes. (may changes).1);
-    }
-
--- the same of units as they were loaded
-module _ (names : List Serial) (room : ℕ) (states : List UnitState) (named : UnitUse) (unit : ℕ) (is : IsUnitOf names named.serial unit) where
-  at_state : (state : UnitState) → slice_get states unit ≡ Some state → slice_get (map standing_in states) unit ≡ Some (standing_in state)
-  at_state state at = slice_get-map standing_in states unit ∙ (λ i. option_map standing_in (at i))
-
-  pub offline_refused : (state : UnitState) (why : Why) → slice_get states unit ≡ Some state → state ≡ loads.Offline why
-      → Refuses names room (map standing_in states) (named ∷ []) (messages.Offline named.serial why)
-  offline_refused state why at gone_is = gone_refused names room (map standing_in states) named unit why is (at_state (loads.Offline why) (at ∙ (λ i. Some (gone_is i))))
-
-  module _ (state : UnitState) (volume : Volume) (at : slice_get states unit ≡ Some state) (online_is : state ≡ loads.Online volume) where
-    pub loaded_at : slice_get states unit ≡ Some (loads.Online volume)
-    loaded_at = at ∙ (λ i. Some (online_is i))
-
-    pub indexed_refused : named.changes ≡ true → volume.indexed ≡ true → Refuses names room (map standing_in states) (named ∷ []) (messages.Indexed named.serial)
-    indexed_refused = index_refused names room (map standing_in states) named unit volume.indexed volume.vtoc.len is (at_state (loads.Online volume) loaded_at)
-
-    pub too_long_refused : named.changes ≡ true → volume.indexed ≡ false → (room - 1) / 2 < volume.vtoc.len
-        → Refuses names room (map standing_in states) (named ∷ []) (messages.VtocTooLong named.serial)
-    too_long_refused = long_refused names room (map standing_in states) named unit volume.indexed volume.vtoc.len is (at_state (loads.Online volume) loaded_at)
-
-    pub named_lets : (named.changes ≡ true → (volume.indexed ≡ false) × (volume.vtoc.len ≤ (room - 1) / 2)) → Lets names room (map standing_in states) (named ∷ [])
-    named_lets = all_lets names room (map standing_in states) named unit volume.indexed volume.vtoc.len is (at_state (loads.Online volume) loaded_at)
+        pub all_lets : (named.changes ≡ true → volume.vtoc.len ≤ (room - 1) / 2) → Lets names room (map standing_in states) (named ∷ [])
+        all_lets short = record {
+          known = known;
+          there = there;
+          not_indexed = not_indexed;
+          not_long = only (HasLongVtoc names room (map standing_in states)) named (has_short_vtoc names states named unit is volume at room short);
+        }

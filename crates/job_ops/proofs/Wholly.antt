@@ -23,9 +23,12 @@ use Rattle.job_steps.specs.declared.cut.Cut.{Cut}
 use Rattle.job_steps.specs.declared.cut.Cut.TheVariants as cuts
 use Rattle.job_ops.specs.Consolidate.{ConsolidatesSet}
 use Rattle.job_ops.specs.Ends.{Ends}
-use Rattle.job_ops.specs.Meaning.{Means, MeansWhole, IsCutCommand, verb_of}
+use Rattle.job_ops.specs.Copy.{CopiesSet, CopiesSets, IsCutCopy, request_of}
+use Rattle.job_ops.specs.Meaning.{Means, MeansWhole, IsCutCommand, verb_of, wish_of}
 use Rattle.job_ops.specs.Release.{ReleasesSet}
 use Rattle.job_ops.specs.Sets.{OverSets, IsCutOverSets}
+use Rattle.job_copies.specs.declared.wish.Wish.{Wish}
+use Rattle.dsn_filter.specs.declared.rename.Rename.{Rename}
 use Rattle.job_ops.specs.Setting.{Setting, setting_of}
 use Rattle.job_ops.specs.Turns.{Action, Turns, AreCutTurns}
 use Rattle.job_ops.proofs.Codes.{code_started}
@@ -39,7 +42,7 @@ cut_before setting (commands.PrintVtoc unit) units = (refl, refl)
 cut_before setting (commands.Release filter unit) units = inl (refl, refl)
 cut_before setting (commands.Consolidate filter unit) units = inl (refl, refl)
 cut_before setting (commands.Defrag unit index limit) units = (refl, refl)
-cut_before setting (commands.Copy filter unit to delete purge replace rename tolerate) units = (refl, refl)
+cut_before setting (commands.Copy filter unit to delete purge replace rename tolerate) units = inl (refl, refl)
 cut_before setting (commands.DumpDataset filter unit outs reset delete purge tolerate) units = (refl, refl)
 cut_before setting (commands.DumpFull unit outs) units = (refl, refl)
 cut_before setting (commands.RestoreDataset filter input to purge replace rename) units = (refl, refl)
@@ -60,6 +63,15 @@ sets_cut Turn setting filter serial units steps said (inr (place, names, goes, i
 sets_cut Turn setting filter serial units steps said (inr (place, names, goes, inr (some, turns))) =
     inr (place, names, goes, turns_cut setting.facts (Turn place) names units steps said turns)
 
+-- so may a copy
+copies_cut : (setting : Setting) (filter : Filter) (serial to : Serial) (wish : Wish) (rename : Rename) (units : List UnitModel) (steps : List Step) (said : List Message)
+    → CopiesSets setting filter serial to wish rename units steps said → IsCutCopy setting filter serial to wish rename units steps None
+copies_cut setting filter serial to wish rename units steps said (inl (message, refused, none, is)) = inl (none, refl)
+copies_cut setting filter serial to wish rename units steps said (inr (inl (between, none, is))) = inl (none, refl)
+copies_cut setting filter serial to wish rename units steps said (inr (inr (from, unit, names, between, inl (no_names, none, is)))) = inl (none, refl)
+copies_cut setting filter serial to wish rename units steps said (inr (inr (from, unit, names, between, inr (some, turns)))) =
+    inr (from, unit, names, between, turns_cut setting.facts (CopiesSet (request_of setting wish rename from unit)) names units steps said turns)
+
 -- so may a command
 cut_behind : (setting : Setting) (command : Command) (units : List UnitModel) (steps : List Step) (said : List Message)
     → Means setting command units steps said → IsCutCommand setting command units steps None
@@ -67,7 +79,8 @@ cut_behind setting (commands.PrintVtoc unit) units steps said means = (means.0, 
 cut_behind setting (commands.Release filter unit) units steps said means = sets_cut (ReleasesSet setting.held) setting filter unit units steps said means
 cut_behind setting (commands.Consolidate filter unit) units steps said means = sets_cut (ConsolidatesSet setting.held) setting filter unit units steps said means
 cut_behind setting (commands.Defrag unit index limit) units steps said means = absurd means
-cut_behind setting (commands.Copy filter unit to delete purge replace rename tolerate) units steps said means = absurd means
+cut_behind setting (commands.Copy filter unit to delete purge replace rename tolerate) units steps said means =
+    copies_cut setting filter unit to (wish_of delete purge replace tolerate) rename units steps said means
 cut_behind setting (commands.DumpDataset filter unit outs reset delete purge tolerate) units steps said means = absurd means
 cut_behind setting (commands.DumpFull unit outs) units steps said means = absurd means
 cut_behind setting (commands.RestoreDataset filter input to purge replace rename) units steps said means = absurd means

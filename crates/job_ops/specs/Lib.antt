@@ -7,7 +7,10 @@ pub mod Sets
 pub mod Listing
 pub mod Release
 pub mod Consolidate
+pub mod Copy
 pub mod Meaning
 pub mod Ends
 pub mod Asked
 pub mod Reshaping
+pub mod Acts
+pub mod Copying

@@ -1,5 +1,5 @@
 -- What a statement means.
-use Rattle.std.specs.Prelude.{◌≡◌, ℕ, List, [], ◌∷◌, ◌++◌, Option, None}
+use Rattle.std.specs.Prelude.{◌≡◌, ℕ, Bool, List, [], ◌∷◌, ◌++◌, Option, None}
 use Rattle.sysin_words.specs.declared.lead.Verb.{Verb}
 use Rattle.sysin_lang.specs.declared.command.Command.{Command}
 use Rattle.sysin_lang.specs.declared.command.Command.TheVariants as commands
@@ -16,16 +16,24 @@ use Rattle.job_ops.specs.Setting.{Setting}
 use Rattle.job_ops.specs.Listing.{Prints}
 use Rattle.job_ops.specs.declared.task.Task.{Task}
 use Rattle.job_ops.specs.declared.task.Task.TheVariants as tasks
+use Rattle.dsn_filter.specs.Rename.{IsRename}
+use Rattle.job_copies.specs.declared.wish.Wish.{Wish}
 use Rattle.job_ops.specs.Consolidate.{ConsolidatesSet}
+use Rattle.job_ops.specs.Copy.{CopiesSets, IsCutCopy}
 use Rattle.job_ops.specs.Release.{ReleasesSet}
 use Rattle.job_ops.specs.Sets.{OverSets, IsCutOverSets}
 use Rattle.job_ops.specs.Turns.{Action}
 
--- the commands that are built
+-- what a copy says beside its filter, its volumes and the new names
+abbrev pub wish_of : Bool → Bool → Bool → Bool → Wish
+wish_of delete purge replace tolerate = record { delete = delete; purge = purge; replace = replace; tolerate = tolerate }
+
+-- The commands that are built. A copy is whose new names are names, as those that a text says are.
 abbrev pub IsBuilt : Command → Type 0
 IsBuilt (commands.PrintVtoc unit) = Unit {0}
 IsBuilt (commands.Release filter unit) = Unit {0}
 IsBuilt (commands.Consolidate filter unit) = Unit {0}
+IsBuilt (commands.Copy filter unit to delete purge replace rename tolerate) = IsRename rename
 IsBuilt _ = ⊥
 
 -- the turn of a data set in what a statement does with each
@@ -38,12 +46,16 @@ abbrev pub Means : Setting → Command → List UnitModel → List Step → List
 Means setting (commands.PrintVtoc serial) units steps said = Prints setting serial units steps said
 Means setting (commands.Release filter serial) units steps said = OverSets (ReleasesSet setting.held) setting filter serial units steps said
 Means setting (commands.Consolidate filter serial) units steps said = OverSets (ConsolidatesSet setting.held) setting filter serial units steps said
+Means setting (commands.Copy filter serial to delete purge replace rename tolerate) units steps said =
+    CopiesSets setting filter serial to (wish_of delete purge replace tolerate) rename units steps said
 Means setting _ units steps said = ⊥
 
 -- what it had done where it was cut
 abbrev pub IsCutCommand : Setting → Command → List UnitModel → List Step → Option Step → Type 0
 IsCutCommand setting (commands.Release filter serial) units steps pending = IsCutOverSets (ReleasesSet setting.held) setting filter serial units steps pending
 IsCutCommand setting (commands.Consolidate filter serial) units steps pending = IsCutOverSets (ConsolidatesSet setting.held) setting filter serial units steps pending
+IsCutCommand setting (commands.Copy filter serial to delete purge replace rename tolerate) units steps pending =
+    IsCutCopy setting filter serial to (wish_of delete purge replace tolerate) rename units steps pending
 IsCutCommand setting _ units steps pending = (steps ≡ []) × (pending ≡ None)
 
 abbrev pub verb_of : Command → Verb

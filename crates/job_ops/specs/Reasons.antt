@@ -1,5 +1,5 @@
 -- Why a data set that was selected isn't processed.
-use Rattle.std.specs.Prelude.{◌≡◌, ◌⊎◌, true, List, [], ◌∷◌, All, Any}
+use Rattle.std.specs.Prelude.{◌≡◌, ◌⊎◌, true, List, [], All, Any}
 use Rattle.dsn_filter.specs.declared.dsn.Dsn.{Dsn}
 use Rattle.enq_table.specs.declared.hold.Hold.{Hold}
 use Rattle.enq_table.specs.Table.{Conflicts}
@@ -8,22 +8,6 @@ use Rattle.move_core.specs.Stands.{IsGood}
 use Rattle.step_room.specs.Room.{IsFullFor}
 use Rattle.job_lines.specs.declared.message.Reason.{Reason}
 use Rattle.job_lines.specs.declared.message.Reason.TheVariants as reasons
-use Rattle.job_ops.specs.Refusal.{IsFirst}
-
--- the reasons, in the order in which they are judged
-abbrev pub in_order : List Reason
-in_order =
-    reasons.NewNameTooLong ∷ reasons.Pinned ∷ reasons.Held ∷ reasons.NotExpired ∷ reasons.NameExists ∷ reasons.BadTrack ∷ reasons.NotRelocatable
-    ∷ reasons.BlockTooLong ∷ reasons.NoSpace ∷ reasons.VtocFull ∷ []
-
--- the one that is told: the first whose condition holds
-abbrev pub IsReason : (Reason → Type 0) → Reason → Type 0
-IsReason Prevents reason = IsFirst Prevents in_order reason
-
-abbrev pub HasNoReason : (Reason → Type 0) → Type 0
-HasNoReason Prevents = (reason : Reason) → ¬ Prevents reason
-
--- ---- conditions
 
 -- somebody holds the name, so that it can't be changed
 abbrev pub IsHeld : List Hold → Dsn → Type 0

@@ -1,5 +1,5 @@
 -- Which unit a serial stands for, and what stands against a statement that names units.
-use Rattle.std.specs.Prelude.{◌≡◌, ◌≢◌, ℕ, ◌-◌, ◌/◌, ◌<◌, Bool, true, List, ◌∷◌, ◌++◌, All, Some, slice_get}
+use Rattle.std.specs.Prelude.{◌≡◌, ◌≢◌, ℕ, ◌-◌, ◌/◌, ◌<◌, Bool, true, List, All, Some, slice_get}
 use Rattle.vol_label.specs.declared.serial.Serial.{Serial}
 use Rattle.volume_model.specs.declared.why.Why.{Why}
 use Rattle.volume_model.specs.Unit.{UnitModel, online, offline}
@@ -7,6 +7,7 @@ use Rattle.unit_load.specs.declared.state.UnitState.{UnitState}
 use Rattle.unit_load.specs.declared.state.UnitState.TheVariants as states
 use Rattle.job_lines.specs.declared.message.Message.{Message}
 use Rattle.job_lines.specs.declared.message.Message.TheVariants as messages
+use Rattle.job_lines.specs.Order.{IsFirst}
 use Rattle.job_ops.specs.declared.units.UnitUse.{UnitUse}
 
 -- ---- units
@@ -51,14 +52,6 @@ HasIndex names units named = (named.changes ≡ true) × ((tracks : ℕ) × Stan
 -- it is to be changed and its VTOC has more tracks than one commit can change beside those of another
 abbrev pub HasLongVtoc : List Serial → ℕ → List Standing → UnitUse → Type 0
 HasLongVtoc names room units named = (named.changes ≡ true) × ((tracks : ℕ) × ((room - 1) / 2 < tracks) × ((indexed : Bool) × StandsAs names units named.serial (ready indexed tracks)))
-
--- the first element of a list of which something holds
-pub record IsFirst {X : Type 0} (Holds : X → Type 0) (list : List X) (x : X) : Type 0 where
-  pub front : List X
-  pub back : List X
-  pub list_is : list ≡ front ++ (x ∷ back)
-  pub holds : Holds x
-  pub none : All (λ other. ¬ Holds other) front
 
 -- the first of the named units of which something holds has this serial
 abbrev pub IsFirstNamed : (UnitUse → Type 0) → List UnitUse → Serial → Type 0

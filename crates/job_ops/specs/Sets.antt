@@ -13,7 +13,7 @@ use Rattle.job_lines.specs.declared.message.Reason.{Reason}
 use Rattle.job_lines.specs.declared.severity.Severity.{Severity}
 use Rattle.job_select.specs.Selection.{Selects}
 use Rattle.job_ops.specs.declared.units.UnitUse.{UnitUse}
-use Rattle.job_ops.specs.Reasons.{IsReason, HasNoReason}
+use Rattle.job_lines.specs.Order.{IsReason, HasNoReason}
 use Rattle.job_ops.specs.Refusal.{IsUnitOf, standing_of, Refuses, Lets}
 use Rattle.job_ops.specs.Setting.{Setting}
 use Rattle.job_ops.specs.Turns.{Action, Turns, AreCutTurns}

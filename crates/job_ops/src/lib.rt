@@ -3,6 +3,7 @@
 
 mod asking;
 mod consolidate;
+mod copies;
 mod listing;
 mod log;
 mod outcome;
@@ -12,6 +13,7 @@ mod reshaping;
 mod sets;
 mod statement;
 mod task;
+mod transfer;
 mod units;
 
 pub use job_lines::{Message, Reason, Severity, line_of};

@@ -55,7 +55,7 @@ fn only(alloc: Global, run: Run) -> Result<Runs, NoMemory>
 }
 
 /// What is known of a unit that was loaded.
-fn look_at<P: Pool>(session: &Session<P>, unit: u32)
+pub(crate) fn look_at<P: Pool>(session: &Session<P>, unit: u32)
     requires { unit < journal_of (P.shape session.now.pool) }
     ensures { IsKnown P.Pool session.now unit }
 {

@@ -8,6 +8,7 @@ ghost use Rattle.job_ops.specs.Ends.{Ends, EndsStatement, IsCutOutcome, IsDoneOu
 ghost use Rattle.job_ops.specs.Meaning.{IsBuilt, Means, MeansWhole, IsCutCommand, verb_of as verb_in};
 ghost use Rattle.job_ops.specs.Setting.{setting_of};
 
+use crate::copies::{CopyJob, copy};
 use crate::listing::print;
 use crate::log::{Log, say};
 use crate::outcome::Outcome;
@@ -18,6 +19,7 @@ use by_rules::Day;
 use ckd_image::Listed;
 use dasd_pool::Pool;
 use enq_table::Held;
+use job_copies::{Wish, is_rename};
 use job_lines::Message;
 use job_steps::Cut;
 use move_core::Step;
@@ -47,6 +49,7 @@ pub fn is_built(command: &Command) -> bool
 {
     match command {
         Command::PrintVtoc { .. } | Command::Release { .. } | Command::Consolidate { .. } => true,
+        Command::Copy { rename, .. } => is_rename(rename),
         _ => false,
     }
 }
@@ -104,6 +107,36 @@ fn perform<P: Pool>(
                     task: Task::Consolidate,
                     filter,
                     serial: *unit,
+                    held,
+                    today,
+                },
+                log,
+            )
+        }
+        Command::Copy {
+            filter,
+            unit,
+            to,
+            delete,
+            purge,
+            replace,
+            rename,
+            tolerate,
+        } => {
+            copy(
+                alloc,
+                session,
+                CopyJob {
+                    filter,
+                    serial: *unit,
+                    to: *to,
+                    wish: Wish {
+                        delete: *delete,
+                        purge: *purge,
+                        replace: *replace,
+                        tolerate: *tolerate,
+                    },
+                    rename,
                     held,
                     today,
                 },

@@ -1,8 +1,9 @@
 -- The names of the data sets that a filter takes, row by row.
-use Rattle.std.proofs.Common.{◌≡◌, ◌↔◌, inl, inr, ℕ, zero, suc, ◌+◌, ◌<◌, List, [], ◌∷◌, ◌++◌, length, drop, get_or, All, Bool, Option, Some, None, refl, sym, ap, subst, ◌∙◌, arith, append_assoc}
+use Rattle.std.proofs.Common.{◌≡◌, ◌≢◌, ◌↔◌, inl, inr, ℕ, zero, suc, ◌+◌, ◌<◌, List, [], ◌∷◌, ◌++◌, length, drop, get_or, All, AllPairs, Bool, Option, Some, None, refl, sym, ap, subst, ◌∙◌, arith, append_assoc}
 use Rattle.std.specs.Prelude.{IsTrue, IfNone}
 use Rattle.std.proofs.lemmas.List.{append-nil, length-map}
-use Rattle.std.proofs.lemmas.List.Elements.{All-push}
+use Rattle.std.proofs.lemmas.List.Elements.{All-push, All-weaker}
+use Rattle.std.proofs.lemmas.List.Quantifiers.{all_pairs_push}
 use Rattle.by_rules.specs.declared.day.Day.{Day}
 use Rattle.by_rules.specs.declared.row.RowFacts.{RowFacts}
 use Rattle.ckd_image.specs.Device.{heads_of}
@@ -14,13 +15,15 @@ use Rattle.volume_model.specs.Reads.{fields_of_1}
 use Rattle.volume_model.specs.Unit.{Extent, DataSet, tracks_of}
 use Rattle.vtoc_core.specs.declared.volume.Row.{Row}
 use Rattle.vtoc_core.specs.declared.volume.Volume.{Volume}
+use Rattle.volume_change.proofs.Names.{one_text}
 use Rattle.unit_change.specs.Described.{DescribesSet, DescribesSets}
 use Rattle.unit_steps.specs.Plans.{HasRow}
-use Rattle.step_plans.specs.Plans.{extents_from}
+use Rattle.step_plans.specs.Plans.{IsSound, extents_from}
 use Rattle.set_facts.specs.Facts.{facts_from, facts_of}
 use Rattle.set_facts.specs.Selection.{Passes, criteria_in}
 use Rattle.job_select.specs.Selection.{Takes, Selects}
 use Rattle.job_select.proofs.OneName.{one_named}
+use Rattle.job_select.proofs.RowNames.{differ_at, names_differ}
 use Rattle.job_select.proofs.Wholes.{on}
 
 -- ---- one data set
@@ -96,23 +99,44 @@ none_behind heads (row ∷ rows) (set ∷ sets) are = none_behind heads rows set
 
 -- ---- row by row
 
+-- the name of one of the rows before a place
+abbrev IsEarlier : Volume → ℕ → Dsn → Type 0
+IsEarlier volume k name = (place : ℕ) × (row : Row) × (place < k) × (get_or volume.rows place row ≡ row) × IsNameOf name row.name
+
 -- These names are taken of the rows so far: with those that are taken of the others they are all that are taken.
 pub record AreSoFar (volume : Volume) (filter : Filter) (today : Day) (k : ℕ) (names : List Dsn) : Type 0 where
   pub leads : (sets : List DataSet) → DescribesSets (heads_of volume.device) volume.rows sets
       → (more : List Dsn) → Selects filter today (drop k sets) more → Selects filter today sets (names ++ more)
   pub there : All (λ name. (row : Row) × HasRow volume name row) names
+  pub earlier : All (IsEarlier volume k) names
+  pub apart : AllPairs (λ name other. name ≢ other) names
 
 pub none_yet : (volume : Volume) (filter : Filter) (today : Day) → AreSoFar volume filter today 0 []
-none_yet volume filter today = record { leads = λ sets are more selects. selects; there = λ k d less. absurd (omega (arith, less)) }
+none_yet volume filter today = record {
+  leads = λ sets are more selects. selects;
+  there = λ k d less. absurd (omega (arith, less));
+  earlier = λ k d less. absurd (omega (arith, less));
+  apart = λ i j d less within. absurd (omega (arith, within));
+}
 
 module _ (volume : Volume) (filter : Filter) (today : Day) (k : ℕ) (names : List Dsn) (so_far : AreSoFar volume filter today k names) (row : Row) (at : get_or volume.rows k row ≡ row)
     (less : k < length volume.rows) where
   next : (sets : List DataSet) → DescribesSets (heads_of volume.device) volume.rows sets → IsAt (heads_of volume.device) row sets k
   next sets are = subst (λ (r : Row). IsAt (heads_of volume.device) r sets k) at (described_at (heads_of volume.device) volume.rows sets k row are less)
 
-  pub taken_more : (name : Dsn) → HasRow volume name row → ((set : DataSet) → DescribesSet (heads_of volume.device) row set → Takes filter today set)
+  still_earlier : All (IsEarlier volume (k + 1)) names
+  still_earlier =
+      All-weaker (IsEarlier volume k) (IsEarlier volume (k + 1)) (λ name before. (before.0, before.1, omega (arith, before.2), before.3, before.4)) names so_far.earlier
+
+  -- the name of this row is none of the earlier ones
+  other_name : IsSound volume → (name other : Dsn) → HasRow volume name row → IsEarlier volume k other → other ≢ name
+  other_name sound name other has (place, before, earlier, is, named) same =
+      differ_at volume.rows place k before row (names_differ volume sound) earlier less is at
+      (one_text name before.name row.name (subst (λ (n : Dsn). IsNameOf n before.name) same named) has.name_is)
+
+  pub taken_more : IsSound volume → (name : Dsn) → HasRow volume name row → ((set : DataSet) → DescribesSet (heads_of volume.device) row set → Takes filter today set)
       → (later : List Dsn) → later ≡ names ++ name ∷ [] → AreSoFar volume filter today (k + 1) later
-  taken_more name has takes later is = subst (AreSoFar volume filter today (k + 1)) (sym is) (record {
+  taken_more sound name has takes later is = subst (AreSoFar volume filter today (k + 1)) (sym is) (record {
     leads =
         λ sets are more selects. let set = next sets are in
         let named : IsNameOf name set.set.name = subst (IsNameOf name) (sym set.is.name_is) has.name_is in
@@ -120,6 +144,9 @@ module _ (volume : Volume) (filter : Filter) (today : Day) (k : ℕ) (names : Li
         (so_far.leads sets are (name ∷ more)
         (subst (λ (l : List DataSet). Selects filter today l (name ∷ more)) (sym set.parted) (inl (takes set.set set.is, (name, more, has.lawful, named, refl, selects)))));
     there = All-push (λ (n : Dsn). (r : Row) × HasRow volume n r) names name so_far.there (row, has);
+    earlier = All-push (IsEarlier volume (k + 1)) names name still_earlier (k, row, omega arith, at, has.name_is);
+    apart =
+        all_pairs_push (λ (n m : Dsn). n ≢ m) names name so_far.apart (λ i d within. other_name sound name (get_or names i d) has (so_far.earlier i d within));
   })
 
   pub passed_over : ((set : DataSet) → DescribesSet (heads_of volume.device) row set → ¬ Takes filter today set) → (later : List Dsn) → later ≡ names
@@ -129,6 +156,8 @@ module _ (volume : Volume) (filter : Filter) (today : Day) (k : ℕ) (names : Li
         λ sets are more selects. let set = next sets are in
         so_far.leads sets are more (subst (λ (l : List DataSet). Selects filter today l more) (sym set.parted) (inr (not set.set set.is, selects)));
     there = so_far.there;
+    earlier = still_earlier;
+    apart = so_far.apart;
   })
 
 pub all_taken : (volume : Volume) (filter : Filter) (today : Day) (k : ℕ) (names : List Dsn) → AreSoFar volume filter today k names → k ≡ length volume.rows

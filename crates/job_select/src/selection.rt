@@ -1,6 +1,6 @@
 //! Which data sets of a volume a filter takes.
 
-ghost use Rattle.std.specs.Prelude.{◌≡◌, ◌↔◌, IsTrue, All, Contains, IfOk, IfSome, IfNone};
+ghost use Rattle.std.specs.Prelude.{◌≡◌, ◌≢◌, ◌↔◌, IsTrue, All, AllPairs, Contains, IfOk, IfSome, IfNone};
 ghost use Rattle.by_rules.specs.Day.{IsToday};
 ghost use Rattle.ckd_image.specs.Device.{heads_of};
 ghost use Rattle.volume_model.specs.Unit.{DataSet, OnlineVolume};
@@ -50,7 +50,7 @@ fn name_taken(volume: &Volume, row: &Row, filter: &Filter, today: Day) -> Option
     Some(name)
 }
 
-/// The names of the data sets that a filter takes, in the order of names. It is one pass over the data sets.
+/// The names of the data sets that a filter takes, in the order of names, none of them twice. It is one pass over the data sets.
 pub fn select(
     alloc: Global,
     volume: &Volume,
@@ -61,6 +61,7 @@ pub fn select(
     requires today { IsToday today }
     ensures selected { IfOk result (λ names. (described : OnlineVolume) → Describes volume.now described → Selects filter.now today described.sets names.items) }
     ensures there { IfOk result (λ names. All (λ name. (row : RowOf) × HasRow volume.now name row) names.items) }
+    ensures apart { IfOk result (λ names. AllPairs (λ name other. name ≢ other) names.items) }
 {
     let rows = volume.rows.as_slice();
     let mut names = Vec::new(alloc);

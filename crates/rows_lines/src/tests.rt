@@ -326,6 +326,26 @@ fn consolidations_are_told(rt: HostRuntime) -> Result<(), Fail> {
     Ok(())
 }
 
+#[test]
+fn copies_are_told(rt: HostRuntime) -> Result<(), Fail> {
+    let lines = [
+        (
+            Message::Copied(filled(A_B), VOL002, None),
+            "ADR121I (001) A.B COPIED TO VOL002\n",
+        ),
+        (
+            Message::Copied(filled(A_B), VOL002, Some(filled(E1))),
+            "ADR121I (001) A.B COPIED TO VOL002 AS E1\n",
+        ),
+        (Message::Deleted(filled(A_B)), "ADR124I (001) A.B DELETED\n"),
+        (Message::UnlikeDevices, "ADR411T (001) UNLIKE DEVICES\n"),
+    ];
+    for (message, line) in lines {
+        assert_eq!(rt; line_of(rt.alloc(), 1, &message)?.as_str(), line);
+    }
+    Ok(())
+}
+
 /// Why a data set isn't processed, and how grave that is.
 const REASONS: [(&[u8], Reason, Severity, &str); 11] = [
     (
@@ -482,6 +502,7 @@ fn a_message_has_the_code_of_its_letter(rt: HostRuntime) {
         ),
         (Message::Offline(VOL001, Why::Filling), 12),
         (Message::UnknownName(VOL001), 12),
+        (Message::UnlikeDevices, 12),
     ];
     for (message, code) in cases {
         assert_eq!(rt; message.severity().code(), code);

@@ -3,4 +3,7 @@ mod Changing
 mod Left
 mod Counts
 mod Rooms
-mod Repairs
+mod Alike
+pub mod Repairs
+mod RunCounts
+mod Removals

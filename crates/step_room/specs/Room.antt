@@ -1,17 +1,18 @@
 -- Whether a VTOC has room for what a change leaves.
-use Rattle.std.specs.Prelude.{◌≡◌, ◌≢◌, ℕ, List, Contains}
+use Rattle.std.specs.Prelude.{◌≡◌, ◌≢◌, ◌⊎◌, ℕ, ◌≤◌, List, length, Contains}
 use Rattle.std.specs.Prelude.{All}
 use Rattle.ckd_image.specs.Device.{heads_of}
 use Rattle.dsn_filter.specs.declared.dsn.Dsn.{Dsn}
 use Rattle.volume_model.specs.Changed.{ChangesSets, IsFull}
-use Rattle.volume_model.specs.Unit.{Text, DataSet, OnlineVolume}
+use Rattle.volume_model.specs.Unit.{Text, DataSet, OnlineVolume, fives_for}
 use Rattle.vtoc_core.specs.declared.volume.Row.{Row}
 use Rattle.vtoc_core.specs.declared.volume.Volume.{Volume}
 use Rattle.volume_change.specs.declared.change.Change.{Change}
-use Rattle.volume_change.specs.declared.change.Change.TheVariants.{Repair, Swap, Mark}
+use Rattle.volume_change.specs.declared.change.Change.TheVariants.{Repair, Put, Swap, Remove, Mark}
 use Rattle.vtoc_render.specs.Next.{MayChange, IsNext, HasNoRoom}
 use Rattle.unit_change.specs.Described.{Describes}
 use Rattle.unit_change.specs.Changed.{AreGone, extents_of, sets_put}
+use Rattle.unit_steps.specs.Plans.{HasRow}
 use Rattle.step_plans.specs.Plans.{IsSound}
 
 -- a volume has no room in its VTOC for what is left once some of its data sets went and others came
@@ -52,3 +53,27 @@ RepairsKeepRoomForExtents =
     (loaded repaired next : Volume) (name : Dsn) (row like : Row)
     → IsSound loaded → IsNext loaded Repair repaired → IsNext loaded (Swap name row) next → like.name ≡ row.name
     → extents_of (heads_of loaded.device) like ≡ extents_of (heads_of loaded.device) row → ¬ LacksRoom repaired (Swap name like)
+
+-- changes that put data sets of one name and with the same extents in the same place, or that take the same one away; or both state free space
+abbrev pub AreAlike : ℕ → Change → Change → Type 0
+AreAlike heads Repair Repair = Unit {0}
+AreAlike heads (Put row) (Put like) = (like.name ≡ row.name) × (extents_of heads like ≡ extents_of heads row)
+AreAlike heads (Swap name row) (Swap other like) = (other ≡ name) × (like.name ≡ row.name) × (extents_of heads like ≡ extents_of heads row)
+AreAlike heads (Remove name) (Remove other) = other ≡ name
+AreAlike heads _ _ = ⊥
+
+-- a volume as it was loaded, or once its free space is stated
+abbrev pub IsAsBefore : Volume → Volume → Type 0
+IsAsBefore loaded later = (later ≡ loaded) ⊎ IsNext loaded Repair later
+
+-- Where there is a volume after a change, there is room for one like it, also once the free space is stated.
+abbrev pub AlikeChangesHaveRoom : Type 0
+AlikeChangesHaveRoom =
+    (loaded later next : Volume) (change like : Change)
+    → IsSound loaded → IsAsBefore loaded later → IsNext loaded change next → AreAlike (heads_of loaded.device) change like → ¬ LacksRoom later like
+
+-- A data set of at most 16 extents that is taken away leaves room, where the format 5s of the volume are those that its free runs need.
+abbrev pub RemovalsHaveRoom : Type 0
+RemovalsHaveRoom =
+    (loaded : Volume) (name : Dsn) (row : Row)
+    → IsSound loaded → loaded.fives ≡ fives_for (length loaded.free.runs) → HasRow loaded name row → length row.extents ≤ 16 → ¬ LacksRoom loaded (Remove name)

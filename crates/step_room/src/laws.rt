@@ -1,12 +1,15 @@
 //! What holds of the room in a VTOC, whatever judges it.
 
-ghost use Rattle.step_room.specs.Room.{LackingChangesAreFull, FittingChangesAreNotFull, RepairsKeepRoom, RepairsKeepRoomForExtents};
+ghost use Rattle.step_room.specs.Room.{LackingChangesAreFull, FittingChangesAreNotFull, RepairsKeepRoom, RepairsKeepRoomForExtents, AlikeChangesHaveRoom, RemovalsHaveRoom};
 
-/// A change of a loaded volume lacks room exactly where its volume does for what the change leaves; and stating the free space leaves the room
-/// for every other change as it is.
+/// A change of a loaded volume lacks room exactly where its volume does for what the change leaves; stating the free space leaves the room
+/// for every other change as it is; a change has room where one like it has; and a data set may be taken away where the format 5s are those
+/// that the free runs need.
 pub fn room_laws()
     ensures full { LackingChangesAreFull }
     ensures fits { FittingChangesAreNotFull }
     ensures repaired { RepairsKeepRoom }
     ensures extents { RepairsKeepRoomForExtents }
+    ensures alike { AlikeChangesHaveRoom }
+    ensures removed { RemovalsHaveRoom }
 {}

@@ -57,3 +57,9 @@ returns-in-Consolidate-clause-ends g c =
     let setting = setting_of g.P.Pool c.args.session c.args.held.now c.args.today in
     subst (λ (command : Command). Ends g.P.Pool (Means setting command) (IsCutCommand setting command) c.args.session c.args.log.now.steps.items c.go_through-in-Consolidate.new.log.steps.items
     c.args.log.now.messages.items c.go_through-in-Consolidate.new.log.messages.items c.go_through-in-Consolidate.result) (sym c.in-Consolidate.is) c.go_through-in-Consolidate.ensures
+
+pub returns-in-Copy-clause-ends : goal.returns-in-Copy-clause-ends
+returns-in-Copy-clause-ends g c =
+    let setting = setting_of g.P.Pool c.args.session c.args.held.now c.args.today in
+    subst (λ (command : Command). Ends g.P.Pool (Means setting command) (IsCutCommand setting command) c.args.session c.args.log.now.steps.items c.copy.new.log.steps.items
+    c.args.log.now.messages.items c.copy.new.log.messages.items c.copy.result) (sym c.in-Copy.is) c.copy.ensures

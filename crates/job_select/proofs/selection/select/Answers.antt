@@ -12,7 +12,7 @@ loop-row-preserved c =
     let less : c.loop-row.row-index < length c.args.volume.now.rows = omega (arith, c.loop-row-test.true, ap length c.as_slice-rows.ensures) in
     elim c.match-name_taken.branch [
       | in-Some+in_ok-push w ↦
-          taken_more c.args.volume.now c.args.filter.now c.args.today c.loop-row.row-index c.loop-row.names.items c.loop-row.invariant row at less w.in-Some.name w.in-Some.ensures.row w.in-Some.ensures.taken
+          taken_more c.args.volume.now c.args.filter.now c.args.today c.loop-row.row-index c.loop-row.names.items c.loop-row.invariant row at less c.requires.sound w.in-Some.name w.in-Some.ensures.row w.in-Some.ensures.taken
           c.match-name_taken.names.items (ap (λ names. names.items) w.names-is ∙ w.in_ok-push.ensures.items)
       | in_default w ↦
           passed_over c.args.volume.now c.args.filter.now c.args.today c.loop-row.row-index c.loop-row.names.items c.loop-row.invariant row at less w.in_default.ensures.none

@@ -1,0 +1,145 @@
+-- The steps and the lines of a copy, as its volumes were loaded and as they are.
+use Rattle.std.proofs.Common.{◌≡◌, ℕ, ◌==◌, not, Bool, true, false, List, [], ◌∷◌, ◌++◌, map, Option, Some, None, refl, sym, ap, subst, ◌∙◌}
+use Rattle.std.specs.Prelude.{nat_lt, if◌then◌else◌, slice_get}
+use Rattle.dsn_filter.specs.declared.dsn.Dsn.{Dsn}
+use Rattle.volume_model.specs.Pinned.{IsNameOf}
+use Rattle.volume_model.specs.Unit.{OnlineVolume}
+use Rattle.volume_change.proofs.Names.{one_text}
+use Rattle.unit_load.specs.declared.state.UnitState.{UnitState}
+use Rattle.unit_steps.proofs.OneChange.{same_volume}
+use Rattle.vtoc_core.specs.declared.volume.Volume.{Volume}
+use Rattle.move_core.specs.declared.steps.Step.{Step}
+use Rattle.move_core.specs.declared.steps.Step.TheVariants as steps
+use Rattle.job_lines.specs.declared.message.Message.{Message}
+use Rattle.job_lines.specs.declared.message.Message.TheVariants as messages
+use Rattle.job_copies.specs.Case.{Case}
+use Rattle.job_ops.specs.declared.transfer.Transfer.{Transfer}
+use Rattle.job_ops.specs.declared.transfer.Act.{Act}
+use Rattle.job_ops.specs.declared.transfer.Act.TheVariants as acts
+use Rattle.job_ops.specs.Acts.{is_carried, is_unstated, step_of_act, steps_of_transfer}
+use Rattle.job_ops.specs.Copy.{copy_step, copying_steps, all_repairs, all_rebuilt, IsToldName}
+use Rattle.job_ops.specs.Copying.{rebuilt_in, rebuilt_for, rebuilt_of, AreLines, IsTold}
+use Rattle.job_ops.specs.Sets.{rebuilt}
+use Rattle.job_ops.proofs.CopyRoom.{IsTransferIn, unstated_to, unstated_from}
+
+-- ---- steps, by what they hang on
+
+module _ (transfer : Transfer) where
+  -- the step of an act, and all acts
+  abbrev step_if : Bool → Act → Step
+  step_if carried acts.RepairSource = steps.Repair transfer.from.unit
+  step_if carried acts.RepairTarget = steps.Repair transfer.to.unit
+  step_if carried acts.Copy =
+      if carried then steps.Carry transfer.from.unit transfer.from.name transfer.to.unit transfer.to.name transfer.runs transfer.replaced
+      else copy_step transfer.from.unit transfer.from.name transfer.to.unit transfer.to.name transfer.runs transfer.replaced
+  step_if carried acts.Delete = steps.Delete transfer.from.unit transfer.from.name
+
+  abbrev carried_if : Bool → Bool → Bool
+  carried_if delete within = if delete then not within else false
+
+  abbrev deleted_if : Bool → Bool → Bool
+  deleted_if delete within = if delete then within else false
+
+  abbrev sources_if : Bool → List Act
+  sources_if unstated = if unstated then acts.RepairSource ∷ [] else []
+
+  abbrev targets_if : Bool → List Act
+  targets_if unstated = if unstated then acts.RepairTarget ∷ [] else []
+
+  abbrev acts_if : (delete within source_unstated target_unstated lower : Bool) → List Act
+  acts_if delete within source_unstated target_unstated lower =
+      (if carried_if delete within then (if lower then sources_if source_unstated ++ targets_if target_unstated else targets_if target_unstated ++ sources_if source_unstated)
+      else targets_if target_unstated)
+      ++ (acts.Copy ∷ (if deleted_if delete within then acts.Delete ∷ [] else []))
+
+  abbrev repairs_of : ℕ → Bool → List Step
+  repairs_of unit unstated = if unstated then steps.Repair unit ∷ [] else []
+
+  abbrev repairs_if : (delete within source_unstated target_unstated lower : Bool) → List Step
+  repairs_if delete within source_unstated target_unstated lower =
+      if delete then
+      (if within then repairs_of transfer.to.unit target_unstated
+      else (if lower then repairs_of transfer.from.unit source_unstated ++ repairs_of transfer.to.unit target_unstated
+      else repairs_of transfer.to.unit target_unstated ++ repairs_of transfer.from.unit source_unstated))
+      else repairs_of transfer.to.unit target_unstated
+
+  abbrev AreSteps : (delete within source_unstated target_unstated lower : Bool) → Type 0
+  AreSteps delete within source_unstated target_unstated lower =
+      map (λ act. step_if (carried_if delete within) act) (acts_if delete within source_unstated target_unstated lower)
+      ≡ repairs_if delete within source_unstated target_unstated lower
+      ++ copying_steps delete within transfer.from.unit transfer.from.name transfer.to.unit transfer.to.name transfer.runs transfer.replaced
+
+  are_steps : (delete within source_unstated target_unstated lower : Bool) → AreSteps delete within source_unstated target_unstated lower
+  are_steps false within source_unstated true lower = refl
+  are_steps false within source_unstated false lower = refl
+  are_steps true true source_unstated true lower = refl
+  are_steps true true source_unstated false lower = refl
+  are_steps true false true true true = refl
+  are_steps true false true true false = refl
+  are_steps true false true false true = refl
+  are_steps true false true false false = refl
+  are_steps true false false true true = refl
+  are_steps true false false true false = refl
+  are_steps true false false false true = refl
+  are_steps true false false false false = refl
+
+  steps_by : (act : Act) → step_of_act transfer act ≡ step_if (is_carried transfer) act
+  steps_by acts.RepairSource = refl
+  steps_by acts.RepairTarget = refl
+  steps_by acts.Copy = refl
+  steps_by acts.Delete = refl
+
+  map_same : (list : List Act) → map (step_of_act transfer) list ≡ map (λ act. step_if (is_carried transfer) act) list
+  map_same [] = refl
+  map_same (act ∷ list) = λ i. steps_by act i ∷ map_same list i
+
+  abbrev rebuilt_if : {X : Type 0} → (delete within lower : Bool) → List X → List X → List X
+  rebuilt_if delete within lower of_from of_to = if delete then (if within then of_to else (if lower then of_from ++ of_to else of_to ++ of_from)) else of_to
+
+  carried_rebuilt : (delete within lower : Bool) (of_from of_to : List Message)
+      → (if carried_if delete within then (if lower then of_from ++ of_to else of_to ++ of_from) else of_to) ≡ rebuilt_if delete within lower of_from of_to
+  carried_rebuilt false within lower of_from of_to = refl
+  carried_rebuilt true true lower of_from of_to = refl
+  carried_rebuilt true false lower of_from of_to = refl
+
+-- ---- a transfer and its case
+
+module _ {units : List UnitState} {transfer : Transfer} {case : Case} (is : IsTransferIn units transfer case) where
+  pub steps_same : steps_of_transfer units transfer ≡ all_repairs case transfer.from.unit transfer.to.unit
+      ++ copying_steps case.wish.delete case.within transfer.from.unit case.name transfer.to.unit case.new transfer.runs transfer.replaced
+  steps_same =
+      map_same transfer (Rattle.job_ops.specs.Acts.acts_of units transfer)
+      ∙ are_steps transfer transfer.delete (transfer.from.unit == transfer.to.unit) (is_unstated units transfer.from.unit) (is_unstated units transfer.to.unit) (nat_lt transfer.from.unit transfer.to.unit)
+      ∙ (λ i. repairs_if transfer (sym is.delete_is i) (sym is.within_is i) (unstated_from is i) (unstated_to is i) (nat_lt transfer.from.unit transfer.to.unit)
+      ++ copying_steps (sym is.delete_is i) (sym is.within_is i) transfer.from.unit (sym is.name_is i) transfer.to.unit (sym is.new_is i) transfer.runs transfer.replaced)
+
+  -- ---- lines
+
+  rebuilt_as : (unit : ℕ) (loaded : Volume) (volume : OnlineVolume) → slice_get units unit ≡ Some (Rattle.unit_load.specs.declared.state.UnitState.TheVariants.Online loaded) → volume.repair ≡ loaded.repair → volume.serial ≡ loaded.serial
+      → rebuilt_in units unit ≡ rebuilt volume
+  rebuilt_as unit loaded volume at repair serial = ap rebuilt_of at ∙ (λ i. if sym repair i then messages.Rebuilt (sym serial i) ∷ [] else [])
+
+  rebuilt_same : rebuilt_for (is_carried transfer) units transfer.from.unit transfer.to.unit ≡ all_rebuilt case transfer.from.unit transfer.to.unit
+  rebuilt_same =
+      carried_rebuilt transfer transfer.delete (transfer.from.unit == transfer.to.unit) (nat_lt transfer.from.unit transfer.to.unit) (rebuilt_in units transfer.from.unit) (rebuilt_in units transfer.to.unit)
+      ∙ (λ i. rebuilt_if transfer (sym is.delete_is i) (sym is.within_is i) (nat_lt transfer.from.unit transfer.to.unit)
+      (rebuilt_as transfer.from.unit is.source case.from is.source_loaded is.from_is.repair_is is.from_is.serial_is i)
+      (rebuilt_as transfer.to.unit is.target case.to is.target_loaded is.to_is.repair_is is.to_is.serial_is i))
+
+  told_same : (told : Option (List ℕ)) → IsTold transfer.from.name transfer.to.name told → IsToldName case told
+  told_same None same = is.new_is ∙ same ∙ sym is.name_is
+  told_same (Some copy) (differ, named) = (λ same. differ (sym is.new_is ∙ same ∙ is.name_is), subst (λ (n : Dsn). IsNameOf n copy) (sym is.new_is) named)
+
+  -- what is said, in the words of the case
+  pub lines_same : {said : List Message} (lines : AreLines units transfer said)
+      → (told : Option (List ℕ)) × IsToldName case told
+      × (said ≡ all_rebuilt case transfer.from.unit transfer.to.unit ++ (messages.Copied case.set.name case.to.serial told ∷ (if case.wish.delete then messages.Deleted case.set.name ∷ [] else [])))
+  lines_same lines =
+      let text : lines.text ≡ case.set.name = one_text transfer.from.name lines.text case.set.name lines.text_is is.named in
+      let serial : lines.volume.serial ≡ case.to.serial =
+      ap (λ (v : Volume). v.serial) (same_volume units transfer.to.unit lines.volume is.target lines.loaded is.target_loaded) ∙ sym is.to_is.serial_is in (
+        lines.told,
+        told_same lines.told lines.told_is,
+        lines.said_are
+            ∙ (λ i. rebuilt_same i ++ (messages.Copied (text i) (serial i) lines.told ∷ (if sym is.delete_is i then messages.Deleted (text i) ∷ [] else []))),
+      )
