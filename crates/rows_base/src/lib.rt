@@ -1,14 +1,11 @@
-//! What tests over several crates stand on: volumes and journals byte by byte, and runs over them in memory.
+//! What tests of whole runs stand on: runs over volumes and journals in memory.
 #![tactic(auto)]
 
-mod fault;
-mod journals;
 mod machine;
-mod slots;
-mod volumes;
 
-pub use fault::RowsFault;
-pub use journals::{Change, JOURNAL_BLOCK, REGISTERED, REGISTERED_TWO, journal};
+pub use adr_top::{Day, Dsn, Run, Step, batch, read_words};
 pub use machine::{HELD_WORDS, Job, LISTING_WORDS, Machine, Ran, WORDS_OF_TWO};
-pub use slots::{LABEL, SLOT, VOL001, label_slot, vtoc_slot};
-pub use volumes::{BASE, GIVEN, Given, SECOND, Vtoc, WITH_SET, volume};
+pub use rows_bytes::{
+    BASE, Change, GIVEN, Given, JOURNAL_BLOCK, LABEL, REGISTERED, REGISTERED_TWO, RowsFault,
+    SECOND, SLOT, VOL001, Vtoc, WITH_SET, journal, label_slot, volume, vtoc_slot,
+};

@@ -2,12 +2,10 @@
 
 ghost use Rattle.std.specs.Prelude.{◌<◌};
 
-use crate::fault::RowsFault;
-use crate::journals::{REGISTERED, REGISTERED_TWO, journal};
-use crate::volumes::{Given, volume};
 use adr_top::{Day, Step, batch};
 use ckd_image::{Bytes, Word};
 use dasd_pool::{MemoryPool, MemorySink, MemorySource, Pool, Tear, UnitText};
+use rows_bytes::{Given, REGISTERED, REGISTERED_TWO, RowsFault, journal, volume};
 use std::alloc::Global;
 
 /// Volumes and what stands where their journal is.
@@ -120,6 +118,12 @@ impl Machine {
         }
         units.push(journal)?;
         let pool = MemoryPool::new(alloc, units, failing.to_vec(alloc)?, keep)?;
+        Ok(Machine { pool })
+    }
+
+    /// Volumes and their journal behind them, all synced, of which no call fails.
+    pub fn of_units(alloc: Global, units: Vec<UnitText>) -> Result<Machine, RowsFault> {
+        let pool = MemoryPool::new(alloc, units, Vec::new(alloc), 0)?;
         Ok(Machine { pool })
     }
 

@@ -1,7 +1,6 @@
-use adr_top::{Dsn, Step};
 use rows_base::{
-    BASE, Change, GIVEN, Given, HELD_WORDS, Job, LISTING_WORDS, Machine, REGISTERED_TWO, Ran,
-    RowsFault, SECOND, SLOT, Vtoc, WITH_SET, WORDS_OF_TWO, journal, volume,
+    BASE, Change, Dsn, GIVEN, Given, HELD_WORDS, Job, LISTING_WORDS, Machine, REGISTERED_TWO, Ran,
+    RowsFault, SECOND, SLOT, Step, Vtoc, WITH_SET, WORDS_OF_TWO, journal, volume,
 };
 use std::alloc::Global;
 use std::test::*;

@@ -2,10 +2,9 @@
 
 use crate::dscbs::Contents;
 use crate::volumes::volume;
-use adr_top::{Day, batch};
 use ckd_image::{Bytes, Word};
 use dasd_pool::{MemoryPool, MemorySink, MemorySource, Pool};
-use rows_base::{HELD_WORDS, REGISTERED, RowsFault, SLOT, journal};
+use rows_base::{Day, HELD_WORDS, REGISTERED, RowsFault, SLOT, batch, journal};
 use std::alloc::Global;
 
 /// What a run leaves.

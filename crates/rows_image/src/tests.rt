@@ -2,7 +2,7 @@ ghost use Rattle.std.specs.Prelude.{◌≤◌, length};
 
 use ckd_image::{Cchhr, Device, Head, Rec, TrackAt, parse_track, print_track, readdress};
 use dscb_rec::{entry_of, extent_of, put_entry, put_extent, read_dscb, write_dscb};
-use rows_base::{BASE, GIVEN, LABEL, VOL001, label_slot, vtoc_slot};
+use rows_bytes::{BASE, GIVEN, LABEL, VOL001, label_slot, vtoc_slot};
 use std::test::*;
 use vol_label::{Label, Serial, put_serial, with_vtoc};
 

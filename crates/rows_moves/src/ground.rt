@@ -5,7 +5,7 @@ ghost use Rattle.redo_core.specs.Opening.{AreNames};
 
 use dasd_pool::{MemoryPool, Pool};
 use redo_core::*;
-use rows_base::{Change, Given, REGISTERED_TWO, RowsFault, journal, volume};
+use rows_bytes::{Change, Given, REGISTERED_TWO, RowsFault, journal, volume};
 use std::alloc::Global;
 use std::test::*;
 use unit_session::Session;

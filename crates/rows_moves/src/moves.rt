@@ -5,7 +5,7 @@ use crate::plans::{Put, Wanted, carry_out, plan_for};
 use crate::seen::{B, C, D, Seen, both_seen, one, run, texts_stand, with};
 use crate::volumes::{SMALL, SPREAD, TARGET, UNREADABLE};
 use dasd_pool::{MemoryPool, Pool};
-use rows_base::{Given, RowsFault, WITH_SET, volume};
+use rows_bytes::{Given, RowsFault, WITH_SET, volume};
 use std::alloc::Global;
 use std::test::*;
 use unit_session::{PlanFault, PlanStop, Session};

@@ -4,7 +4,7 @@ use crate::ground::slot_of;
 use crate::plans::volume_of;
 use dasd_pool::{Pool, UnitText};
 use free_map::Run;
-use rows_base::{RowsFault, SLOT};
+use rows_bytes::{RowsFault, SLOT};
 use std::alloc::Global;
 use unit_session::Session;
 use vtoc_core::{Row, Volume};

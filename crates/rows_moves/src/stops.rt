@@ -5,7 +5,7 @@ use crate::plans::{Wanted, carry_out};
 use crate::seen::{B, C, Moved, Seen, both_seen, one, run, texts_stand, with};
 use crate::volumes::{SMALL, TARGET};
 use dasd_pool::{MemoryPool, Pool, Tear, UnitText};
-use rows_base::{RowsFault, volume};
+use rows_bytes::{RowsFault, volume};
 use std::alloc::Global;
 use std::test::*;
 

@@ -1,6 +1,6 @@
 //! The volumes: A.B stands on VOL001, A.C on VOL002.
 
-use rows_base::{BASE, GIVEN, Given, SLOT, Vtoc, WITH_SET};
+use rows_bytes::{BASE, GIVEN, Given, SLOT, Vtoc, WITH_SET};
 
 /// VOL001 with A.B on tracks 2 to 4; tracks 5 to 14 are free.
 pub const SMALL: Given = Given {

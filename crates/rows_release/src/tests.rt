@@ -1,5 +1,4 @@
-use adr_top::{Dsn, Step};
-use rows_base::{Change, Given, Job, Machine, Ran, RowsFault, SLOT, WITH_SET, volume};
+use rows_base::{Change, Dsn, Given, Job, Machine, Ran, RowsFault, SLOT, Step, WITH_SET, volume};
 use std::alloc::Global;
 use std::test::*;
 

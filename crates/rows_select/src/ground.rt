@@ -7,7 +7,7 @@ use ckd_image::{Bytes, Listed, TrackAt};
 use dasd_pool::{MemoryPool, Pool, UnitText};
 use dscb_rec::Extent;
 use redo_core::{JournalFault, are_serials};
-use rows_base::{Change, GIVEN, REGISTERED, RowsFault, SLOT, VOL001, journal, volume};
+use rows_bytes::{Change, GIVEN, REGISTERED, RowsFault, SLOT, VOL001, journal, volume};
 use std::alloc::Global;
 use unit_session::Session;
 use vol_label::Serial;

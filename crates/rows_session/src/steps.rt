@@ -9,7 +9,7 @@ use ckd_image::Bytes;
 use dasd_pool::{MemoryPool, Pool, Tear, UnitText};
 use dsn_filter::Dsn;
 use move_core::Step;
-use rows_base::{Change, GIVEN, Given, RowsFault, SLOT, WITH_SET, volume};
+use rows_bytes::{Change, GIVEN, Given, RowsFault, SLOT, WITH_SET, volume};
 use std::alloc::Global;
 use std::test::*;
 use step_plans::{delete_set, repair_space, shrink_set};

@@ -1,7 +1,7 @@
 use crate::ground::{Beside, NAMES, SECOND, are_names, begun, pool_of, slot_of};
 use dasd_pool::{MemoryPool, Pool};
 use redo_core::*;
-use rows_base::{Given, RowsFault, SLOT, WITH_SET, volume};
+use rows_bytes::{Given, RowsFault, SLOT, WITH_SET, volume};
 use std::alloc::Global;
 use std::test::*;
 use unit_load::UnitState;

@@ -11,7 +11,7 @@ use dsn_filter::Pattern;
 use enq_table::read_held;
 use job_ops::{Outcome, Report, line_of, run_statement};
 use redo_core::*;
-use rows_base::{Given, REGISTERED, RowsFault, journal, volume};
+use rows_bytes::{Given, REGISTERED, RowsFault, journal, volume};
 use std::alloc::Global;
 use std::test::*;
 use sysin_lang::{Command, Filter, Patterns, Statement};

@@ -1,6 +1,6 @@
 use crate::ground::{End, Left, Row, Wanted, run_row};
 use dasd_pool::{MemoryPool, Pool};
-use rows_base::{BASE, Change, GIVEN, Given, RowsFault, SLOT, Vtoc, WITH_SET, volume};
+use rows_bytes::{BASE, Change, GIVEN, Given, RowsFault, SLOT, Vtoc, WITH_SET, volume};
 use std::alloc::Global;
 use std::test::*;
 

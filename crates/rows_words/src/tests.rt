@@ -1,7 +1,7 @@
-use adr_top::{Run, read_words};
 use ckd_image::Word;
 use rows_base::{
-    GIVEN, Given, HELD_WORDS, Job, LISTING_WORDS, Machine, RowsFault, SECOND, WORDS_OF_TWO,
+    GIVEN, Given, HELD_WORDS, Job, LISTING_WORDS, Machine, RowsFault, Run, SECOND, WORDS_OF_TWO,
+    read_words,
 };
 use std::alloc::Global;
 use std::test::*;
