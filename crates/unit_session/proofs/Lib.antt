@@ -19,5 +19,6 @@ pub mod PlanVolumes
 pub mod CopyDone
 pub mod Prepared
 pub mod SetTexts
+pub mod Seen
 pub mod Registered
 pub mod Sparing

@@ -1,5 +1,5 @@
 -- One unit more that is loaded, and the slots that are kept of it.
-use Rattle.std.proofs.Common.{◌≡◌, ℕ, ◌<◌, Bool, zero, suc, List, [], ◌∷◌, ◌++◌, length, Some, sym, ap, subst, ◌∙◌, arith}
+use Rattle.std.proofs.Common.{◌≡◌, ℕ, ◌<◌, Bool, zero, suc, List, [], ◌∷◌, ◌++◌, length, Option, Some, sym, ap, subst, ◌∙◌, arith}
 use Rattle.std.specs.Prelude.{slice_get}
 use Rattle.std.proofs.lemmas.Option.{same_Some, none-some}
 use Rattle.dasd_pool.specs.Disk.{Image, Shape, State}
@@ -11,7 +11,9 @@ use Rattle.unit_load.specs.declared.state.UnitState.{UnitState}
 use Rattle.unit_load.specs.Kept.{IsKept, AreKeptOf}
 use Rattle.unit_load.specs.State.{IsStateOf}
 use Rattle.unit_steps.specs.Loaded.{AreLoaded, KeepVtocs, AreVtocsOf}
+use Rattle.unit_session.specs.declared.copies.Source.{Source}
 use Rattle.unit_session.specs.Sessions.{IsFree}
+use Rattle.unit_session.specs.Texts.{AreSeen}
 
 module _ {X : Type 0} where
   -- what holds of the elements of a list, and of one more behind it
@@ -103,3 +105,6 @@ still_kept {shape} {now} units vtocs same kept = subst (λ (s : Shape). KeepVtoc
 
 pub still_vtocs : {old new : State} (units : List UnitState) (vtocs : List (List ℕ)) → new ≡ old → AreVtocsOf old.contents units vtocs → AreVtocsOf new.contents units vtocs
 still_vtocs {old} {new} units vtocs still have = subst (λ (t : State). AreVtocsOf t.contents units vtocs) (sym still) have
+
+pub still_seen : {old new : State} (units : List UnitState) (seen : Option Source) → new ≡ old → AreSeen units old.contents seen → AreSeen units new.contents seen
+still_seen {old} {new} units seen still have = subst (λ (t : State). AreSeen units t.contents seen) (sym still) have

@@ -25,14 +25,16 @@ use Rattle.unit_steps.proofs.Blocks.{from_slots}
 use Rattle.unit_steps.proofs.Readying.{entries_ready}
 use Rattle.unit_steps.proofs.Small.{plans_small}
 use Rattle.unit_session.specs.declared.copies.Copies.{Copies}
+use Rattle.unit_session.specs.declared.copies.Source.{Source}
 use Rattle.unit_session.specs.declared.fault.PlanFault.{PlanFault}
 use Rattle.unit_session.specs.declared.fault.PlanFault.TheVariants as faults
 use Rattle.unit_session.specs.Copies.{AreCopiesOf, HaveTexts, IsLookFault, MayCopy, OnCopies, contents_of}
 use Rattle.unit_session.specs.Planned.{AreRenderFault, IsBar, IsLong, IsPlanFault, IsReady, MayBegin}
 use Rattle.unit_session.specs.Sessions.{IsFree, SessionView}
+use Rattle.unit_session.specs.Texts.{AreSeen}
 use Rattle.unit_session.proofs.CopyMay.{may_copy}
 use Rattle.unit_session.proofs.CopyPlaces.{kept_of}
-use Rattle.unit_session.proofs.Loading.{still_free, still_kept, still_loaded, still_vtocs}
+use Rattle.unit_session.proofs.Loading.{still_free, still_kept, still_loaded, still_vtocs, still_seen}
 
 -- ---- volumes
 
@@ -71,13 +73,15 @@ module _ {P : Type 0} (pools : Ghosts P) (session : SessionView P) (plan : Plan)
 -- ---- a session of which blocks were read
 
 module _ {P : Type 0} (pools : Ghosts P) (old new : JournalView P) (names : List Serial) (units : List UnitState) (vtocs : List (List ℕ)) (reads : OnlyReads pools old new) where
-  abbrev Stands : JournalView P → Type 0
-  Stands j =
+  abbrev Stands : JournalView P → Option Source → Type 0
+  Stands j seen =
       IsFree (pools.shape j.pool) j.control j.fills × (length names ≡ journal_of (pools.shape j.pool)) × HaveStates (pools.shape j.pool) units × KeepVtocs (pools.shape j.pool) units vtocs
       × (pools.tells → AreLoaded (pools.shape j.pool) (pools.disk j.pool).state.contents units) × (pools.tells → AreVtocsOf (pools.disk j.pool).state.contents units vtocs)
+      × (pools.tells → AreSeen units (pools.disk j.pool).state.contents seen)
 
-  pub session_read : Stands old → Stands new
-  session_read was =
+  -- and a data set was seen
+  pub session_saw : (before seen : Option Source) → (pools.tells → AreSeen units (contents_of pools old) seen) → Stands old before → Stands new seen
+  session_saw before seen saw was =
       let volumes = ap (λ (s : Shape). journal_of s) (sym reads.shape) in (
         still_free reads.shape reads.status.control reads.status.fills was.0,
         was.1 ∙ volumes,
@@ -85,7 +89,11 @@ module _ {P : Type 0} (pools : Ghosts P) (old new : JournalView P) (names : List
         still_kept units vtocs reads.shape was.3,
         λ told. still_loaded units reads.shape (reads.same told) (was.4 told),
         λ told. still_vtocs units vtocs (reads.same told) (was.5 told),
+        λ told. still_seen units seen (reads.same told) (saw told),
       )
+
+  pub session_read : (seen : Option Source) → Stands old seen → Stands new seen
+  session_read seen was = session_saw seen seen was.6 was
 
 -- ---- all is ready
 

@@ -1,15 +1,20 @@
 -- The tracks of a data set that was loaded, and whether they have texts.
-use Rattle.std.specs.Prelude.{◌≡◌, ℕ, List}
+use Rattle.std.specs.Prelude.{◌≡◌, ℕ, List, All, Option, Some, IfSome}
 use Rattle.ckd_image.specs.declared.device.Device.{Device}
 use Rattle.ckd_image.specs.declared.track.Track.{Track}
 use Rattle.ckd_image.specs.Address.{address_of}
+use Rattle.ckd_image.specs.Device.{heads_of}
 use Rattle.ckd_image.specs.Track.{IsTrackText}
+use Rattle.dasd_pool.specs.Disk.{Image}
 use Rattle.dsn_filter.specs.declared.dsn.Dsn.{Dsn}
 use Rattle.volume_model.specs.Sound.{Slots}
 use Rattle.vtoc_core.specs.declared.volume.Row.{Row}
 use Rattle.vtoc_core.specs.declared.volume.Volume.{Volume}
 use Rattle.unit_load.specs.declared.state.UnitState.{UnitState}
+use Rattle.unit_steps.specs.declared.plan.Tracks.{Tracks}
+use Rattle.unit_steps.specs.declared.plan.Tracks.TheVariants as texts
 use Rattle.unit_steps.specs.Plans.{IsLoadedAt, HasRow, tracks_in}
+use Rattle.unit_session.specs.declared.copies.Source.{Source}
 
 -- a track of a unit has a text
 abbrev pub HasTextOn : ℕ → Slots → ℕ → Type 0
@@ -23,3 +28,16 @@ pub record AreTracksAt (units : List UnitState) (unit : ℕ) (name : Dsn) (devic
   pub row_is : HasRow volume name row
   pub device_is : device ≡ volume.device
   pub tracks_are : tracks ≡ tracks_in volume row
+
+-- each track of the data set has a text
+abbrev pub HasTexts : List UnitState → Image → Source → Type 0
+HasTexts units contents set =
+    (volume : Volume) (row : Row) → IsLoadedAt units set.unit volume → HasRow volume set.name row → All (HasTextOn (heads_of volume.device) (contents set.unit)) (tracks_in volume row)
+
+-- so has the one that was seen, if one was
+abbrev pub AreSeen : List UnitState → Image → Option Source → Type 0
+AreSeen units contents seen = IfSome seen (HasTexts units contents)
+
+-- the texts of these tracks are those of the data set that was seen
+abbrev pub IsSeen : Option Source → Tracks → Type 0
+IsSeen seen tracks = (source : Source) × (seen ≡ Some source) × (tracks ≡ texts.Rows source.unit source.name)

@@ -138,10 +138,10 @@ pub(crate) fn copies_of(
 }
 
 /// A data set of a unit whose texts are copied.
-#[derive(Clone, Copy)]
-struct Source {
-    unit: u32,
-    name: Dsn,
+#[derive(Clone, Copy, Debug, PartialEq, Eq)]
+pub(crate) struct Source {
+    pub unit: u32,
+    pub name: Dsn,
 }
 
 /// The copies of a data set's tracks onto those of what a change puts on a unit.

@@ -1,6 +1,6 @@
 //! A step that is planned, and carried out in two calls.
 
-ghost use Rattle.std.specs.Prelude.{◌≡◌, [], None, Some, length, IfOk, IfErr, OnOk, IsErr};
+ghost use Rattle.std.specs.Prelude.{◌≡◌, ◌↔◌, [], None, Some, length, IsTrue, IfOk, IfErr, OnOk, IsErr};
 ghost use Rattle.ckd_image.specs.Device.{slot_of};
 ghost use Rattle.dasd_pool.specs.Count.{Rose};
 ghost use Rattle.dasd_pool.specs.Disk.{IsSynced, LeavesOnly, Runs, none};
@@ -15,9 +15,10 @@ ghost use Rattle.unit_steps.specs.Rendering.{WereRendered, entries_of, units_aft
 ghost use Rattle.unit_session.specs.Sessions.{IsSameSession};
 ghost use Rattle.unit_session.specs.declared.copies.Copies.{Copies as CopiesOf};
 ghost use Rattle.unit_session.specs.Copies.{OnCopies, MayCopy, HaveTexts, IsLookFault, OnlyWrites, CopiesLeave, IsShortFor, contents_of, may_write_for};
+ghost use Rattle.unit_session.specs.Texts.{IsSeen};
 ghost use Rattle.unit_session.specs.Planned.{pool_planned, pool_copied, pool_switched, done_by, pending_by, IsPlanFault, IsKeptAs, MayBegin, IsReady, SparesUnchanged};
 
-use crate::copies::{Copies, copies_of};
+use crate::copies::{Copies, Source, copies_of};
 use crate::copying::{look_at_texts, place_copies};
 use crate::fault::{Broken, PlanFault, PlanStop};
 use crate::patching::{patched, renewed};
@@ -27,7 +28,7 @@ use dasd_pool::{Pool, PoolFault};
 use redo_core::{Entries, Journal};
 use std::alloc::Global;
 use std::marker::Model;
-use unit_steps::Plan;
+use unit_steps::{Plan, Tracks};
 use vtoc_render::Rendered;
 
 /// A session and a plan of which all is ready: nothing is written, and no memory is taken any more.
@@ -119,6 +120,40 @@ fn look_at_any<P: Pool>(
     }
 }
 
+/// Whether the data set of a plan's texts is the one that was seen.
+fn is_seen(seen: &Option<Source>, tracks: &Tracks) -> bool
+    ensures { IsTrue result ↔ IsSeen seen.now tracks.now }
+{
+    match (seen, tracks) {
+        (Some(source), Tracks::Rows { unit, name }) => {
+            source.unit == *unit && source.name.is_same(name)
+        }
+        _ => false,
+    }
+}
+
+/// Looks whether each track that is to be copied has a text, where it was not seen before.
+fn look_unless_seen<P: Pool>(
+    journal: &mut Journal<P>,
+    seen: &Option<Source>,
+    tracks: &Tracks,
+    copies: &Option<Copies>,
+    slot: &mut [u8],
+) -> Result<(), PlanFault>
+    requires may { OnCopies (MayCopy (P.shape journal.old.pool)) copies.now }
+    requires size { OnCopies (λ some. length slot.old ≡ slot_of some.device) copies.now }
+    requires seen { P.tells → IsSeen seen.now tracks.now → OnCopies (HaveTexts (contents_of P.Pool journal.old)) copies.now }
+    ensures reads { OnlyReads P.Pool journal.old journal.new }
+    ensures size { length slot.new ≡ length slot.old }
+    ensures texts { P.tells → OnOk result (OnCopies (HaveTexts (contents_of P.Pool journal.old)) copies.now) }
+    ensures fault { IfErr result (λ fault. (some : CopiesOf) × (copies.now ≡ Some some) × IsLookFault P.Pool journal.old.pool journal.new.pool some fault) }
+{
+    if is_seen(seen, tracks) {
+        return Ok(());
+    }
+    look_at_any(journal, copies, slot)
+}
+
 impl<P: Pool> Session<P> {
     /// Makes a step ready: nothing is written. The plan is refused where a volume that it changes has an index, or a VTOC of more tracks than half of
     /// what a commit may have less one; where a track to be copied has no text; or where a VTOC has no room.
@@ -160,7 +195,13 @@ impl<P: Pool> Session<P> {
         are_sized(&self.journal);
         let copies = copies_of(self.alloc, &self.units, plan)?;
         let mut slot = slot_for(self.alloc, &copies)?;
-        look_at_any(&mut self.journal, &copies, &mut slot)?;
+        look_unless_seen(
+            &mut self.journal,
+            &self.seen,
+            &plan.tracks,
+            &copies,
+            &mut slot,
+        )?;
         let rendered = render_all(self.alloc, &self.units, &self.vtocs, changes)?;
         let entries = entries_for(self.alloc, changes, &rendered)?;
         Ok(Work {
@@ -243,9 +284,12 @@ impl<P: Pool> Planned<P> {
             names,
             units,
             vtocs,
+            ..
         } = session;
         let mut journal = journal;
         let mut slot = work.slot;
+        // What was seen is forgotten with the first write.
+        let seen = None;
         let _control = journal.control();
         match make_copies(alloc, &mut journal, &work.copies, &mut slot) {
             Ok(()) => Ok(Copied {
@@ -255,6 +299,7 @@ impl<P: Pool> Planned<P> {
                     names,
                     units,
                     vtocs,
+                    seen,
                 },
                 plan,
                 rendered: work.rendered,
@@ -306,6 +351,7 @@ impl<P: Pool> Copied<P> {
             names,
             units,
             vtocs,
+            ..
         } = session;
         let Plan { step, changes, .. } = plan;
         let _control = journal.control();
@@ -319,6 +365,7 @@ impl<P: Pool> Copied<P> {
                     names,
                     units,
                     vtocs,
+                    seen: None,
                 })
             }
             Err(stop) => Err(Broken {

@@ -17,6 +17,7 @@ ghost use Rattle.unit_load.specs.Reads.{OnlyReads};
 ghost use Rattle.unit_steps.specs.Loaded.{AreLoaded, HaveStates, KeepVtocs, AreVtocsOf, AreModels, IsModel};
 ghost use Rattle.unit_session.specs.Sessions.{begun, HasBegun, IsRefusal, IsSameSession};
 
+use crate::copies::Source;
 use crate::load::{LoadedUnits, load_units};
 use ckd_image::{Bytes, CkdFault, Head};
 use dasd_pool::{Pool, PoolFault};
@@ -27,7 +28,7 @@ use unit_load::{UnitFault, UnitState};
 use vol_label::Serial;
 
 /// The volumes of a pool between two steps: its open journal, in which nothing is under way, the registered serials, and each unit as it was loaded, with
-/// the slots of its VTOC.
+/// the slots of its VTOC; and the data set of which each track was last seen to have a text, while nothing was written since.
 #[derive(Drop)]
 pub struct Session<P: Pool> {
     pub(crate) alloc: Global,
@@ -35,6 +36,7 @@ pub struct Session<P: Pool> {
     pub(crate) names: Vec<Serial>,
     pub(crate) units: Vec<UnitState>,
     pub(crate) vtocs: Vec<Bytes>,
+    pub(crate) seen: Option<Source>,
 }
 
 impl<P: Pool> Model for Session<P> {
@@ -42,6 +44,7 @@ impl<P: Pool> Model for Session<P> {
     ghost use Rattle.redo_core.specs.Reading.{journal_of};
     ghost use Rattle.unit_steps.specs.Loaded.{AreLoaded, HaveStates, KeepVtocs, AreVtocsOf};
     ghost use Rattle.unit_session.specs.Sessions.{SessionView, IsFree};
+    ghost use Rattle.unit_session.specs.Texts.{AreSeen};
 
     ghost Value = { SessionView P };
 
@@ -52,7 +55,8 @@ impl<P: Pool> Model for Session<P> {
         × HaveStates (P.shape s.journal.pool) s.units.items
         × KeepVtocs (P.shape s.journal.pool) s.units.items s.vtocs.items
         × (P.tells → AreLoaded (P.shape s.journal.pool) (P.disk s.journal.pool).state.contents s.units.items)
-        × (P.tells → AreVtocsOf (P.disk s.journal.pool).state.contents s.units.items s.vtocs.items) };
+        × (P.tells → AreVtocsOf (P.disk s.journal.pool).state.contents s.units.items s.vtocs.items)
+        × (P.tells → AreSeen s.units.items (P.disk s.journal.pool).state.contents s.seen) };
 }
 
 /// Copies of serials.
@@ -134,6 +138,7 @@ impl<P: Pool> Session<P> {
                 names,
                 units: found.units,
                 vtocs: found.vtocs,
+                seen: None,
             }),
             Err(cause) => Err(JournalStop {
                 pool: journal.into_pool(),

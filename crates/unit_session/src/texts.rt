@@ -17,7 +17,7 @@ ghost use Rattle.unit_session.specs.Copies.{HasSource, contents_of};
 ghost use Rattle.unit_session.specs.Sessions.{IsSameSession};
 ghost use Rattle.unit_session.specs.Texts.{HasTextOn, AreTracksAt};
 
-use crate::copies::{tracks_of, volume_at};
+use crate::copies::{Source, tracks_of, volume_at};
 use crate::session::Session;
 use ckd_image::{Device, NoMemory, TrackAt, readdress};
 use dasd_pool::{Pool, PoolFault};
@@ -130,7 +130,11 @@ impl<P: Pool> Session<P> {
         };
         let _control = self.journal.control();
         match have_texts(&mut self.journal, unit, &set, &mut slot) {
-            Ok(good) => Ok(good),
+            Ok(true) => {
+                self.seen = Some(Source { unit, name: *name });
+                Ok(true)
+            }
+            Ok(false) => Ok(false),
             Err(_) => Err(UnitFault::Pool),
         }
     }

@@ -50,6 +50,7 @@ invariant_of-result g c =
       parts.1,
       λ told. (volumes told).0,
       λ told. (volumes told).1,
+      λ told. tt,
     )
 
 pub returns-in-Ok-clause-run : goal.returns-in-Ok-clause-run

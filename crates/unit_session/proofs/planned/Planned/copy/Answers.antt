@@ -35,6 +35,7 @@ invariant_of-result g c =
       still_kept s.units.items s.vtocs.items does.writes.shape inv.3,
       λ told. (volumes told).0,
       λ told. (volumes told).1,
+      λ told. tt,
     )
 
 pub invariant_of-result-in-Ok : goal.invariant_of-result-in-Ok

@@ -31,6 +31,7 @@ invariant_of-result g c =
       still_kept c.in-Ok-loaded.found.units.items c.in-Ok-loaded.found.vtocs.items reads.shape found.kept,
       λ told. still_loaded c.in-Ok-loaded.found.units.items reads.shape (reads.same told) (found.loaded told),
       λ told. still_vtocs c.in-Ok-loaded.found.units.items c.in-Ok-loaded.found.vtocs.items (reads.same told) (found.slots told),
+      λ told. tt,
     )
 
 pub returns-in-Ok-loaded-clause-run : goal.returns-in-Ok-loaded-clause-run

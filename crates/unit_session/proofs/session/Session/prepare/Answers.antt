@@ -16,6 +16,7 @@ use Rattle.unit_session.specs.Sessions.{SessionView}
 use Rattle.unit_session.proofs.CopyMay.{may_copy}
 use Rattle.unit_session.proofs.PlanVolumes.{have_volumes}
 use Rattle.unit_session.proofs.Prepared.{rows_are_named, bar_fault, look_fault, render_fault, session_read, all_ready}
+use Rattle.unit_session.proofs.Seen.{texts_seen}
 use Rattle.unit_session.proofs.session.Session.prepare.Goals as goal
 
 pub returns-in-Some-clause-run : goal.returns-in-Some-clause-run
@@ -46,25 +47,33 @@ pub returns-in_err-slot-clause-run : goal.returns-in_err-slot-clause-run
 returns-in_err-slot-clause-run g c =
     run_idle tt
 
-pub look_at_any-requires-clause-may : goal.look_at_any-requires-clause-may
-look_at_any-requires-clause-may g c =
+pub look_unless_seen-requires-clause-may : goal.look_unless_seen-requires-clause-may
+look_unless_seen-requires-clause-may g c =
     let s = c.self.inside in
     let is : IsPlan s.units.items c.args.plan.now = subst (λ (v : SessionView _). IsPlan v.units c.args.plan.now) (sym c.self.view_is) c.requires in
     may_copy s.units.items s.vtocs.items c.args.plan.now c.self.invariant.2 c.self.invariant.3 is c.in_ok-copies.copies c.are_sized.ensures
     (subst (λ (l : List UnitState). AreCopiesOf l c.args.plan.now.tracks c.args.plan.now.changes c.in_ok-copies.copies) c.deref-2.ensures.value c.in_ok-copies.ensures)
 
+pub look_unless_seen-requires-clause-seen : goal.look_unless_seen-requires-clause-seen
+look_unless_seen-requires-clause-seen g c told same =
+    let s = c.self.inside in
+    let is : IsPlan s.units.items c.args.plan.now = subst (λ (v : SessionView _). IsPlan v.units c.args.plan.now) (sym c.self.view_is) c.requires in
+    texts_seen s.units.items s.vtocs.items c.args.plan.now (g.P.Pool.disk s.journal.pool).state.contents c.self.invariant.2 c.self.invariant.3 is s.seen c.in_ok-copies.copies
+    (subst (λ (l : List UnitState). AreCopiesOf l c.args.plan.now.tracks c.args.plan.now.changes c.in_ok-copies.copies) c.deref-2.ensures.value c.in_ok-copies.ensures)
+    (c.self.invariant.6 told) same
+
 pub invariant_of-self : goal.invariant_of-self
 invariant_of-self g c =
     let s = c.self.inside in
-    session_read g.P.Pool s.journal c.look_at_any.new.journal s.names.items s.units.items s.vtocs.items c.look_at_any.ensures.reads c.self.invariant
+    session_read g.P.Pool s.journal c.look_unless_seen.new.journal s.names.items s.units.items s.vtocs.items c.look_unless_seen.ensures.reads s.seen c.self.invariant
 
-pub returns-in_err-look_at_any-clause-run : goal.returns-in_err-look_at_any-clause-run
-returns-in_err-look_at_any-clause-run g c =
-    let reads = c.look_at_any.ensures.reads in
+pub returns-in_err-look_unless_seen-clause-run : goal.returns-in_err-look_unless_seen-clause-run
+returns-in_err-look_unless_seen-clause-run g c =
+    let reads = c.look_unless_seen.ensures.reads in
     rw (sym c.self.view_is) (run_still reads.shape reads.later (λ not. absurd (not tt)) reads.runs)
 
-pub returns-in_err-look_at_any-clause-fault : goal.returns-in_err-look_at_any-clause-fault
-returns-in_err-look_at_any-clause-fault g c =
+pub returns-in_err-look_unless_seen-clause-fault : goal.returns-in_err-look_unless_seen-clause-fault
+returns-in_err-look_unless_seen-clause-fault g c =
     let s = c.self.inside in
     let here : MayBegin s.journal.room s.units.items c.args.plan.now.changes =
     subst (λ (room : ℕ). MayBegin room s.units.items c.args.plan.now.changes) c.room.ensures.value
@@ -74,14 +83,14 @@ returns-in_err-look_at_any-clause-fault g c =
     subst (λ (v : SessionView _). MayBegin v.room v.units c.args.plan.now.changes) c.self.view_is here in
     let copied : AreCopiesOf s.units.items c.args.plan.now.tracks c.args.plan.now.changes c.in_ok-copies.copies =
     subst (λ (l : List UnitState). AreCopiesOf l c.args.plan.now.tracks c.args.plan.now.changes c.in_ok-copies.copies) c.deref-2.ensures.value c.in_ok-copies.ensures in
-    let p = err_from_is_err_and c.from_residual-in_err-look_at_any.result c.from_residual-in_err-look_at_any.ensures.1 in
-    let bad = c.in_err-look_at_any.ensures.fault in
+    let p = err_from_is_err_and c.from_residual-in_err-look_unless_seen.result c.from_residual-in_err-look_unless_seen.ensures.1 in
+    let bad = c.in_err-look_unless_seen.ensures.fault in
     let some : AreCopiesOf c.args.self.now.units c.args.plan.now.tracks c.args.plan.now.changes (Some bad.0) =
     subst (λ (v : SessionView _). AreCopiesOf v.units c.args.plan.now.tracks c.args.plan.now.changes (Some bad.0)) c.self.view_is
     (subst (λ (o : Option Copies). AreCopiesOf s.units.items c.args.plan.now.tracks c.args.plan.now.changes o) bad.1 copied) in
-    let told : IsPlanFault g.P.Pool c.args.self.now c.args.plan.now c.look_at_any.new.journal.pool c.in_err-look_at_any.field-0.0 =
-    look_fault g.P.Pool c.args.self.now c.args.plan.now c.look_at_any.new.journal.pool bad.0 may some _
-    (subst (λ (v : SessionView _). IsLookFault g.P.Pool v.pool c.look_at_any.new.journal.pool bad.0 c.in_err-look_at_any.field-0.0) c.self.view_is bad.2) in
+    let told : IsPlanFault g.P.Pool c.args.self.now c.args.plan.now c.look_unless_seen.new.journal.pool c.in_err-look_unless_seen.field-0.0 =
+    look_fault g.P.Pool c.args.self.now c.args.plan.now c.look_unless_seen.new.journal.pool bad.0 may some _
+    (subst (λ (v : SessionView _). IsLookFault g.P.Pool v.pool c.look_unless_seen.new.journal.pool bad.0 c.in_err-look_unless_seen.field-0.0) c.self.view_is bad.2) in
     rw (p.1, p.2) told
 
 pub render_all-requires : goal.render_all-requires
@@ -99,11 +108,11 @@ render_all-requires g c =
 pub invariant_of-self-in_err-rendered : goal.invariant_of-self-in_err-rendered
 invariant_of-self-in_err-rendered g c =
     let s = c.self.inside in
-    session_read g.P.Pool s.journal c.look_at_any.new.journal s.names.items s.units.items s.vtocs.items c.look_at_any.ensures.reads c.self.invariant
+    session_read g.P.Pool s.journal c.look_unless_seen.new.journal s.names.items s.units.items s.vtocs.items c.look_unless_seen.ensures.reads s.seen c.self.invariant
 
 pub returns-in_err-rendered-clause-run : goal.returns-in_err-rendered-clause-run
 returns-in_err-rendered-clause-run g c =
-    let reads = c.look_at_any.ensures.reads in
+    let reads = c.look_unless_seen.ensures.reads in
     rw (sym c.self.view_is) (run_still reads.shape reads.later (λ not. absurd (not tt)) reads.runs)
 
 pub returns-in_err-rendered-clause-fault : goal.returns-in_err-rendered-clause-fault
@@ -120,27 +129,27 @@ returns-in_err-rendered-clause-fault g c =
     subst (λ (l : List UnitState). AreRenderFault l c.args.plan.now.changes c.in_err-rendered.field-0.0) c.deref-3.ensures.value
     (subst (λ (l : List (ℕ × Change)). AreRenderFault c.deref-3.result.now l c.in_err-rendered.field-0.0) c.as_slice-changes.ensures c.in_err-rendered.ensures.fault) in
     rw (p.1, p.2)
-    (render_fault g.P.Pool c.args.self.now c.args.plan.now c.look_at_any.new.journal.pool may _
+    (render_fault g.P.Pool c.args.self.now c.args.plan.now c.look_unless_seen.new.journal.pool may _
     (subst (λ (v : SessionView _). AreRenderFault v.units c.args.plan.now.changes c.in_err-rendered.field-0.0) c.self.view_is bad))
 
 pub invariant_of-self-in_err-entries : goal.invariant_of-self-in_err-entries
 invariant_of-self-in_err-entries g c =
     let s = c.self.inside in
-    session_read g.P.Pool s.journal c.look_at_any.new.journal s.names.items s.units.items s.vtocs.items c.look_at_any.ensures.reads c.self.invariant
+    session_read g.P.Pool s.journal c.look_unless_seen.new.journal s.names.items s.units.items s.vtocs.items c.look_unless_seen.ensures.reads s.seen c.self.invariant
 
 pub returns-in_err-entries-clause-run : goal.returns-in_err-entries-clause-run
 returns-in_err-entries-clause-run g c =
-    let reads = c.look_at_any.ensures.reads in
+    let reads = c.look_unless_seen.ensures.reads in
     rw (sym c.self.view_is) (run_still reads.shape reads.later (λ not. absurd (not tt)) reads.runs)
 
 pub invariant_of-self-2 : goal.invariant_of-self-2
 invariant_of-self-2 g c =
     let s = c.self.inside in
-    session_read g.P.Pool s.journal c.look_at_any.new.journal s.names.items s.units.items s.vtocs.items c.look_at_any.ensures.reads c.self.invariant
+    session_read g.P.Pool s.journal c.look_unless_seen.new.journal s.names.items s.units.items s.vtocs.items c.look_unless_seen.ensures.reads s.seen c.self.invariant
 
 pub returns-clause-run : goal.returns-clause-run
 returns-clause-run g c =
-    let reads = c.look_at_any.ensures.reads in
+    let reads = c.look_unless_seen.ensures.reads in
     rw (sym c.self.view_is) (run_still reads.shape reads.later (λ not. absurd (not tt)) reads.runs)
 
 pub returns-clause-ready : goal.returns-clause-ready
@@ -153,23 +162,23 @@ returns-clause-ready g c =
     (subst (λ (l : List (ℕ × Change)). MayBegin c.room.result c.deref.result.now l) c.as_slice-changes.ensures c.in_default.ensures.free)) in
     let copied : AreCopiesOf s.units.items c.args.plan.now.tracks c.args.plan.now.changes c.in_ok-copies.copies =
     subst (λ (l : List UnitState). AreCopiesOf l c.args.plan.now.tracks c.args.plan.now.changes c.in_ok-copies.copies) c.deref-2.ensures.value c.in_ok-copies.ensures in
-    let slot = take c.in_ok-slot.slot.len (c.look_at_any.new.slot ++ drop (length c.look_at_any.new.slot) c.in_ok-slot.slot.items) in
+    let slot = take c.in_ok-slot.slot.len (c.look_unless_seen.new.slot ++ drop (length c.look_unless_seen.new.slot) c.in_ok-slot.slot.items) in
     let wide : length slot ≡ length c.in_ok-slot.slot.items =
     omega (
       arith,
       c.in_ok-slot.slot.ok.0,
-      c.look_at_any.ensures.size,
+      c.look_unless_seen.ensures.size,
       ap length c.deref_mut.ensures.value,
-      length-take c.in_ok-slot.slot.len (c.look_at_any.new.slot ++ drop (length c.look_at_any.new.slot) c.in_ok-slot.slot.items),
-      length-append c.look_at_any.new.slot (drop (length c.look_at_any.new.slot) c.in_ok-slot.slot.items),
-      length-drop (length c.look_at_any.new.slot) c.in_ok-slot.slot.items,
+      length-take c.in_ok-slot.slot.len (c.look_unless_seen.new.slot ++ drop (length c.look_unless_seen.new.slot) c.in_ok-slot.slot.items),
+      length-append c.look_unless_seen.new.slot (drop (length c.look_unless_seen.new.slot) c.in_ok-slot.slot.items),
+      length-drop (length c.look_unless_seen.new.slot) c.in_ok-slot.slot.items,
     ) in
     let were : WereRendered s.units.items s.vtocs.items c.args.plan.now.changes c.in_ok-rendered.rendered.items =
     subst (λ (l : List UnitState). WereRendered l s.vtocs.items c.args.plan.now.changes c.in_ok-rendered.rendered.items) c.deref-3.ensures.value
     (subst (λ (l : List (List ℕ)). WereRendered c.deref-3.result.now l c.args.plan.now.changes c.in_ok-rendered.rendered.items) c.deref-4.ensures.value
     (subst (λ (l : List (ℕ × Change)). WereRendered c.deref-3.result.now c.deref-4.result.now l c.in_ok-rendered.rendered.items) c.as_slice-changes.ensures c.in_ok-rendered.ensures.rendered)) in
-    all_ready g.P.Pool s.journal c.look_at_any.new.journal s.names.items s.units.items s.vtocs.items c.look_at_any.ensures.reads c.args.plan.now c.in_ok-copies.copies c.in_ok-rendered.rendered.items
+    all_ready g.P.Pool s.journal c.look_unless_seen.new.journal s.names.items s.units.items s.vtocs.items c.look_unless_seen.ensures.reads c.args.plan.now c.in_ok-copies.copies c.in_ok-rendered.rendered.items
     c.in_ok-entries.entries slot c.self.invariant.2 c.self.invariant.3 is c.are_sized.ensures here copied
     (subst (λ (n : ℕ). OnCopies (λ some. n ≡ slot_of some.device) c.in_ok-copies.copies) (sym wide) c.in_ok-slot.ensures.size)
-    c.in_ok-look_at_any.ensures.texts were
+    c.in_ok-look_unless_seen.ensures.texts were
     (c.in_ok-entries.ensures ∙ (λ i. entries_of (c.as_slice-changes.ensures i) (c.deref-5.ensures.value i)))
