@@ -104,6 +104,7 @@ module _ {P : Type 0} (pools : Ghosts P) (pool : P) (session : SessionView P) (p
     steps_are = runs.leaves.steps_are;
     end_is = runs.leaves.end_is;
     printed = runs.leaves.printed;
+    earlier = runs.leaves.earlier;
     quiet = λ told listed.
         subst (λ (p : P). Runs (of_opening (journal_of (pools.shape pool)) (pools.disk pool).state.contents) (pools.disk pool) (pools.disk p)) (sym (runs.leaves.quiet listed)) (opening told);
     means = means;

@@ -26,8 +26,8 @@ use Rattle.run_lines.specs.declared.ending.RunEnd.TheVariants as ends
 use Rattle.run_lines.specs.Endings.{end_of, last_line}
 use Rattle.run_lines.specs.Texts.{Tells}
 use Rattle.unit_session.specs.Sessions.{IsRefusal}
-use Rattle.job_script.specs.Runs.{Ran, HasGravest, OnlyListed, steps_of, RunOn, HasRun, printed_text}
-use Rattle.job_script.specs.Ends.{SinkSeen, After, IsEndOf, Prints}
+use Rattle.job_script.specs.Runs.{Ran, HasGravest, OnlyListed, steps_of, lines_of, RunOn, HasRun, printed_text}
+use Rattle.job_script.specs.Ends.{SinkSeen, After, IsEndOf, Prints, Took, ended_before}
 use Rattle.adr_top.specs.Asked.{AskFor, Agrees, serials_of}
 use Rattle.adr_top.specs.Texts.{SourceSeen, Texts, AreReady, StopsTexts, TakesTexts, IsUncalled}
 
@@ -141,8 +141,8 @@ pub record OpensNot {P : Type 0} (pools : Ghosts P) (out : SinkSeen) (pool : P) 
   pub opening : pools.tells → Runs (of_opening (journal_of (pools.shape pool)) (pools.disk pool).state.contents) (pools.disk pool) (pools.disk left.pool)
   pub did : DidNothing out left
 
--- The journal was opened, and the text ran: statements of its plan by their codes, each as it means on the units for which the pool stood. Where they all only list,
--- no more than the opening was written.
+-- The journal was opened, and the text ran: statements of its plan by their codes, each as it means on the units for which the pool stood, and none began before the lines of
+-- all before it were taken. Where they all only list, no more than the opening was written.
 pub record RunsText {P : Type 0} (pools : Ghosts P) (out : SinkSeen) (pool : P) (serials : List Serial) (table : List Hold) (today : Day) (plan : Plan) (left : After P) : Type 0 where
   pub opened : pools.tells → MayOpen (pools.shape pool) (pools.disk pool).state.contents serials
   pub ran : List Ran
@@ -154,6 +154,7 @@ pub record RunsText {P : Type 0} (pools : Ghosts P) (out : SinkSeen) (pool : P) 
   pub steps_are : left.steps ≡ steps_of ran ++ added
   pub end_is : IsEndOf wanted left.end
   pub printed : Prints out left.end (printed_text ran under wanted)
+  pub earlier : Took out (lines_of (ended_before ran under))
   pub quiet : pools.tells → OnlyListed ran under → Runs (of_opening (journal_of (pools.shape pool)) (pools.disk pool).state.contents) (pools.disk pool) (pools.disk left.pool)
   pub means : pools.tells → (facts : Facts) (units : List UnitModel) → facts.shape ≡ pools.shape pool → IsSettled facts (pools.disk pool).state units
       → RunOn (record { facts = facts; today = today; held = table }) ran under added left.pending units

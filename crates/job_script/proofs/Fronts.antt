@@ -31,6 +31,7 @@ use Rattle.job_script.specs.Built.{AreBuilt}
 use Rattle.job_script.specs.Ends.{After, after_of, SinkSeen, Prints, LeavesAfter, EndsScript}
 use Rattle.job_script.specs.One.{GoesOn, EndsOne, IsStoppedIn}
 use Rattle.job_script.specs.Runs.{Ran, HasGravest, IsListing, steps_of, lines_of, lines_in, answers_of, started_line, printed_text, Follow, RunOn, HasRun, IsNext, IsFront}
+use Rattle.job_script.proofs.Earlier.{took_none, took_then}
 use Rattle.job_script.proofs.Rans.{steps_join, lines_join, steps_one, lines_one, follow_join, leaves_more}
 use Rattle.job_script.proofs.Plans.{built_then}
 use Rattle.job_script.proofs.Ones.{after_parts, sink_no_pool, sink_no_whole, whole_no_pool, whole_no_sink}
@@ -204,6 +205,7 @@ module _ {P : Type 0} (pools : Ghosts P) (held : List Hold) (today : Day) {first
       steps_are = leaves.steps_are ∙ ap (λ (l : List Step). l ++ (steps_of ran ++ leaves.added)) so_far.steps_are ∙ steps_all;
       end_is = leaves.end_is;
       printed = subst (λ (l : List ℕ). Prints whole_out after.end l) text_all prints_all;
+      earlier = took_then taken_first taken_now taken_new faults_first faults_now faults_new so_far.ran ran under so_far.taken leaves.earlier;
       run = subst (λ (l : List Step). IsRun pools.tells (shown pools first.pool) (shown pools after.pool) (after.end ≢ ends.Pool) l after.pending) steps_all
           (run_then so_far.run (tt {0}) leaves.run);
       quiet = λ listed. leaves.quiet (all_back IsListing so_far.ran ran listed.0, listed.1) ∙ so_far.quiet (all_front IsListing so_far.ran ran listed.0);
@@ -254,8 +256,10 @@ module _ {P : Type 0} (pools : Ghosts P) (held : List Hold) (today : Day) {first
       (closes : ((result ≡ ends.Whole code) × Appends taken_now taken_new (last_line (ends.Whole code)))
       ⊎ ((result ≡ ends.Sink) × AppendsSome taken_now taken_new (last_line (ends.Whole code)) × Rose faults_now faults_new))
       (later : faults_now ≤ faults_new) where
-    whole_run : LeavesAfter pools now.session held today now.steps.items
-        (record { before = taken_now; after = taken_new; faults_before = faults_now; faults_after = faults_new }) [] None (ends.Whole code)
+    abbrev now_out : SinkSeen
+    now_out = record { before = taken_now; after = taken_new; faults_before = faults_now; faults_after = faults_new }
+
+    whole_run : LeavesAfter pools now.session held today now.steps.items now_out [] None (ends.Whole code)
         (record { pool = now.session.pool; steps = now.steps.items; pending = None; end = result })
     whole_run = record {
       added = [];
@@ -280,6 +284,10 @@ module _ {P : Type 0} (pools : Ghosts P) (held : List Hold) (today : Day) {first
           sink = λ is. sink.2;
           later = later;
         }
+      ];
+      earlier = elim closes [
+        | inl all ↦ took_none now_out (last_line (ends.Whole code)) (all_some taken_now taken_new (last_line (ends.Whole code)) all.1)
+        | inr sink ↦ took_none now_out (last_line (ends.Whole code)) sink.1
       ];
       run = run_idle (elim closes [
         | inl all ↦ whole_no_pool all.0

@@ -4,3 +4,4 @@ pub mod Plans
 pub mod Printing
 pub mod Rans
 pub mod Stacks
+pub mod Earlier

@@ -27,6 +27,7 @@ use Rattle.job_script.specs.declared.left.Left.{Left}
 use Rattle.job_script.specs.declared.run.Between.{Between}
 use Rattle.job_script.specs.Ends.{After, after_of, SinkSeen, Prints, LeavesAfter}
 use Rattle.job_script.specs.One.{EndsReport, EndsOne}
+use Rattle.job_script.proofs.Earlier.{took_none}
 use Rattle.job_script.specs.Runs.{Ran, HasGravest, IsListing, steps_of, started_line, lines_in, lines_of, printed_text, RunOn}
 
 -- ---- ends that differ
@@ -113,6 +114,7 @@ module _ {P : Type 0} (pools : Ghosts P) (before : Between P) (statement : State
         sink = λ is. absurd (memory_no_sink refl is);
         later = omega (arith, faults);
       };
+      earlier = ([], nothing);
       run = run_idle (memory_no_pool refl);
       quiet = λ listed. refl;
       means = λ told units settled. (units, refl, (refl, refl));
@@ -152,6 +154,7 @@ module _ {P : Type 0} (pools : Ghosts P) (before : Between P) (statement : State
       steps_are = steps_all;
       end_is = inl refl;
       printed = subst (λ (l : List ℕ). Prints out end l) (text_is end none) prints;
+      earlier = took_none out (lines_in statement.number said.messages) prints.some;
       run = ended_all end apart;
       quiet = λ listed. quiet (All-head IsListing one [] listed.0);
       means = means_one pools before.session session one run means;
@@ -239,6 +242,7 @@ module _ {P : Type 0} (pools : Ghosts P) (before : Between P) (statement : State
           sink = λ is. absurd (pool_no_sink refl is);
           later = later;
         });
+        earlier = took_none out (started ++ last_line ends.Pool) tells.some;
         run = run_less (λ apart. apart refl) (λ apart. run.cause (λ never. never)) run;
         quiet = λ listed. absurd (changes listed.1);
         means = cut_on;
@@ -268,6 +272,7 @@ module _ {P : Type 0} (pools : Ghosts P) (before : Between P) (statement : State
         sink = λ is. absurd (memory_no_sink refl is);
         later = later;
       });
+      earlier = took_none out started some;
       run = run_less (λ apart. tt {0}) (λ not. absurd (not (memory_no_pool refl))) run;
       quiet = λ listed. quiet listed.1;
       means = cut_on added None means;

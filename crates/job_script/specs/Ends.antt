@@ -1,5 +1,5 @@
 -- How a run of a script over a session ends.
-use Rattle.std.specs.Prelude.{◌≡◌, ◌≢◌, ◌⊎◌, ℕ, ◌≤◌, List, [], ◌++◌, All, Option}
+use Rattle.std.specs.Prelude.{◌≡◌, ◌≢◌, ◌⊎◌, ℕ, ◌≤◌, ◌-◌, List, [], ◌++◌, All, length, take, Option, Some, None}
 use Rattle.by_rules.specs.declared.day.Day.{Day}
 use Rattle.dasd_pool.specs.Count.{Rose}
 use Rattle.dasd_pool.specs.Stream.{Appends, AppendsSome}
@@ -16,7 +16,7 @@ use Rattle.job_ops.specs.Setting.{setting_of}
 use Rattle.run_lines.specs.declared.ending.RunEnd.{RunEnd}
 use Rattle.run_lines.specs.declared.ending.RunEnd.TheVariants as ends
 use Rattle.job_script.specs.declared.left.Left.{Left}
-use Rattle.job_script.specs.Runs.{Ran, HasGravest, OnlyListed, steps_of, RunOn, HasRun, printed_text}
+use Rattle.job_script.specs.Runs.{Ran, HasGravest, OnlyListed, steps_of, lines_of, RunOn, HasRun, printed_text}
 
 -- what a run leaves
 pub record After (P : Type 0) : Type 0 where
@@ -47,7 +47,17 @@ pub record Prints (out : SinkSeen) (end : RunEnd) (text : List ℕ) : Type 0 whe
   pub sink : end ≡ ends.Sink → Rose out.faults_before out.faults_after
   pub later : out.faults_before ≤ out.faults_after
 
--- What a run leaves that began on a session, after statements that ended and one that was cut, if one was. The steps of the run before are given.
+-- the sink took this text first, as far as it tells
+abbrev pub Took : SinkSeen → List ℕ → Type 0
+Took out text = (more : List ℕ) × Appends out.before out.after (text ++ more)
+
+-- the statements that ended before the last one began
+abbrev pub ended_before : List Ran → Option Statement → List Ran
+ended_before ran (Some statement) = ran
+ended_before ran None = take (length ran - 1) ran
+
+-- What a run leaves that began on a session, after statements that ended and one that was cut, if one was: none of them began before the lines of all before it were
+-- taken. The steps of the run before are given.
 pub record LeavesAfter {P : Type 0} (pools : Ghosts P) (session : SessionView P) (held : List Hold) (today : Day) (before : List Step) (out : SinkSeen)
     (ran : List Ran) (under : Option Statement) (wanted : RunEnd) (left : After P) : Type 0 where
   pub added : List Step
@@ -55,6 +65,7 @@ pub record LeavesAfter {P : Type 0} (pools : Ghosts P) (session : SessionView P)
   pub steps_are : left.steps ≡ before ++ (steps_of ran ++ added)
   pub end_is : IsEndOf wanted left.end
   pub printed : Prints out left.end (printed_text ran under wanted)
+  pub earlier : Took out (lines_of (ended_before ran under))
   pub run : IsRun pools.tells (shown pools session.pool) (shown pools left.pool) (left.end ≢ ends.Pool) (steps_of ran ++ added) left.pending
   pub quiet : OnlyListed ran under → left.pool ≡ session.pool
   pub means : ForUnits pools session (RunOn (setting_of pools session held today) ran under added left.pending)
