@@ -1,7 +1,9 @@
 //! Volumes with some free tracks, and a data set.
 
-ghost use Rattle.std.specs.Prelude.{◌≡◌, ◌≤◌, ◌+◌, ◌↔◌, All, IsTrue, IfOk, length};
+ghost use Rattle.std.specs.Prelude.{◌≡◌, ◌∷◌, ◌≤◌, ◌<◌, ◌+◌, ◌⊎◌, ◌↔◌, ℕ, All, IsTrue, IfOk, length};
 ghost use Rattle.ckd_image.specs.declared.device.Device.TheVariants.{D3390};
+ghost use Rattle.free_map.specs.Free.{IsFree};
+ghost use Rattle.free_map.specs.Runs.{InRuns};
 ghost use Rattle.volume_model.specs.Unit.{tracks_of};
 ghost use Rattle.plan_core.specs.Extents.{extents_at};
 ghost use Rattle.plan_core.specs.Consolidate.{IsSized};
@@ -10,6 +12,7 @@ use ckd_image::{Device, NoMemory, TrackAt};
 use dscb_rec::Extent;
 use free_map::{FreeFault, FreeMap, Run};
 use plan_core::{place_for, run_of};
+use runs_after::runs_after;
 use std::alloc::Global;
 use vol_label::Serial;
 use vtoc_core::{Extents, Row, Rows, Volume};
@@ -76,6 +79,8 @@ fn volume_of(alloc: Global, usable: u32, used: &[Run]) -> Result<Volume, FreeFau
     requires few { usable ≤ 65535 }
     requires within { All (λ run. run.first + run.len ≤ usable) used.now }
     ensures heads { IfOk result (λ volume. volume.free.heads ≡ 15) }
+    ensures usable { IfOk result (λ volume. volume.free.usable ≡ usable) }
+    ensures free { IfOk result (λ volume. (track : ℕ) → IsFree volume.free track ↔ ((track < usable) × ¬ InRuns used.now track)) }
     ensures device { IfOk result (λ volume. volume.device ≡ D3390) }
 {
     Ok(Volume {
@@ -105,4 +110,46 @@ pub fn room_on(
     }
     let volume = volume_of(alloc, usable, used)?;
     Ok(Some(place_for(&volume, row)))
+}
+
+/// Whether a run has no track of any of some.
+fn is_apart(run: Run, others: &[Run]) -> bool
+    ensures { IsTrue result ↔ All (λ other. (run.first + run.len ≤ other.first) ⊎ (other.first + other.len ≤ run.first)) others.now }
+{
+    others.iter().all(|other| {
+        u64::from(run.first) + u64::from(run.len) <= u64::from(other.first)
+            || u64::from(other.first) + u64::from(other.len) <= u64::from(run.first)
+    })
+}
+
+/// A run, and others.
+fn with_first(alloc: Global, first: Run, others: &[Run]) -> Result<Vec<Run>, NoMemory>
+    ensures { IfOk result (λ runs. runs.items ≡ first ∷ others.now) }
+{
+    let mut runs = Vec::new(alloc);
+    runs.push(first)?;
+    runs.extend_from_slice(others)?;
+    Ok(runs)
+}
+
+/// How many runs of free tracks there are once an extent went from one run to another on that volume, of which other runs are used too. `None` where what is
+/// given can't be.
+pub fn runs_behind(
+    alloc: Global,
+    usable: u32,
+    others: &[Run],
+    from: Run,
+    to: Run,
+) -> Result<Option<u32>, FreeFault> {
+    let Ok(used) = with_first(alloc, from, others) else {
+        return Err(FreeFault::NoMemory);
+    };
+    if usable > 65_535 || !end_by(&used, usable) || !end_by(&[to], usable) {
+        return Ok(None);
+    }
+    if from.len == 0 || to.len != from.len || !is_apart(to, others) {
+        return Ok(None);
+    }
+    let volume = volume_of(alloc, usable, &used)?;
+    Ok(Some(runs_after(&volume, from, to)))
 }

@@ -1,4 +1,4 @@
-use crate::ground::{room_on, row_of};
+use crate::ground::{room_on, row_of, runs_behind};
 use free_map::Run;
 use std::test::*;
 
@@ -65,6 +65,27 @@ fn a_data_set_of_cylinders_goes_to_whole_cylinders(rt: HostRuntime) -> Result<()
             room_on(rt.alloc(), 90, &used, &row)?,
             Some(place),
             "{extents:?}"
+        );
+    }
+    Ok(())
+}
+
+#[test]
+fn runs_of_free_tracks_are_counted_behind_a_move(rt: HostRuntime) -> Result<(), Fail> {
+    // Of 30 tracks 0 to 7 are used, and those that the extent leaves. Where it goes to, and how many runs are free then.
+    let cases: [(Run, Run, u32); 6] = [
+        (run(8, 3), run(11, 3), 2), // 8 to 10 and 14 to 29
+        (run(8, 3), run(20, 3), 2), // 8 to 19 and 23 to 29
+        (run(8, 3), run(27, 3), 1), // 8 to 26
+        (run(20, 5), run(8, 5), 1), // 13 to 29
+        (run(20, 5), run(18, 5), 2), // 8 to 17 and 23 to 29
+        (run(8, 22), run(8, 22), 0),
+    ];
+    for (from, to, count) in cases {
+        assert_eq!(rt;
+            runs_behind(rt.alloc(), 30, &[run(0, 8)], from, to)?,
+            Some(count),
+            "{from:?} {to:?}"
         );
     }
     Ok(())
