@@ -60,14 +60,14 @@ bounded_current : (device : Device) (current : Option DumpPart) → AllByRecursi
 bounded_current device None is = All-nil IsBounded
 bounded_current device (Some part) is = bounded_begun device part is.0
 
-bounded_slots : (device : Device) (n : ℕ) (slots : List (List ℕ)) → n + length slots ≤ 65535 → AllByRecursion (IsCutSlot device) slots
+pub bounded_slots : (device : Device) (n : ℕ) (slots : List (List ℕ)) → n + length slots ≤ 65535 → AllByRecursion (IsCutSlot device) slots
     → All IsBounded (map (λ slot. Slot slot.0 slot.1) (enumerate_from n slots))
 bounded_slots device n [] few is = All-nil IsBounded
 bounded_slots device n (slot ∷ slots) few is =
     All-cons IsBounded (Slot n slot) (map (λ slot. Slot slot.0 slot.1) (enumerate_from (n + 1) slots)) (omega arith, (let a = is.0.0 in let b = slot_short device in omega arith))
     (bounded_slots device (n + 1) slots (omega arith) is.1)
 
-bounded_kind : (full : Bool) (head : DumpHead) (front : Front) → head.tracks ≤ 65535 → IsOfKind full head front → All IsBounded (front_pieces front)
+pub bounded_kind : (full : Bool) (head : DumpHead) (front : Front) → head.tracks ≤ 65535 → IsOfKind full head front → All IsBounded (front_pieces front)
 bounded_kind true head front few is =
     let parts : All IsBounded (flat_map part_pieces front.parts) = subst (λ (p : List DumpPart). All IsBounded (flat_map part_pieces p)) (sym is.no_parts) (All-nil IsBounded) in
     let current : All IsBounded (current_pieces front.current) = subst (λ (c : Option DumpPart). All IsBounded (current_pieces c)) (sym is.no_current) (All-nil IsBounded) in

@@ -25,7 +25,7 @@ IsBounded Dropped = Unit {0}
 
 -- ---- records
 
-two_bytes : (m n : ℕ) → m ≤ 65535 → n ≤ 65535 → big_bytes 2 m ≡ big_bytes 2 n → m ≡ n
+pub two_bytes : (m n : ℕ) → m ≤ 65535 → n ≤ 65535 → big_bytes 2 m ≡ big_bytes 2 n → m ≡ n
 two_bytes m n few less e =
     let high : m / 256 % 256 ≡ n / 256 % 256 = cc in
     let low : m % 256 ≡ n % 256 = cc in
@@ -37,7 +37,7 @@ same_record a b p q r =
     let key-is : record { r = b.r; key = a.key; body = a.body } ≡ record { r = b.r; key = b.key; body = a.body } = ap (λ (t : List ℕ). record { r = b.r; key = t; body = a.body }) q in
     r-is ∙ key-is ∙ ap (λ (t : List ℕ). record { r = b.r; key = b.key; body = t }) r
 
-record_apart : (a b : Rec) (x y : List ℕ) → IsRecord a → IsRecord b → dumped_record a ++ x ≡ dumped_record b ++ y → (a ≡ b) × (x ≡ y)
+pub record_apart : (a b : Rec) (x y : List ℕ) → IsRecord a → IsRecord b → dumped_record a ++ x ≡ dumped_record b ++ y → (a ≡ b) × (x ≡ y)
 record_apart a b x y p q e =
     let number : a.r ≡ b.r = cc in
     let keys : length a.key ≡ length b.key = cc in

@@ -1,8 +1,8 @@
 -- What was read from a reel, one part after the other.
-use Rattle.std.proofs.Common.{◌≡◌, inl, inr, ℕ, ◌+◌, ◌≤◌, ◌<◌, min, List, [], ◌++◌, length, take, Option, Some, None, refl, sym, ap, subst, ◌∙◌, arith, length-append, append_assoc}
+use Rattle.std.proofs.Common.{◌≡◌, inl, inr, ℕ, ◌+◌, ◌≤◌, ◌<◌, min, List, [], ◌++◌, length, take, drop, Option, Some, None, refl, sym, ap, subst, ◌∙◌, arith, length-append, append_assoc}
 use Rattle.std.proofs.lemmas.Bool.{cases_lt}
 use Rattle.byteorder.specs.Endian.{big_bytes}
-use Rattle.std.proofs.lemmas.List.{take-append-le, append-nil, length-take}
+use Rattle.std.proofs.lemmas.List.{take-append-le, take-append-drop, append-nil, length-take}
 use Rattle.sha2.specs.Hashers.{Holds256}
 use Rattle.dasd_pool.specs.Stream.{Takes, EndsOnly}
 use Rattle.ckd_image.specs.Bytes.{Begins}
@@ -18,7 +18,7 @@ use Rattle.dump_read.specs.Tape.{TapeSeen}
 use Rattle.dump_read.specs.Feed.{coming, largest_offset}
 use Rattle.dump_read.specs.Fields.{GoesOn, IsFirstWrong}
 use Rattle.dump_read.specs.Header.{offset_of, length_of, IsHeader, IsHeaderStop}
-use Rattle.dump_read.specs.Reading.{HasRead, IsHeaderFault, header_fault}
+use Rattle.dump_read.specs.Reading.{HasRead, HeldSuch, IsHeaderFault, header_fault}
 use Rattle.dump_read.proofs.Words.{whole_front}
 
 takes_none : (held left : Option (List ℕ)) → held ≡ left → Takes held (coming [] left) []
@@ -146,3 +146,58 @@ no_header tape feed buf count stop fault is full within ends stops same =
     let len : length (take count buf) ≡ count = length-take count buf ∙ (let e : min count (length buf) ≡ count = omega arith in e) in
     subst (IsHeaderFault tape.held) (sym (same ∙ ap (λ (n : ℕ). header_fault n stop) (sym len)))
     (header_refused tape feed (take count buf) stop is (λ short. ends (omega arith)) stops)
+
+-- ---- what is read ahead
+
+-- what is read behind the window comes in the same place
+pub coming_more : (window piece : List ℕ) (old new : Option (List ℕ)) → Takes old new piece → coming (window ++ piece) new ≡ coming window old
+coming_more window piece None new took = subst (λ (o : Option (List ℕ)). coming (window ++ piece) o ≡ None) (sym took) refl
+coming_more window piece (Some old) new (left, is, all) =
+    subst (λ (o : Option (List ℕ)). coming (window ++ piece) o ≡ Some (window ++ old)) (sym is)
+    (ap Some (append_assoc window piece left ∙ ap (λ (t : List ℕ). window ++ t) (sym all)))
+
+pub read_look : (old new : TapeSeen) (before after : Feed) (bytes : List ℕ) → HasRead old before bytes → new.held ≡ old.held → coming after.window new.left ≡ coming before.window old.left
+    → after.offset ≡ before.offset → ((message : List ℕ) → Holds256 before.digest message → Holds256 after.digest message) → HasRead new after bytes
+read_look old new before after bytes is same next offset holds = record {
+  taken = subst (λ (h : Option (List ℕ)). Takes h (coming after.window new.left) bytes) (sym same)
+      (subst (λ (o : Option (List ℕ)). Takes old.held o bytes) (sym next) is.taken);
+  offset = offset ∙ is.offset;
+  digest = holds bytes is.digest;
+}
+
+coming_less : (window : List ℕ) (count : ℕ) (left : Option (List ℕ)) → Takes (coming window left) (coming (drop count window) left) (take count window)
+coming_less window count None = refl
+coming_less window count (Some left) =
+    (drop count window ++ left, refl, ap (λ (t : List ℕ). t ++ left) (sym (take-append-drop count window)) ∙ append_assoc (take count window) (drop count window) left)
+
+pub read_pass : (tape : TapeSeen) (before after : Feed) (bytes : List ℕ) (count : ℕ) → HasRead tape before bytes → after.window ≡ drop count before.window
+    → after.offset ≡ min (before.offset + count) largest_offset → count ≤ length before.window
+    → ((message : List ℕ) → Holds256 before.digest message → Holds256 after.digest (message ++ take count before.window)) → HasRead tape after (bytes ++ take count before.window)
+read_pass tape before after bytes count is window offset within holds =
+    let len : length (take count before.window) ≡ count = length-take count before.window ∙ (let e : min count (length before.window) ≡ count = omega arith in e) in
+    read_more tape tape before after bytes (take count before.window) is refl
+    (subst (λ (w : List ℕ). Takes (coming before.window tape.left) (coming w tape.left) (take count before.window)) (sym window) (coming_less before.window count tape.left))
+    (subst (λ (n : ℕ). after.offset ≡ min (before.offset + n) largest_offset) (sym len) offset) holds
+
+some_held : (held left : Option (List ℕ)) (window bytes : List ℕ) → Takes held (coming window left) bytes → HeldSuch held (λ whole. Begins (bytes ++ window) whole)
+some_held None left window bytes took = tt
+some_held (Some whole) None window bytes took = absurd (let e : None ≡ Some took.0 = took.1 in cc)
+some_held (Some whole) (Some left) window bytes took =
+    let next : Some (window ++ left) ≡ Some took.0 = took.1 in
+    let same : window ++ left ≡ took.0 = cc in
+    (left, took.2 ∙ ap (λ (t : List ℕ). bytes ++ t) (sym same) ∙ sym (append_assoc bytes window left))
+
+pub read_some : (tape : TapeSeen) (feed : Feed) (bytes : List ℕ) → HasRead tape feed bytes → HeldSuch tape.held (λ whole. Begins (bytes ++ feed.window) whole)
+read_some tape feed bytes is = some_held tape.held tape.left feed.window bytes is.taken
+
+all_held : (held left : Option (List ℕ)) (window bytes : List ℕ) → Takes held (coming window left) bytes → EndsOnly left → HeldSuch held (λ whole. whole ≡ bytes ++ window)
+all_held None left window bytes took ends = tt
+all_held (Some whole) None window bytes took ends = absurd (let e : None ≡ Some took.0 = took.1 in cc)
+all_held (Some whole) (Some left) window bytes took ends =
+    let next : Some (window ++ left) ≡ Some took.0 = took.1 in
+    let same : window ++ left ≡ took.0 = cc in
+    let last : window ++ left ≡ window = ap (λ (t : List ℕ). window ++ t) ends ∙ append-nil window in
+    took.2 ∙ ap (λ (t : List ℕ). bytes ++ t) (sym same ∙ last)
+
+pub read_all : (tape : TapeSeen) (feed : Feed) (bytes : List ℕ) → HasRead tape feed bytes → EndsOnly tape.left → HeldSuch tape.held (λ whole. whole ≡ bytes ++ feed.window)
+read_all tape feed bytes is ends = all_held tape.held tape.left feed.window bytes is.taken ends

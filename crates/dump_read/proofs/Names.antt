@@ -95,7 +95,7 @@ name_cut_wrong before bytes text short is none = λ (name, may, front).
     let filled = behind_filled before bytes more bound (subst (IsBehind before) spelled may.order) in
     none (subst (IsBehind before) (sym (is ∙ ap (λ (n : ℕ). bytes ++ replicate n 0xFF) (sym long))) filled)
 
-take_front : (front rest : List ℕ) (n : ℕ) → length front ≡ n → take n (front ++ rest) ≡ front
+pub take_front : (front rest : List ℕ) (n : ℕ) → length front ≡ n → take n (front ++ rest) ≡ front
 take_front [] rest zero six = refl
 take_front [] rest (suc n) six = absurd (omega arith)
 take_front (x ∷ front) rest zero six = absurd (omega arith)

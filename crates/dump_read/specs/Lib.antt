@@ -6,3 +6,10 @@ pub mod Reading
 pub mod DumpLaws
 pub mod Ending
 pub mod PartText
+pub mod TrackText
+pub mod SlotText
+pub mod Labelled
+pub mod Shape
+pub mod Marks
+pub mod Standing
+pub mod TrackFields

@@ -9,6 +9,7 @@ ghost use Rattle.dump_read.specs.Feed.{largest_offset};
 ghost use Rattle.dump_read.specs.Reading.{HasRead, HasCome, HeldSuch};
 
 use crate::feed::Feed;
+use crate::number::number_text;
 use crate::tape::Tape;
 use ckd_image::text::{after, begins, same};
 use dump_fmt::DumpFault;
@@ -18,13 +19,6 @@ use dump_fmt::DumpFault;
 pub(crate) enum CountStop {
     Wrong(u8),
     Cut,
-}
-
-/// The four bytes of a number, the highest first.
-fn number_text(number: u32) -> [u8; 4]
-    ensures { result ≡ big_bytes 4 number }
-{
-    number.to_be_bytes()
 }
 
 /// What is to be said of bytes at a place that don't begin with the right ones.

@@ -1,6 +1,6 @@
 //! The bytes of a reel, read through a window.
 
-ghost use Rattle.std.specs.Prelude.{◌≡◌, ◌<◌, ◌≤◌, ◌-◌, ◌+◌, ◌++◌, ◌^◌, ℕ, List, [], length, take, drop, min, vec_len, true, false, IfOk, OnOk};
+ghost use Rattle.std.specs.Prelude.{◌≡◌, ◌⊎◌, ◌<◌, ◌≤◌, ◌-◌, ◌+◌, ◌++◌, ◌^◌, ℕ, List, [], length, take, drop, min, vec_len, true, false, IfOk, OnOk};
 ghost use Rattle.sha2.specs.Hashers.{Holds256};
 ghost use Rattle.sha2.specs.Sha256.{sha256};
 ghost use Rattle.dasd_pool.specs.Count.{HasCause};
@@ -17,6 +17,34 @@ use std::marker::Model;
 
 /// How many bytes of a reel are held at most beyond those that were asked for.
 const WINDOW: usize = 65_536;
+
+/// How many bytes hold any piece of a dump: the slot of a 3390 and what stands before it have 56,841.
+const ENOUGH: usize = 57_344;
+
+/// Moves the bytes of a part to the front.
+fn slide(bytes: &mut [u8], start: usize, end: usize)
+    requires { (start ≤ end) × (end ≤ length bytes.old) }
+    ensures front { take (end - start) bytes.new ≡ drop start (take end bytes.old) }
+    ensures len { length bytes.new ≡ length bytes.old }
+{
+    if start > 0 {
+        bytes.copy_within(start..end, 0);
+    }
+}
+
+/// Reads some bytes behind the first ones, so many of them, and says how many; none are the end of the reel.
+fn read_behind<R: Tape>(bytes: &mut [u8], held: usize, reel: &mut R) -> Result<usize, ReelFault>
+    requires { held < length bytes.old }
+    ensures within { IfOk result (λ count. held + count ≤ length bytes.new) }
+    ensures coming { IfOk result (λ count. coming (take (held + count) bytes.new) (R.seen reel.new).left ≡ coming (take held bytes.old) (R.seen reel.old).left) }
+    ensures end { IfOk result (λ count. count ≡ 0 → EndsOnly (R.seen reel.new).left) }
+    ensures len { length bytes.new ≡ length bytes.old }
+    ensures same { (R.seen reel.new).held ≡ (R.seen reel.old).held }
+    ensures cause { HasCause (R.seen reel.old).faults (R.seen reel.new).faults result }
+{
+    let count = reel.more(&mut bytes[held..])?;
+    Ok(count)
+}
 
 /// Bytes that were read from a reel and not yet asked for. Contracts see the list of them.
 #[derive(Debug, Drop)]
@@ -47,7 +75,8 @@ impl Window {
     }
 
     fn len(&self) -> usize
-        ensures { result ≡ length self.now }
+        ensures same { result ≡ length self.now }
+        ensures few { result ≤ 65536 }
     {
         self.end - self.start
     }
@@ -98,6 +127,40 @@ impl Window {
             return Ok(true);
         }
         Ok(false)
+    }
+
+    /// Reads some bytes behind those that are held, and says how many; none are the end of the reel.
+    fn read_more<R: Tape>(&mut self, reel: &mut R) -> Result<usize, ReelFault>
+        requires { length self.old < 65536 }
+        ensures coming { OnOk result (coming self.new (R.seen reel.new).left ≡ coming self.old (R.seen reel.old).left) }
+        ensures more { IfOk result (λ count. length self.new ≡ length self.old + count) }
+        ensures end { IfOk result (λ count. count ≡ 0 → EndsOnly (R.seen reel.new).left) }
+        ensures same { (R.seen reel.new).held ≡ (R.seen reel.old).held }
+        ensures cause { HasCause (R.seen reel.old).faults (R.seen reel.new).faults result }
+    {
+        let held = self.end - self.start;
+        let bytes = self.bytes.as_mut_slice();
+        slide(bytes, self.start, self.end);
+        self.start = 0;
+        self.end = held;
+        let count = read_behind(bytes, held, reel)?;
+        self.end = held + count;
+        Ok(count)
+    }
+
+    /// Reads until the window is full or the reel has no more.
+    fn read_ahead<R: Tape>(&mut self, reel: &mut R) -> Result<(), ReelFault>
+        ensures ahead { OnOk result ((length self.new ≡ 65536) ⊎ EndsOnly (R.seen reel.new).left) }
+        ensures coming { OnOk result (coming self.new (R.seen reel.new).left ≡ coming self.old (R.seen reel.old).left) }
+        ensures same { (R.seen reel.new).held ≡ (R.seen reel.old).held }
+        ensures cause { HasCause (R.seen reel.old).faults (R.seen reel.new).faults result }
+    {
+        'reads: while self.len() < WINDOW {
+            if self.read_more(reel)? == 0 {
+                return Ok(());
+            }
+        }
+        Ok(())
     }
 
     /// Moves bytes to a place in the buffer, as many as there are and have room, and says where they end.
@@ -167,6 +230,42 @@ impl Feed {
         self.offset = self.offset.saturating_add(count as u64);
         self.digest.update(&buf[..count]);
         Ok(count)
+    }
+
+    /// Reads ahead, so that the window holds any piece of a dump, or all that the reel has.
+    pub fn look<R: Tape>(&mut self, reel: &mut R) -> Result<(), ReelFault>
+        ensures ahead { OnOk result ((57344 ≤ length self.new.window) ⊎ EndsOnly (R.seen reel.new).left) }
+        ensures coming { OnOk result (coming self.new.window (R.seen reel.new).left ≡ coming self.old.window (R.seen reel.old).left) }
+        ensures offset { self.new.offset ≡ self.old.offset }
+        ensures digest { (message : List ℕ) → Holds256 self.old.digest message → Holds256 self.new.digest message }
+        ensures same { (R.seen reel.new).held ≡ (R.seen reel.old).held }
+        ensures cause { HasCause (R.seen reel.old).faults (R.seen reel.new).faults result }
+    {
+        if self.window.len() >= ENOUGH {
+            return Ok(());
+        }
+        self.window.read_ahead(reel)
+    }
+
+    /// The bytes that stand ahead.
+    pub fn ahead(&self) -> &[u8]
+        ensures bytes { result.now ≡ self.now.window }
+        ensures few { length result.now ≤ 65536 }
+    {
+        self.window.front(self.window.len())
+    }
+
+    /// Passes so many of them.
+    pub fn pass(&mut self, count: usize)
+        requires { count ≤ length self.old.window }
+        ensures window { self.new.window ≡ drop count self.old.window }
+        ensures offset { self.new.offset ≡ min (self.old.offset + count) largest_offset }
+        ensures digest { (message : List ℕ) → Holds256 self.old.digest message → Holds256 self.new.digest (message ++ take count self.old.window) }
+    {
+        let passed = count as u64;
+        self.offset = self.offset.saturating_add(passed);
+        self.digest.update(self.window.front(count));
+        self.window.skip(count);
     }
 
     /// The digest of the bytes so far, which isn't kept any longer.

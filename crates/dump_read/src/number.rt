@@ -6,6 +6,13 @@ ghost use Rattle.byteorder.specs.Endian.{big_bytes};
 use byteorder::{BigEndian, ByteOrder};
 use ckd_image::text::put;
 
+/// The four bytes of a number.
+pub(crate) fn number_text(number: u32) -> [u8; 4]
+    ensures { result ≡ big_bytes 4 number }
+{
+    number.to_be_bytes()
+}
+
 /// The number of four bytes, and the bytes behind them.
 pub(crate) fn number_in(bytes: &[u8]) -> Option<(u32, &[u8])>
     ensures found { IfSome result (λ x. bytes.now ≡ big_bytes 4 x.0 ++ x.1.now) }
