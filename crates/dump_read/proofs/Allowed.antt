@@ -1,25 +1,23 @@
 -- Which marks may stand next.
-use Rattle.std.proofs.Common.{◌≡◌, ◌⊎◌, ◌↔◌, inl, inr, ℕ, ◌+◌, ◌-◌, ◌≤◌, ◌<◌, min, Bool, true, false, nat_eq, nat_lt, nat_le, List, [], ◌∷◌, ◌++◌, length, take, All, Option, Some, None, IfSome, IsTrue, refl, sym, ap, subst, ◌∙◌, arith, length-append}
-use Rattle.std.specs.List.{AllPairs}
-use Rattle.std.proofs.lemmas.Bool.{ltb-true, ltb-false, lt-ltb, leb-true, le-leb, eqb-true, eq-eqb}
+use Rattle.std.proofs.Common.{◌≡◌, ◌⊎◌, ◌↔◌, inl, inr, ℕ, ◌+◌, ◌-◌, ◌≤◌, ◌<◌, Bool, true, false, nat_eq, nat_lt, List, [], ◌∷◌, ◌++◌, length, take, Option, Some, None, IsTrue, refl, sym, ap, subst, ◌∙◌, arith, length-append}
+use Rattle.std.proofs.lemmas.Bool.{ltb-true, lt-ltb}
 use Rattle.std.proofs.lemmas.List.{length-take}
 use Rattle.std.proofs.lemmas.Option.{none-some}
 use Rattle.ckd_image.specs.declared.track.Track.{Track as Text}
 use Rattle.dump_fmt.specs.declared.piece.DumpHead.{DumpHead}
 use Rattle.dump_fmt.specs.declared.piece.Piece.{Piece}
 use Rattle.dump_fmt.specs.declared.piece.Piece.TheVariants.{Part, Track, PartEnd, Dropped, Slot}
-use Rattle.dump_fmt.specs.Parts.{DumpPart, IsPart, is_whole}
-use Rattle.dump_fmt.specs.Front.{Front, Adds, all_parts, whole_tracks, largest_count, IsLogical, begun, with_text, with_current, with_part, with_slot}
+use Rattle.dump_fmt.specs.Parts.{DumpPart, IsPart}
+use Rattle.dump_fmt.specs.Front.{Front, Adds, all_parts, whole_tracks, largest_count, begun, with_text, with_current, with_part, with_slot}
 use Rattle.dump_read.specs.declared.standing.UnderWay.{UnderWay}
 use Rattle.dump_read.specs.declared.standing.Standing.{Standing}
 use Rattle.dump_read.specs.Marks.{IsMarkOf, MayBegin, MayStand}
 use Rattle.dump_read.specs.PartText.{IsNextName, IsBehind}
 use Rattle.dump_read.specs.Shape.{IsGoing, MayEndPart, HasByteName}
-use Rattle.dump_read.specs.Standing.{StandsAt, IsUnderWay, last_name, name_of}
+use Rattle.dump_read.specs.Standing.{StandsAt, IsUnderWay, last_name}
 use Rattle.dump_read.proofs.Counts.{all_none}
 use Rattle.dump_read.proofs.Going.{not_full, logical, slots_by, last_is, ended}
 use Rattle.dump_read.proofs.More.{empty_text, empty_stands, text_more, named_f1, part_more, slot_more}
-use Rattle.dump_read.proofs.OnWay.{Precedes}
 use Rattle.dump_read.proofs.Ordered.{last_behind}
 use Rattle.dump_read.proofs.StandingAt.{current_of, under_same}
 

@@ -1,12 +1,12 @@
 -- What of a front counts: its whole parts and their tracks, and all parts with the one under way.
-use Rattle.std.proofs.Common.{◌≡◌, ℕ, zero, suc, ◌+◌, ◌≤◌, ◌<◌, Bool, true, false, cond, List, [], ◌∷◌, ◌++◌, length, filter, All, Option, Some, None, option_to_list, refl, sym, ap, subst, ◌∙◌, arith, length-append}
+use Rattle.std.proofs.Common.{◌≡◌, ℕ, ◌+◌, ◌≤◌, Bool, true, false, cond, List, [], ◌∷◌, ◌++◌, length, filter, All, Option, Some, None, option_to_list, sym, ap, subst, ◌∙◌, arith, length-append}
 use Rattle.std.specs.Prelude.{sum_by, slice_index_or}
 use Rattle.std.specs.List.{AllByRecursion, AllPairs}
 use Rattle.std.proofs.lemmas.List.{append-nil, get_or_append_left}
 use Rattle.std.proofs.lemmas.List.Elements.{recursion_from_All, All-from_recursion, filter-append}
 use Rattle.std.proofs.lemmas.List.Sums.{sum_by-append, sum_by_push}
 use Rattle.dump_fmt.specs.Parts.{DumpPart, is_whole}
-use Rattle.dump_fmt.specs.Front.{Front, all_parts, whole_parts, whole_tracks, with_part}
+use Rattle.dump_fmt.specs.Front.{Front, all_parts, with_part}
 
 abbrev pub tracks_in : List DumpPart → ℕ
 tracks_in parts = sum_by (λ (part : DumpPart). part.tracks) (filter is_whole parts)

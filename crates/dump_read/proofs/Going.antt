@@ -1,15 +1,15 @@
 -- What is going goes on: a part begins, has a track more or ends, or a slot more stands there.
-use Rattle.std.proofs.Common.{◌≡◌, ◌⊎◌, inl, inr, ℕ, ◌+◌, ◌≤◌, ◌<◌, Bool, true, false, List, [], ◌∷◌, ◌++◌, length, take, All, Option, Some, None, option_to_list, IfSome, IsTrue, refl, sym, ap, subst, ◌∙◌, arith, length-append}
+use Rattle.std.proofs.Common.{◌≡◌, inl, inr, ◌≤◌, Bool, true, false, List, [], ◌∷◌, ◌++◌, length, All, Option, Some, option_to_list, IfSome, IsTrue, refl, sym, subst, ◌∙◌, arith}
 use Rattle.std.specs.List.{AllPairs}
-use Rattle.std.proofs.lemmas.Bool.{cases_lt, cases_Bool, ne_eqb, eqb-true, eq-eqb}
-use Rattle.std.proofs.lemmas.Option.{none-some, same_Some}
-use Rattle.std.proofs.lemmas.List.Elements.{All-push, All-head, All-tail}
+use Rattle.std.proofs.lemmas.Bool.{eqb-true}
+use Rattle.std.proofs.lemmas.Option.{none-some}
+use Rattle.std.proofs.lemmas.List.Elements.{All-head, All-tail}
 use Rattle.dump_fmt.specs.declared.piece.DumpHead.{DumpHead}
 use Rattle.dump_fmt.specs.Parts.{DumpPart, IsPart, is_whole, name_before}
-use Rattle.dump_fmt.specs.Front.{Front, all_parts, whole_tracks, largest_count, IsLogical, IsCutSlot, with_part, with_slot}
+use Rattle.dump_fmt.specs.Front.{Front, all_parts, whole_tracks, largest_count, IsLogical, with_part}
 use Rattle.dump_fmt.proofs.Fronts.{push_not_empty}
 use Rattle.dump_read.specs.Shape.{IsOfShape, AreSlots, IsShapeFront, IsGoing, MayEndPart, HasByteName}
-use Rattle.dump_read.proofs.Counts.{tracks_in, tracks_push, tracks_short, all_ended}
+use Rattle.dump_read.proofs.Counts.{tracks_push, tracks_short, all_ended}
 
 -- ---- a part under way is one of a logical dump
 

@@ -1,19 +1,19 @@
 -- A piece more stands behind what is going, and that is going too.
-use Rattle.std.proofs.Common.{◌≡◌, ◌⊎◌, inl, inr, ℕ, zero, suc, ◌+◌, ◌≤◌, ◌<◌, Bool, true, false, List, [], ◌∷◌, ◌++◌, length, take, drop, replicate, All, Option, Some, None, IfSome, IsTrue, refl, sym, ap, subst, ◌∙◌, arith, length-append, append_assoc}
+use Rattle.std.proofs.Common.{◌≡◌, ◌⊎◌, inl, inr, ℕ, ◌+◌, ◌≤◌, ◌<◌, true, false, List, [], ◌∷◌, ◌++◌, length, take, drop, replicate, All, Option, Some, None, IfSome, refl, sym, ap, subst, ◌∙◌, arith, length-append, append_assoc}
 use Rattle.std.specs.Prelude.{slice_index}
 use Rattle.std.specs.List.{AllPairs}
-use Rattle.std.proofs.lemmas.List.{drop-append-le, drop_all, get_or-append-add, append-nil}
-use Rattle.std.proofs.lemmas.List.Elements.{All-push, All-nil, All-append}
+use Rattle.std.proofs.lemmas.List.{drop-append-le, drop_all, get_or-append-add}
+use Rattle.std.proofs.lemmas.List.Elements.{All-push, All-nil}
 use Rattle.std.proofs.lemmas.List.Quantifiers.{all_pairs_push}
 use Rattle.ckd_image.specs.declared.device.Device.{Device}
 use Rattle.ckd_image.specs.declared.device.Device.TheVariants.{D3390, D3380}
 use Rattle.ckd_image.specs.declared.track.Track.{Track as Text}
 use Rattle.ckd_image.specs.Track.{IsTrack, IsRecord}
 use Rattle.dump_fmt.specs.declared.piece.DumpHead.{DumpHead}
-use Rattle.dump_fmt.specs.Parts.{DumpPart, StandsOn, IsPlaceless, IsPart, name_before}
-use Rattle.dump_fmt.specs.Front.{Front, all_parts, whole_tracks, largest_count, IsLogical, IsCutSlot, begun, with_text, with_current, with_slot}
+use Rattle.dump_fmt.specs.Parts.{DumpPart, StandsOn, IsPlaceless, IsPart}
+use Rattle.dump_fmt.specs.Front.{Front, all_parts, whole_tracks, largest_count, IsCutSlot, begun, with_text, with_current, with_slot}
 use Rattle.dump_read.specs.PartText.{IsNextName, IsBehind}
-use Rattle.dump_read.specs.Shape.{IsOfShape, AreSlots, IsShapeFront, IsGoing, MayEndPart, HasByteName}
+use Rattle.dump_read.specs.Shape.{IsGoing, MayEndPart, HasByteName}
 use Rattle.dump_read.specs.Standing.{last_name}
 use Rattle.dump_read.proofs.Counts.{tracks_in, all_none, all_some, front_all, front_pairs}
 use Rattle.dump_read.proofs.Going.{not_full, logical, logical_by, of_logical, slots_by, of_slots, last_is}

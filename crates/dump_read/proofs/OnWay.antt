@@ -1,16 +1,16 @@
 -- What stands before more of a shape can go on.
-use Rattle.std.proofs.Common.{◌≡◌, ◌⊎◌, inl, inr, ℕ, ◌+◌, ◌≤◌, ◌<◌, Bool, true, false, List, [], ◌∷◌, ◌++◌, length, take, All, Option, Some, None, IfSome, IsTrue, refl, sym, ap, subst, ◌∙◌, arith, length-append, append_assoc}
+use Rattle.std.proofs.Common.{◌≡◌, inl, inr, ℕ, ◌+◌, ◌≤◌, ◌<◌, Bool, true, false, List, [], ◌∷◌, ◌++◌, length, All, Option, Some, None, IfSome, IsTrue, refl, sym, ap, subst, ◌∙◌, arith, length-append, append_assoc}
 use Rattle.std.specs.Prelude.{slice_index_or}
 use Rattle.std.specs.List.{AllPairs}
-use Rattle.std.proofs.lemmas.Bool.{eqb-true, eqb-false}
+use Rattle.std.proofs.lemmas.Bool.{eqb-false}
 use Rattle.std.proofs.lemmas.List.{get_or_append_left, get_or-append-add}
-use Rattle.std.proofs.lemmas.List.Elements.{All-push, All-append, All-nil}
+use Rattle.std.proofs.lemmas.List.Elements.{All-push, All-nil}
 use Rattle.std.proofs.lemmas.List.Quantifiers.{all_pairs_push}
 use Rattle.ckd_image.specs.declared.track.Track.{Track as Text}
 use Rattle.dump_fmt.specs.declared.piece.DumpHead.{DumpHead}
 use Rattle.dump_fmt.specs.Parts.{DumpPart, StandsOn, IsPart, is_whole, name_before}
-use Rattle.dump_fmt.specs.Front.{Front, all_parts, whole_tracks, largest_count, IsLogical, IsCutSlot}
-use Rattle.dump_read.specs.Shape.{IsOfShape, AreSlots, IsShapeFront, IsGoing, MayEndPart, HasByteName}
+use Rattle.dump_fmt.specs.Front.{Front, all_parts, largest_count, IsLogical, IsCutSlot}
+use Rattle.dump_read.specs.Shape.{AreSlots, IsShapeFront, IsGoing, MayEndPart, HasByteName}
 use Rattle.dump_read.proofs.Counts.{tracks_in, tracks_push, tracks_before, all_none, all_some, front_all, front_pairs}
 use Rattle.dump_read.proofs.Going.{of_logical, of_slots, last_is}
 use Rattle.dump_read.proofs.Stages.{with_texts}

@@ -1,5 +1,5 @@
 -- Names in their order: one behind the last is behind all.
-use Rattle.std.proofs.Common.{◌≡◌, ℕ, zero, suc, ◌+◌, ◌<◌, Bool, true, false, List, [], ◌∷◌, ◌++◌, length, take, Option, Some, None, IsTrue, refl, sym, ap, subst, ◌∙◌, arith, length-append}
+use Rattle.std.proofs.Common.{◌≡◌, ℕ, zero, suc, ◌<◌, Bool, true, false, List, [], ◌∷◌, ◌++◌, length, IsTrue, refl, sym, ◌∙◌, arith}
 use Rattle.std.specs.Prelude.{slice_index_or}
 use Rattle.std.specs.List.{AllPairs}
 use Rattle.std.specs.Cmp.{IsStrictWeakOrder}
@@ -7,7 +7,7 @@ use Rattle.std.specs.Ordering.{is_lt, nat_cmp}
 use Rattle.std.specs.Cmp.Lexicographic.{slice_cmp}
 use Rattle.std.proofs.lemmas.Cmp.{nat_list_cmp_total}
 use Rattle.std.proofs.lemmas.List.MinMax.{ranks_by}
-use Rattle.dump_fmt.specs.Parts.{DumpPart, name_before}
+use Rattle.dump_fmt.specs.Parts.{DumpPart}
 use Rattle.dump_read.specs.PartText.{IsBehind}
 use Rattle.dump_read.specs.Standing.{last_name, name_of}
 use Rattle.dump_read.proofs.OnWay.{Precedes}

@@ -1,5 +1,5 @@
 -- The shape of a dump: what can be ended goes on, and what goes on does so with a piece or ends.
-use Rattle.std.proofs.Common.{◌≡◌, ◌⊎◌, inl, inr, ℕ, ◌+◌, ◌-◌, ◌≤◌, ◌<◌, Bool, true, false, List, [], ◌∷◌, ◌++◌, length, replicate, map, All, Option, Some, None, IsTrue, refl, sym, ap, subst, ◌∙◌, arith, length-append, append_assoc}
+use Rattle.std.proofs.Common.{◌≡◌, ◌⊎◌, inl, inr, ℕ, ◌+◌, ◌-◌, ◌≤◌, Bool, true, false, List, [], ◌∷◌, ◌++◌, length, replicate, map, All, Option, Some, None, IsTrue, refl, sym, ap, subst, ◌∙◌, arith, length-append, append_assoc}
 use Rattle.std.specs.List.{flat_map}
 use Rattle.std.proofs.lemmas.Bool.{eqb-false}
 use Rattle.std.proofs.lemmas.List.{append-nil, length-replicate}
@@ -18,10 +18,10 @@ use Rattle.dump_fmt.specs.declared.piece.Piece.TheVariants.{Part, Track, PartEnd
 use Rattle.dump_fmt.specs.Head.{IsDumpHead, header_text, kind_byte, day_text}
 use Rattle.dump_fmt.specs.Parts.{DumpPart, IsPart, is_whole, part_pieces}
 use Rattle.dump_fmt.specs.Pieces.{piece_text, pieces_text, counted_text}
-use Rattle.dump_fmt.specs.Front.{Front, Adds, front_pieces, current_pieces, slot_pieces, all_parts, whole_tracks, largest_count, IsLogical, IsCutSlot, begun, with_text, with_current, with_part, with_slot}
+use Rattle.dump_fmt.specs.Front.{Front, Adds, front_pieces, current_pieces, slot_pieces, all_parts, IsLogical, IsCutSlot, begun, with_text, with_current, with_part, with_slot}
 use Rattle.dump_fmt.specs.Text.{front_text, counts_text, digested_text}
 use Rattle.dump_fmt.proofs.Fronts.{HasNoSlots, push_not_empty, pieces_more}
-use Rattle.dump_read.specs.Shape.{IsOfShape, AreSlots, IsShapeFront, IsGoing, MayClose, IsShape, IsSomeShape, GoesWithPiece, GoesWithEnd, FrontsGoOn, PiecesStandBehind, ShapesGoOn, NoShapeBeginsAnother}
+use Rattle.dump_read.specs.Shape.{IsOfShape, AreSlots, IsShapeFront, IsGoing, MayClose, GoesWithPiece, GoesWithEnd, FrontsGoOn, PiecesStandBehind, ShapesGoOn, NoShapeBeginsAnother}
 use Rattle.dump_read.proofs.Chains.{apart, none_is, front_of_more}
 use Rattle.dump_read.proofs.Numbers.{one_number}
 use Rattle.dump_read.proofs.Fed.{long_header}

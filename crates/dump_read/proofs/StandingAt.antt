@@ -1,13 +1,12 @@
 -- Where a dump stands once a piece more stands there.
-use Rattle.std.proofs.Common.{◌≡◌, ℕ, ◌+◌, ◌≤◌, ◌<◌, ◌-◌, ◌^◌, min, Bool, true, false, List, [], ◌∷◌, ◌++◌, length, take, Option, Some, None, IsTrue, refl, sym, ap, subst, ◌∙◌, arith, length-append}
+use Rattle.std.proofs.Common.{◌≡◌, ℕ, ◌+◌, ◌≤◌, min, List, [], ◌∷◌, ◌++◌, length, take, Option, Some, None, IsTrue, refl, sym, ap, subst, ◌∙◌, arith, length-append}
 use Rattle.std.proofs.lemmas.List.{append-nil}
 use Rattle.std.proofs.lemmas.Option.{none-some, same_Some}
 use Rattle.ckd_image.specs.declared.track.Track.{Track as Text}
-use Rattle.vol_label.specs.declared.label.Label.{Label}
 use Rattle.dump_fmt.specs.declared.piece.DumpHead.{DumpHead}
 use Rattle.dump_fmt.specs.declared.piece.Piece.TheVariants as pieces
 use Rattle.dump_fmt.specs.Parts.{DumpPart, IsPart, is_whole}
-use Rattle.dump_fmt.specs.Front.{Front, Adds, all_parts, whole_parts, whole_tracks, largest_count, begun, with_text, with_current, with_part}
+use Rattle.dump_fmt.specs.Front.{Front, Adds, all_parts, largest_count, begun, with_text, with_current, with_part}
 use Rattle.dump_read.specs.Shape.{IsGoing}
 use Rattle.dump_read.specs.declared.standing.UnderWay.{UnderWay}
 use Rattle.dump_read.specs.declared.standing.Standing.{Standing}

@@ -1,4 +1,4 @@
-use Rattle.std.proofs.Common.{◌≡◌, ◌<◌, ◌-◌, inl, inr, sym, subst, arith}
+use Rattle.std.proofs.Common.{◌<◌, ◌-◌, inl, inr, sym, subst, arith}
 use Rattle.std.specs.Prelude.{◌↔◌, IsTrue, nat_eq, nat_lt, nat_le}
 use Rattle.std.proofs.lemmas.Bool.{ltb-true, lt-ltb, leb-true, le-leb}
 use Rattle.dump_read.specs.declared.mark.Mark.{Mark}
