@@ -12,37 +12,40 @@ use Rattle.dump_read.specs.declared.part.PartStop.{PartStop}
 use Rattle.dump_read.specs.declared.part.PartStop.TheVariants.{Wrong, Cut}
 use Rattle.dump_read.specs.Fields.{GoesOn, IsFirstWrong, IsFieldFront}
 use Rattle.dump_read.specs.Header.{BeginsFixed}
-use Rattle.dump_read.specs.PartText.{place_of, length_of, IsNextName, IsKind, IsPartText, IsPartStop, IsPartRead, Stops, BeginsName, BeginsTracks, BeginsKind, ZerosStop}
+use Rattle.dump_read.specs.PartText.{place_of, length_of, IsField, IsNextName, IsKind, IsPartText, IsPartStop, IsPartRead, Stops, BeginsName, BeginsTracks, BeginsKind, ZerosStop}
 use Rattle.dump_read.proofs.Chains.{Then, wrong_here, wrong_behind, cut_behind, field_goes, field_only, wrong_as, goes_as}
 use Rattle.dump_read.proofs.PartChain.{FromName, FromFormat, FromFirst, FromCount, FromMiddle, FromZeros, FromTracks, FromKind, chain_of, part_of, at_index, placeless, take_length}
 
 -- why bytes from a place behind the mark on aren't what may stand there
 abbrev pub StopsAt : (List ℕ → Type 0) → List ℕ → ℕ → PartStop → Type 0
-StopsAt Is bytes base (Wrong field) = (place : ℕ) × (place_of field ≡ base + place) × IsFirstWrong Is bytes place (length_of field)
+StopsAt Is bytes base (Wrong field) = (place : ℕ) × (place_of field ≡ base + place) × IsField field × IsFirstWrong Is bytes place (length_of field)
 StopsAt Is bytes base Cut = (length bytes + base < 145) × GoesOn Is bytes
 
 pub at_top : (before : Option (List ℕ)) (bytes : List ℕ) (stop : PartStop) → StopsAt (FromName before) bytes 0 stop → IsPartStop before bytes stop
-at_top before bytes (Wrong field) (place, is, wrong) =
-    let same : place ≡ place_of field = omega (arith, is) in
-    subst (λ (p : ℕ). IsFirstWrong (IsPartText before) bytes p (length_of field)) same (wrong_as (FromName before) (IsPartText before) (part_of before) (chain_of before) bytes place (length_of field) wrong)
+at_top before bytes (Wrong field) (place, is, sound, wrong) =
+    let same : place ≡ place_of field = omega (arith, is) in (
+      sound,
+      subst (λ (p : ℕ). IsFirstWrong (IsPartText before) bytes p (length_of field)) same (wrong_as (FromName before) (IsPartText before) (part_of before) (chain_of before) bytes place (length_of field) wrong),
+    )
 at_top before bytes Cut (short, goes) = (omega arith, goes_as (FromName before) (IsPartText before) (part_of before) bytes goes)
 
 module _ {X : Type 0} (May : X → Type 0) (text : X → List ℕ) (Rest : X → List ℕ → Type 0) (n : ℕ) (long : (x : X) → May x → length (text x) ≡ n) where
-  pub stops_here : (field : PartField) (bytes : List ℕ) (x : X) (base : ℕ) (stop : PartStop) → length_of field ≡ n → place_of field ≡ base → base + n ≤ 145 → May x
+  pub stops_here : (field : PartField) (bytes : List ℕ) (x : X) (base : ℕ) (stop : PartStop) → IsField field → length_of field ≡ n → place_of field ≡ base → base + n ≤ 145 → May x
       → ((y : X) → May y → (r : List ℕ) × Rest y r) → Stops field (IsFieldFront May text) bytes stop → StopsAt (Then May text Rest) bytes base stop
-  stops_here field bytes x base (Wrong found) len at within may there (same, none) = (
+  stops_here field bytes x base (Wrong found) sound len at within may there (same, none) = (
     0,
     ap place_of same ∙ omega (arith, at),
+    subst IsField (sym same) sound,
     subst (λ (l : ℕ). IsFirstWrong (Then May text Rest) bytes 0 l) (sym len ∙ ap length_of (sym same))
         (wrong_here May text Rest n long bytes (there x may).0 x may (there x may).1 (subst (λ (l : ℕ). ¬ IsFieldFront May text (take l bytes)) len none)),
   )
-  stops_here field bytes x base Cut len at within may there (short, (y, ok, front)) =
+  stops_here field bytes x base Cut sound len at within may there (short, (y, ok, front)) =
       (omega (arith, len, short), field_goes May text Rest n long y (there y ok).0 bytes ok (there y ok).1 front)
 
   pub stops_behind : (bytes rest : List ℕ) (x : X) (base next : ℕ) (stop : PartStop) → next ≡ base + n → May x → bytes ≡ text x ++ rest
       → ((y : X) (r : List ℕ) → May y → text x ≡ text y → Rest y r → Rest x r) → StopsAt (Rest x) rest next stop → StopsAt (Then May text Rest) bytes base stop
-  stops_behind bytes rest x base next (Wrong field) at may is agree (place, there, wrong) =
-      (n + place, omega (arith, there, at), wrong_behind May text Rest n long bytes rest x place (length_of field) may is agree wrong)
+  stops_behind bytes rest x base next (Wrong field) at may is agree (place, there, sound, wrong) =
+      (n + place, omega (arith, there, at), sound, wrong_behind May text Rest n long bytes rest x place (length_of field) may is agree wrong)
   stops_behind bytes rest x base next Cut at may is agree (short, goes) =
       (let a = ap length is in let b = length-append (text x) rest in let c = long x may in omega arith, cut_behind May text Rest n long bytes rest x may is goes)
 
@@ -73,7 +76,7 @@ format_there = (0xF1 ∷ first_there.0, record { value = tt; may = tt; rest = fi
 
 pub at_name : (before : Option (List ℕ)) (name bytes : List ℕ) (stop : PartStop) → IsNextName before name → Stops fields.Name (BeginsName before) bytes stop → StopsAt (FromName before) bytes 0 stop
 at_name before name bytes stop may stops =
-    stops_here (IsNextName before) (λ name. name) (λ name. FromFormat) 44 (λ x may. may.long) fields.Name bytes name 0 stop refl refl (omega arith) may (λ y may. format_there) stops
+    stops_here (IsNextName before) (λ name. name) (λ name. FromFormat) 44 (λ x may. may.long) fields.Name bytes name 0 stop tt refl refl (omega arith) may (λ y may. format_there) stops
 
 pub behind_name : (before : Option (List ℕ)) (name bytes rest : List ℕ) (stop : PartStop) → IsNextName before name → bytes ≡ name ++ rest → StopsAt FromFormat rest 44 stop → StopsAt (FromName before) bytes 0 stop
 behind_name before name bytes rest stop may is stops =
@@ -91,7 +94,7 @@ long_filled bytes n short =
 
 pub at_format : (bytes : List ℕ) (stop : PartStop) → Stops fields.Format (BeginsFixed (0xF1 ∷ [])) bytes stop → StopsAt FromFormat bytes 44 stop
 at_format bytes stop stops =
-    stops_here {X = Unit {0}} (λ x. Unit {0}) (λ x. 0xF1 ∷ []) (λ x. FromFirst) 1 (λ x may. refl) fields.Format bytes tt 44 stop refl refl (omega arith) tt (λ y may. first_there) stops
+    stops_here {X = Unit {0}} (λ x. Unit {0}) (λ x. 0xF1 ∷ []) (λ x. FromFirst) 1 (λ x may. refl) fields.Format bytes tt 44 stop tt refl refl (omega arith) tt (λ y may. first_there) stops
 
 pub behind_format : (bytes rest : List ℕ) (stop : PartStop) → bytes ≡ 0xF1 ∷ rest → StopsAt FromFirst rest 45 stop → StopsAt FromFormat bytes 44 stop
 behind_format bytes rest stop is stops =
@@ -110,7 +113,7 @@ behind_first some bytes rest stop long is stops =
 
 pub at_count : (bytes : List ℕ) (stop : PartStop) → Stops fields.Count (BeginsFixed (0 ∷ [])) bytes stop → StopsAt FromCount bytes 59 stop
 at_count bytes stop stops =
-    stops_here {X = Unit {0}} (λ x. Unit {0}) (λ x. 0 ∷ []) (λ x. FromMiddle) 1 (λ x may. refl) fields.Count bytes tt 59 stop refl refl (omega arith) tt (λ y may. middle_there) stops
+    stops_here {X = Unit {0}} (λ x. Unit {0}) (λ x. 0 ∷ []) (λ x. FromMiddle) 1 (λ x may. refl) fields.Count bytes tt 59 stop tt refl refl (omega arith) tt (λ y may. middle_there) stops
 
 pub behind_count : (bytes rest : List ℕ) (stop : PartStop) → bytes ≡ 0 ∷ rest → StopsAt FromMiddle rest 60 stop → StopsAt FromCount bytes 59 stop
 behind_count bytes rest stop is stops =
@@ -148,6 +151,7 @@ pub at_zeros : (bytes : List ℕ) (stop : PartStop) → ZerosStop 35 bytes stop 
 at_zeros bytes (Wrong (fields.Extents k)) (less, (b, rest, is, other)) = (
   k,
   refl,
+  less,
   record {
     front = replicate k 0;
     rest = b ∷ rest;
@@ -176,7 +180,7 @@ behind_zeros bytes rest stop is stops =
 
 pub at_tracks : (bytes : List ℕ) (stop : PartStop) → Stops fields.Tracks BeginsTracks bytes stop → StopsAt FromTracks bytes 140 stop
 at_tracks bytes stop stops =
-    stops_here (λ tracks. tracks ≤ 65535) (big_bytes 4) (λ tracks. FromKind) 4 (λ x may. refl) fields.Tracks bytes 0 140 stop refl refl (omega arith) (omega arith) (λ y may. kind_there) stops
+    stops_here (λ tracks. tracks ≤ 65535) (big_bytes 4) (λ tracks. FromKind) 4 (λ x may. refl) fields.Tracks bytes 0 140 stop tt refl refl (omega arith) (omega arith) (λ y may. kind_there) stops
 
 pub behind_tracks : (tracks : ℕ) (bytes rest : List ℕ) (stop : PartStop) → tracks ≤ 65535 → bytes ≡ big_bytes 4 tracks ++ rest → StopsAt FromKind rest 144 stop → StopsAt FromTracks bytes 140 stop
 behind_tracks tracks bytes rest stop few is stops =
@@ -184,7 +188,7 @@ behind_tracks tracks bytes rest stop few is stops =
 
 pub at_kind : (bytes : List ℕ) (stop : PartStop) → Stops fields.Kind BeginsKind bytes stop → StopsAt FromKind bytes 144 stop
 at_kind bytes stop stops =
-    stops_here IsKind (λ kind. kind ∷ []) (λ kind r. r ≡ []) 1 (λ x may. refl) fields.Kind bytes 0x01 144 stop refl refl (omega arith) (inl refl) (λ y may. ([], refl)) stops
+    stops_here IsKind (λ kind. kind ∷ []) (λ kind r. r ≡ []) 1 (λ x may. refl) fields.Kind bytes 0x01 144 stop tt refl refl (omega arith) (inl refl) (λ y may. ([], refl)) stops
 
 -- ---- all of it is read
 

@@ -192,7 +192,7 @@ pub third_stop : (device : Device) (number count : ℕ) (text rest behind : List
 third_stop device number count text rest behind (Wrong field) within is counted (same, long, ends) =
     subst (IsWrongAt device number text) (sym same) (
       count,
-      (behind, is ∙ ap (λ (t : List ℕ). big_bytes 4 number ++ t) counted ∙ sym (append_assoc (big_bytes 4 number) (big_bytes 4 count) behind)),
+      (omega (arith, within, short_slot device), (behind, is ∙ ap (λ (t : List ℕ). big_bytes 4 number ++ t) counted ∙ sym (append_assoc (big_bytes 4 number) (big_bytes 4 count) behind))),
       behind_track device number text rest 4 count is (bytes_wrong device rest behind count within counted long ends),
     )
 third_stop device number count text rest behind Cut within is counted short =

@@ -163,20 +163,20 @@ count_stop device room flag bytes zeroed r0 rest NoMemory is first second long s
 -- ---- the records
 
 -- a field of a record begins behind these records and so many of its bytes
-field_behind : (field : TrackField) (within flag count : ℕ) (r0 rest : List ℕ) (recs : List Rec) (front : List ℕ) → IsInRecord field within → length r0 ≡ 8 → length recs < count → within ≤ length rest
+field_behind : (field : TrackField) (within flag count : ℕ) (r0 rest : List ℕ) (recs : List Rec) (front : List ℕ) → IsInRecord field within → length r0 ≡ 8 → count ≤ 65535 → length recs < count → within ≤ length rest
     → front ≡ (flag ∷ []) ++ (r0 ++ (big_bytes 2 count ++ dumped_records recs)) → IsFieldBehind field (front ++ take within rest)
-field_behind fields.Records within flag count r0 rest recs front is_in long more within_rest is = absurd is_in
-field_behind fields.Number within flag count r0 rest recs front is_in long more within_rest is =
-    let ends : EndsAtRecord front = record { flag = flag; r0 = r0; count = count; recs = recs; zero = long; more = more; spelled = is } in
+field_behind fields.Records within flag count r0 rest recs front is_in long few more within_rest is = absurd is_in
+field_behind fields.Number within flag count r0 rest recs front is_in long few more within_rest is =
+    let ends : EndsAtRecord front = record { flag = flag; r0 = r0; count = count; recs = recs; zero = long; few = few; more = more; spelled = is } in
     let none : front ≡ front ++ take within rest = sym (append-nil front) ∙ ap (λ (n : ℕ). front ++ take n rest) (sym is_in) in
     subst EndsAtRecord none ends
-field_behind fields.Key within flag count r0 [] recs front is_in long more within_rest is = absurd (omega (arith, is_in, within_rest))
-field_behind fields.Key within flag count r0 (x ∷ rest) recs front is_in long more within_rest is =
-    (front, x, record { flag = flag; r0 = r0; count = count; recs = recs; zero = long; more = more; spelled = is }, ap (λ (n : ℕ). front ++ take n (x ∷ rest)) is_in)
-field_behind fields.Body within flag count r0 [] recs front is_in long more within_rest is = absurd (omega (arith, is_in, within_rest))
-field_behind fields.Body within flag count r0 (x ∷ []) recs front is_in long more within_rest is = absurd (omega (arith, is_in, within_rest))
-field_behind fields.Body within flag count r0 (x ∷ y ∷ rest) recs front is_in long more within_rest is =
-    (front, x, y, record { flag = flag; r0 = r0; count = count; recs = recs; zero = long; more = more; spelled = is }, ap (λ (n : ℕ). front ++ take n (x ∷ y ∷ rest)) is_in)
+field_behind fields.Key within flag count r0 [] recs front is_in long few more within_rest is = absurd (omega (arith, is_in, within_rest))
+field_behind fields.Key within flag count r0 (x ∷ rest) recs front is_in long few more within_rest is =
+    (front, x, record { flag = flag; r0 = r0; count = count; recs = recs; zero = long; few = few; more = more; spelled = is }, ap (λ (n : ℕ). front ++ take n (x ∷ rest)) is_in)
+field_behind fields.Body within flag count r0 [] recs front is_in long few more within_rest is = absurd (omega (arith, is_in, within_rest))
+field_behind fields.Body within flag count r0 (x ∷ []) recs front is_in long few more within_rest is = absurd (omega (arith, is_in, within_rest))
+field_behind fields.Body within flag count r0 (x ∷ y ∷ rest) recs front is_in long few more within_rest is =
+    (front, x, y, record { flag = flag; r0 = r0; count = count; recs = recs; zero = long; few = few; more = more; spelled = is }, ap (λ (n : ℕ). front ++ take n (x ∷ y ∷ rest)) is_in)
 
 take_behind : (front rest : List ℕ) (n k : ℕ) → n ≡ length front + k → take n (front ++ rest) ≡ front ++ take k rest
 take_behind [] rest n k is = ap (λ (m : ℕ). take m rest) (let e : n ≡ k = omega (arith, is) in e)
@@ -192,6 +192,8 @@ records_stop device room flag count bytes zeroed r0 counted rest (Wrong field at
     let within : ℕ = length (dumped_records bad.recs) + bad.within in
     let eleven : length front ≡ 11 = omega (arith, long, length-append (flag ∷ r0) (big_bytes 2 count)) in
     let place : length front + within ≡ at = omega (arith, eleven, bad.place_is) in
+    let slot = (slot_bounds device).1 in
+    let fits : count ≤ 65535 = omega (arith, few, is, slot) in
     let before : List ℕ = front ++ dumped_records bad.recs in
     let inside : bad.within ≤ length bad.rest =
     omega (arith, ap length bad.spelled, length-append (dumped_records bad.recs) bad.rest, ap length bad.wrong.spelled, length-append bad.wrong.front bad.wrong.rest, bad.wrong.place_is) in
@@ -199,7 +201,7 @@ records_stop device room flag count bytes zeroed r0 counted rest (Wrong field at
     let spelled : before ≡ (flag ∷ []) ++ (r0 ++ (big_bytes 2 count ++ dumped_records bad.recs)) = append_assoc (flag ∷ r0) (big_bytes 2 count) (dumped_records bad.recs) in
     let there : take at bytes ≡ before ++ take bad.within bad.rest =
     ap (take at) whole ∙ take_behind before bad.rest at bad.within (omega (arith, place, length-append front (dumped_records bad.recs))) in (
-      subst (IsFieldBehind field) (sym there) (field_behind field bad.within flag count r0 bad.rest bad.recs before bad.is_in long bad.more inside spelled),
+      subst (IsFieldBehind field) (sym there) (field_behind field bad.within flag count r0 bad.rest bad.recs before bad.is_in long fits bad.more inside spelled),
       subst (λ (p : ℕ). IsFirstWrong (IsTrackBytes device) bytes p (length_of field)) place
           (wrong_lifted (IsTrackBytes device) front (AreRecordsText (room - 8 * count) count) leaves bytes rest within (length_of field) all bad.wrong),
     )

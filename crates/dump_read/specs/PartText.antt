@@ -64,9 +64,18 @@ pub record IsPartText (before : Option (List ℕ)) (text : List ℕ) : Type 0 wh
   pub kind_is : IsKind kind
   pub spelled : text ≡ f1 ++ (big_bytes 4 tracks ++ (kind ∷ []))
 
+-- the extents and the pointer behind them have 35 bytes
+abbrev pub IsField : PartField → Type 0
+IsField fields.Name = Unit {0}
+IsField fields.Format = Unit {0}
+IsField fields.Count = Unit {0}
+IsField (fields.Extents k) = k < 35
+IsField fields.Tracks = Unit {0}
+IsField fields.Kind = Unit {0}
+
 -- why no part is read behind its mark
 abbrev pub IsPartStop : Option (List ℕ) → List ℕ → PartStop → Type 0
-IsPartStop before bytes (Wrong field) = IsFirstWrong (IsPartText before) bytes (place_of field) (length_of field)
+IsPartStop before bytes (Wrong field) = IsField field × IsFirstWrong (IsPartText before) bytes (place_of field) (length_of field)
 IsPartStop before bytes Cut = (length bytes < 145) × GoesOn (IsPartText before) bytes
 
 -- ---- the fields, each by itself

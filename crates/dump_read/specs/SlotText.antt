@@ -31,7 +31,7 @@ place_of fields.Bytes = 8
 abbrev pub HasLength : SlotField → ℕ → List ℕ → ℕ → Type 0
 HasLength fields.Track number text count = count ≡ 4
 HasLength fields.Length number text count = count ≡ 4
-HasLength fields.Bytes number text count = Begins (big_bytes 4 number ++ big_bytes 4 count) text
+HasLength fields.Bytes number text count = (count ≤ 65535) × Begins (big_bytes 4 number ++ big_bytes 4 count) text
 
 -- the number of a refusal: 8 the order of tracks, 7 the rest of the slot
 abbrev pub why_of : SlotField → ℕ

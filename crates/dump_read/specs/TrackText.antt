@@ -1,5 +1,5 @@
 -- A track as it stands behind its mark in a dump, and what isn't one: the first field with which none goes on, or one that is cut.
-use Rattle.std.specs.Prelude.{◌≡◌, ℕ, ◌<◌, List, [], ◌∷◌, ◌++◌, length, take}
+use Rattle.std.specs.Prelude.{◌≡◌, ℕ, ◌<◌, ◌≤◌, List, [], ◌∷◌, ◌++◌, length, take}
 use Rattle.byteorder.specs.Endian.{big_bytes}
 use Rattle.ckd_image.specs.declared.device.Device.{Device}
 use Rattle.ckd_image.specs.declared.track.Rec.{Rec}
@@ -31,6 +31,7 @@ pub record EndsAtRecord (front : List ℕ) : Type 0 where
   pub count : ℕ
   pub recs : List Rec
   pub zero : length r0 ≡ 8
+  pub few : count ≤ 65535
   pub more : length recs < count
   pub spelled : front ≡ (flag ∷ []) ++ (r0 ++ (big_bytes 2 count ++ dumped_records recs))
 
