@@ -4,7 +4,7 @@ use crate::Finished;
 use adr_top::UnitPaths;
 use ckd_image::Word;
 use dasd_pool::FilePool;
-use run_words::Name;
+use run_words::NAMES;
 use std::fs::File;
 use std::io;
 
@@ -14,18 +14,6 @@ usage: adrdssu --unit SERIAL=IMAGE .. --journal JOURNAL --sysin TEXT [--held HOL
        adrdssu --unit SERIAL=IMAGE .. --journal JOURNAL --format-journal ROOM
 The words stand in any order, as `--name value` or `--name=value`. From 1 to 64 units are named, each by its volume serial
 in capitals; ROOM is a number from 3 to 8191.";
-
-/// The names of all options.
-const NAMES: [Name; 8] = [
-    Name::Unit,
-    Name::Journal,
-    Name::Sysin,
-    Name::Held,
-    Name::Out,
-    Name::In,
-    Name::FormatJournal,
-    Name::Make,
-];
 
 /// Says a line.
 pub fn say(rt: &HostRuntime, line: &str) {

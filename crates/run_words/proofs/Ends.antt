@@ -12,10 +12,6 @@ pub if_none : {X : Type 0} (r : Option X) (Q : Type 0) → Q → IfNone r Q
 if_none None Q q = q
 if_none (Some x) Q q = tt
 
-pub if_none_more : {X : Type 0} (r : Option X) (P Q : Type 0) → IfNone r P → (P → Q) → IfNone r Q
-if_none_more None P Q p h = h p
-if_none_more (Some x) P Q p h = tt
-
 pub not_false : false ≡ true → ⊥
 not_false e = cc
 
@@ -40,10 +36,6 @@ is_none (x ∷ xs) e = absurd (no (length xs) e)
   where
     no : (n : ℕ) → true ≡ (suc n == 0) → ⊥
     no n e = grind (arith, nat_tests)
-
-pub is_some : {X : Type 0} (xs : List X) → false ≡ (length xs == 0) → xs ≢ []
-is_some [] e none = not_false e
-is_some {X} (x ∷ xs) e none = let q : x ∷ xs ≡ [] = none in cc
 
 pub not_serial : (text : List ℕ) (fault : LabelFault) → IsSerialFault text fault → ¬ IsSerialName text
 not_serial text (BadLabel why) h = h.1

@@ -1,9 +1,14 @@
 pub mod Signs
 pub mod Lists
-pub mod Options
+pub mod Hyphens
+pub mod Steps
+pub mod Walks
+pub mod Found
+pub mod Taken
+pub mod Same
+pub mod Giving
 pub mod OneRun
 pub mod Ends
 pub mod Chosen
-pub mod Fronts
 pub mod Passed
 pub mod Refused

@@ -15,7 +15,8 @@ use Rattle.run_words.specs.declared.run.Run.{Run}
 use Rattle.run_words.specs.declared.run.Run.TheVariants.{Jobs, Format, Make}
 use Rattle.run_words.proofs.Signs.{same_name, same_rest}
 use Rattle.run_words.proofs.Lists.{one_zip}
-use Rattle.run_words.proofs.Options.{one_spelling}
+use Rattle.run_words.proofs.Taken.{same_spelled}
+use Rattle.run_words.proofs.Same.{same_run}
 
 pub parted_name : (value a b x y : List ℕ) → IsParted value a x → IsParted value b y → a ≡ b
 parted_name value a b x y p q = same_name a b x y p.first q.first (sym p.parts ∙ q.parts)
@@ -105,6 +106,4 @@ one_run options (Make m) (Format u j r) p q = absurd (not_one _ _ p.number_is.on
 one_run options (Make m) (Make m') p q = ap (λ (n : ℕ). Make n) (same_number 1 200 _ m m' p.number_is q.number_is)
 
 pub words_have_one_run : HaveOneRun
-words_have_one_run words options others run other p q p' q' =
-    let same = one_spelling words options others p p' in
-    one_run others run other (subst (λ (t : List Given). IsRun t run) same q) q'
+words_have_one_run words options others run other p q p' q' = one_run others run other (same_run options others (same_spelled words options others p p') run q) q'

@@ -1,5 +1,5 @@
 -- Options that ask for no run.
-use Rattle.std.proofs.Common.{◌≡◌, ◌≢◌, ℕ, suc, ◌≤◌, List, [], ◌∷◌, length, Option, arith, refl, subst, Result, Ok, Err}
+use Rattle.std.proofs.Common.{◌≡◌, ◌≢◌, ℕ, suc, ◌≤◌, List, [], ◌∷◌, length, Option, arith, refl, sym, ◌∙◌, Result, Ok, Err}
 use Rattle.std.proofs.lemmas.List.Elements.{All-nil, All-cons}
 use Rattle.dd_names.specs.declared.dd.DdName.{DdName}
 use Rattle.vol_label.specs.declared.serial.Serial.{Serial}
@@ -9,11 +9,13 @@ use Rattle.run_words.specs.declared.name.Name.TheVariants as names
 use Rattle.run_words.specs.declared.given.Given.{Given}
 use Rattle.run_words.specs.declared.run.Run.{Run}
 use Rattle.run_words.specs.declared.run.Run.TheVariants.{Jobs, Format, Make}
-use Rattle.std.specs.Prelude.{IfErr}
-use Rattle.run_words.specs.Parts.{Judged}
+use Rattle.std.specs.Prelude.{IfOk, IfErr}
+use Rattle.std.specs.Result.{IsErrAnd}
+use Rattle.run_words.specs.Parts.{Judged, Gives}
 use Rattle.run_words.specs.declared.fault.WordsFault.{WordsFault}
 use Rattle.run_words.specs.declared.fault.WordsFault.TheVariants as faults
-use Rattle.run_words.proofs.Options.{one_spelling}
+use Rattle.run_words.proofs.Taken.{same_spelled}
+use Rattle.run_words.proofs.Same.{same_run}
 use Rattle.run_words.proofs.OneRun.{not_one, no_jobs_format, no_jobs_make, no_format_make}
 
 pub no_jobs : (options : List Given) → values_of names.FormatJournal options ≡ [] → values_of names.Make options ≡ []
@@ -48,7 +50,18 @@ pub some_options : (name : Name) (options : List Given) → values_of name optio
 some_options name [] some = absurd (some refl)
 some_options name (given ∷ options) some = omega arith
 
-pub refused_by : (words : List (List ℕ)) (options : List Given) (r : Result Run WordsFault) → Spells words options → Judged (IsRun options) r
+pub read_by : (words : List (List ℕ)) (options : List Given) (r : Result Run WordsFault) → Gives words options → Judged (IsRun options) r
+    → IfOk r (λ run. (others : List Given) × Spells words others × IsRun others run)
+read_by words options (Ok run) given is = (given.0, given.1, same_run options given.0 (λ name. sym (given.2 name)) run is)
+read_by words options (Err fault) given is = tt
+
+pub refused_by : (words : List (List ℕ)) (options : List Given) (r : Result Run WordsFault) → Gives words options → Judged (IsRun options) r
     → IfErr r (λ fault. fault ≡ faults.Words → (others : List Given) (run : Run) → Spells words others → ¬ IsRun others run)
-refused_by words options (Ok run) spells h = tt
-refused_by words options (Err fault) spells h = λ blamed others run again is. h blamed run (subst (λ (t : List Given). IsRun t run) (one_spelling words others options again spells) is)
+refused_by words options (Ok run) given none = tt
+refused_by words options (Err fault) given none =
+    λ blamed others run again is. none blamed run (same_run others options (λ name. same_spelled words others given.0 again given.1 name ∙ given.2 name) run is)
+
+pub refused_on : (words : List (List ℕ)) (r : Result Run WordsFault) (fault : WordsFault) → IsErrAnd r (λ e. e ≡ fault) → (fault ≡ faults.Words → (options : List Given) → ¬ Gives words options)
+    → IfErr r (λ fault. fault ≡ faults.Words → (options : List Given) (run : Run) → Spells words options → ¬ IsRun options run)
+refused_on words (Ok run) fault is none = tt
+refused_on words (Err e) fault is none = λ blamed options run spells asked. none (sym is ∙ blamed) options (options, spells, λ name. refl)

@@ -19,11 +19,11 @@ abbrev pub has_sign : List ℕ → Bool
 has_sign [] = false
 has_sign (c ∷ w) = if nat_eq c 61 then true else has_sign w
 
-abbrev pub before : List ℕ → List ℕ
+abbrev before : List ℕ → List ℕ
 before [] = []
 before (c ∷ w) = if nat_eq c 61 then [] else c ∷ before w
 
-abbrev pub behind : List ℕ → List ℕ
+abbrev behind : List ℕ → List ℕ
 behind [] = []
 behind (c ∷ w) = if nat_eq c 61 then w else behind w
 
@@ -37,11 +37,11 @@ pub no_sign : (w : List ℕ) → All (λ c. c ≢ 61) w → has_sign w ≡ false
 no_sign [] h = refl
 no_sign (c ∷ w) h = rw (other c (h 0 0 (omega arith))) (no_sign w (rest_of c w h))
 
-pub before_sign : (a x : List ℕ) → All (λ c. c ≢ 61) a → before (a ++ 61 ∷ x) ≡ a
+before_sign : (a x : List ℕ) → All (λ c. c ≢ 61) a → before (a ++ 61 ∷ x) ≡ a
 before_sign [] x h = refl
 before_sign (c ∷ a) x h = rw (other c (h 0 0 (omega arith))) (ap (λ t. c ∷ t) (before_sign a x (rest_of c a h)))
 
-pub behind_sign : (a x : List ℕ) → All (λ c. c ≢ 61) a → behind (a ++ 61 ∷ x) ≡ x
+behind_sign : (a x : List ℕ) → All (λ c. c ≢ 61) a → behind (a ++ 61 ∷ x) ≡ x
 behind_sign [] x h = refl
 behind_sign (c ∷ a) x h = rw (other c (h 0 0 (omega arith))) (behind_sign a x (rest_of c a h))
 

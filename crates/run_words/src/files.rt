@@ -1,6 +1,6 @@
 //! Options whose value is a name and a path: units and dumps.
 
-ghost use Rattle.std.specs.Prelude.{◌≡◌, ◌≢◌, ◌↔◌, ℕ, List, All, AllPairs, IsTrue, IfSome, IfNone};
+ghost use Rattle.std.specs.Prelude.{◌≡◌, ◌≢◌, ◌↔◌, ℕ, List, ◌∷◌, ◌++◌, All, AllPairs, IsTrue, IfSome, IfNone};
 ghost use Rattle.std.specs.List.{AllZip};
 ghost use Rattle.dd_names.specs.declared.dd.DdName.{DdName};
 ghost use Rattle.vol_label.specs.declared.serial.Serial.{Serial};
@@ -9,7 +9,7 @@ ghost use Rattle.run_words.specs.Parts.{Judged};
 ghost use Rattle.run_words.specs.declared.name.Name.TheVariants as names;
 
 use crate::fault::WordsFault;
-use crate::given::{Given, split_at_sign};
+use crate::given::Given;
 use crate::name::Name;
 use crate::values::values_of;
 use ckd_image::{Listed, Word, text};
@@ -26,6 +26,14 @@ pub type DdPaths = Listed<(DdName, Word)>;
 const MOST_UNITS: usize = 64;
 
 const MOST_DDS: usize = 16;
+
+/// The parts of a value around its first equals sign.
+fn split_at_sign(value: &str) -> Option<(&str, &str)>
+    ensures found { IfSome result (λ parts. (value.now ≡ parts.0.now ++ 61 ∷ parts.1.now) × All (λ c. c ≢ 61) parts.0.now) }
+    ensures none { IfNone result (All (λ c. c ≢ 61) value.now) }
+{
+    value.split_once('=')
+}
 
 /// The name and the path of a value `NAME=PATH`.
 fn parts_of(value: &str) -> Option<(&str, &str)>

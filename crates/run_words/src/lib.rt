@@ -15,5 +15,5 @@ pub use fault::WordsFault;
 pub use files::{DdPaths, UnitPaths};
 pub use given::Given;
 pub use laws::one_run;
-pub use name::Name;
+pub use name::{NAMES, Name};
 pub use run::{Run, read_words};
