@@ -23,14 +23,14 @@ use Rattle.dump_read.proofs.StandingAt.{current_of, under_same}
 
 -- ---- what a mark says of the piece
 
-abbrev mark_of : Piece → ℕ
+abbrev pub mark_of : Piece → ℕ
 mark_of (Part f1 tracks kind) = 0x50
 mark_of (Track text) = 0x01
 mark_of PartEnd = 0x00
 mark_of Dropped = 0xFF
 mark_of (Slot number bytes) = 0x54
 
-mark_is : (piece : Piece) (byte : ℕ) → IsMarkOf piece byte → mark_of piece ≡ byte
+pub mark_is : (piece : Piece) (byte : ℕ) → IsMarkOf piece byte → mark_of piece ≡ byte
 mark_is (Part f1 tracks kind) byte (rest, e) = let same : 0x50 ≡ byte = cc in same
 mark_is (Track text) byte (rest, e) = let same : 0x01 ≡ byte = cc in same
 mark_is PartEnd byte (rest, e) = let same : 0x00 ≡ byte = cc in same
@@ -51,14 +51,14 @@ text_of front next PartEnd e adds = absurd (omega (arith, e))
 text_of front next Dropped e adds = absurd (omega (arith, e))
 text_of front next (Slot number bytes) e adds = absurd (omega (arith, e))
 
-end_of : (front next : Front) (piece : Piece) → mark_of piece ≡ 0x00 → Adds front piece next → Adds front PartEnd next
+pub end_of : (front next : Front) (piece : Piece) → mark_of piece ≡ 0x00 → Adds front piece next → Adds front PartEnd next
 end_of front next (Part f1 tracks kind) e adds = absurd (omega (arith, e))
 end_of front next (Track text) e adds = absurd (omega (arith, e))
 end_of front next PartEnd e adds = adds
 end_of front next Dropped e adds = absurd (omega (arith, e))
 end_of front next (Slot number bytes) e adds = absurd (omega (arith, e))
 
-dropped_of : (front next : Front) (piece : Piece) → mark_of piece ≡ 0xFF → Adds front piece next → Adds front Dropped next
+pub dropped_of : (front next : Front) (piece : Piece) → mark_of piece ≡ 0xFF → Adds front piece next → Adds front Dropped next
 dropped_of front next (Part f1 tracks kind) e adds = absurd (omega (arith, e))
 dropped_of front next (Track text) e adds = absurd (omega (arith, e))
 dropped_of front next PartEnd e adds = absurd (omega (arith, e))
@@ -80,7 +80,7 @@ no_piece PartEnd e = absurd (omega (arith, e))
 no_piece Dropped e = absurd (omega (arith, e))
 no_piece (Slot number bytes) e = absurd (omega (arith, e))
 
-begin_of : (head : DumpHead) (front : Front) (byte : ℕ) → ¬ (byte ≡ 0x5A) → MayStand head front byte → MayBegin head front byte
+pub begin_of : (head : DumpHead) (front : Front) (byte : ℕ) → ¬ (byte ≡ 0x5A) → MayStand head front byte → MayBegin head front byte
 begin_of head front byte not (inl may) = may
 begin_of head front byte not (inr (is, closes)) = absurd (not is)
 
@@ -112,7 +112,7 @@ lacks_track head front part text going =
       ],
     )
 
-track_must : (head : DumpHead) (front : Front) → MayStand head front 0x01 → (part : DumpPart) × (front.current ≡ Some part) × LacksTrack front part
+pub track_must : (head : DumpHead) (front : Front) → MayStand head front 0x01 → (part : DumpPart) × (front.current ≡ Some part) × LacksTrack front part
 track_must head front may =
     let b = begin_of head front 0x01 (λ e. absurd (omega (arith, e))) may in
     let (text, adds) = text_of front b.next b.piece (mark_is b.piece 0x01 b.mark) b.adds in
@@ -222,7 +222,7 @@ slot_stands head front standing going stands full = (
 abbrev pub HasPartRoom : DumpHead → Standing → Type 0
 HasPartRoom head standing = (head.full ≡ false) × (standing.under_way ≡ None) × (standing.begun < 4294967295) × ((name : List ℕ) × IsNextName standing.name name)
 
-none_of : (current : Option DumpPart) (under : Option UnderWay) → IsUnderWay current under → under ≡ None → current ≡ None
+pub none_of : (current : Option DumpPart) (under : Option UnderWay) → IsUnderWay current under → under ≡ None → current ≡ None
 none_of None under is none = refl
 none_of (Some part) under is none = absurd (none-some (record { due = part.tracks; read = length part.texts }) (sym none ∙ is))
 
@@ -242,7 +242,7 @@ part_may head front standing going stands (not, none, few, (name, next)) =
       mark = (_, refl);
     })
 
-part_must : (head : DumpHead) (front : Front) (standing : Standing) → StandsAt head front standing → MayStand head front 0x50 → HasPartRoom head standing
+pub part_must : (head : DumpHead) (front : Front) (standing : Standing) → StandsAt head front standing → MayStand head front 0x50 → HasPartRoom head standing
 part_must head front standing stands may =
     let b = begin_of head front 0x50 (λ e. absurd (omega (arith, e))) may in
     let (f1, tracks, kind, adds) = part_of front b.next b.piece (mark_is b.piece 0x50 b.mark) b.adds in

@@ -1,8 +1,7 @@
 -- The pieces of a dump fit their fields.
-use Rattle.std.proofs.Common.{◌≡◌, ◌≢◌, ℕ, zero, suc, ◌+◌, ◌-◌, ◌^◌, ◌≤◌, ◌<◌, Bool, true, false, if◌then◌else◌, List, [], ◌∷◌, ◌++◌, length, map, All, Option, Some, None, option_to_list, refl, sym, ap, subst, ◌∙◌, arith, length-append}
-use Rattle.std.specs.Prelude.{slice_index_or}
+use Rattle.std.proofs.Common.{ℕ, ◌+◌, ◌≤◌, Bool, true, false, if◌then◌else◌, List, [], ◌∷◌, ◌++◌, length, map, All, Option, Some, None, option_to_list, sym, subst, arith, length-append}
 use Rattle.std.specs.List.{flat_map, enumerate_from, AllByRecursion}
-use Rattle.std.proofs.lemmas.List.Elements.{recursion_from_All, All-from_recursion, All-nil, All-cons, All-append, All-map, All-weaker, All-push}
+use Rattle.std.proofs.lemmas.List.Elements.{recursion_from_All, All-nil, All-cons, All-append, All-map, All-weaker, All-push}
 use Rattle.ckd_image.specs.declared.device.Device.{Device}
 use Rattle.ckd_image.specs.declared.device.Device.TheVariants.{D3390, D3380}
 use Rattle.ckd_image.specs.declared.track.TrackAt.{TrackAt}
@@ -11,7 +10,6 @@ use Rattle.ckd_image.specs.declared.track.Track.{Track as Text}
 use Rattle.ckd_image.specs.Device.{slot_of}
 use Rattle.ckd_image.specs.Track.{record_text, records_text, home_text, zero_text, end_mark}
 use Rattle.dump_fmt.specs.declared.piece.DumpHead.{DumpHead}
-use Rattle.dump_fmt.specs.declared.piece.Piece.{Piece}
 use Rattle.dump_fmt.specs.declared.piece.Piece.TheVariants.{Part, Track, PartEnd, Dropped, Slot}
 use Rattle.dump_fmt.specs.Parts.{DumpPart, StandsOn, IsPart, is_whole, begun_pieces, part_pieces}
 use Rattle.dump_fmt.specs.Front.{Front, IsFront, IsOfKind, IsCutSlot, all_parts, front_pieces, current_pieces, slot_pieces}

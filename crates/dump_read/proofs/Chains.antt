@@ -121,3 +121,27 @@ put_filled new piece n m b is front behind =
     let len : n ≡ length piece = omega arith in
     sym (take-append-drop n new) ∙ ap (λ (t : List ℕ). t ++ drop n new) front
     ∙ ap (λ (t : List ℕ). piece ++ t) (behind ∙ zeros_left m n b ∙ ap (λ (k : ℕ). replicate (m - k) b) len)
+
+-- ---- more behind
+
+pub goes_before : (Is : List ℕ → Type 0) (bytes more : List ℕ) → GoesOn Is (bytes ++ more) → GoesOn Is bytes
+goes_before Is bytes more (text, is, (rest, e)) = (text, is, (more ++ rest, e ∙ append_assoc bytes more rest))
+
+take_more : (len : ℕ) (rest more : List ℕ) → Begins (take len rest) (take len (rest ++ more))
+take_more zero rest more = ([], refl)
+take_more (suc len) [] more = (take (suc len) more, refl)
+take_more (suc len) (x ∷ rest) more = let inner = take_more len rest more in (inner.0, ap (λ (t : List ℕ). x ∷ t) inner.1)
+
+-- what is wrong stays so, whatever stands behind it
+pub wrong_with : (Is : List ℕ → Type 0) (bytes more : List ℕ) (place len : ℕ) → IsFirstWrong Is bytes place len → IsFirstWrong Is (bytes ++ more) place len
+wrong_with Is bytes more place len is =
+    let there = take_more len is.rest more in
+    record {
+      front = is.front;
+      rest = is.rest ++ more;
+      spelled = ap (λ (t : List ℕ). t ++ more) is.spelled ∙ append_assoc is.front is.rest more;
+      place_is = is.place_is;
+      begun = is.begun;
+      wrong = λ goes. is.wrong (goes_before Is (is.front ++ take len is.rest) there.0
+          (subst (GoesOn Is) (ap (λ (t : List ℕ). is.front ++ t) there.1 ∙ sym (append_assoc is.front (take len is.rest) there.0)) goes));
+    }

@@ -16,9 +16,9 @@ use Rattle.dump_read.specs.Fields.{GoesOn, IsFirstWrong}
 use Rattle.dump_read.specs.Header.{BeginsFixed}
 use Rattle.dump_read.specs.Reading.{HasRead, HasCome, HeldSuch}
 use Rattle.dump_read.specs.Ending.{both_counts, right_digest, count_fault, IsEnd, IsCountStop, IsFixedStop, IsEndFault, IsBadCount, IsMoreBehind, IsShortEnd, HasDigest}
-use Rattle.dump_read.proofs.Chains.{Then, wrong_here, wrong_behind, cut_behind, field_goes, wrong_as, goes_as}
+use Rattle.dump_read.proofs.Chains.{Then, wrong_here, wrong_behind, cut_behind, field_goes, wrong_as, goes_as, wrong_with}
 use Rattle.dump_read.proofs.Words.{whole_front}
-use Rattle.dump_read.proofs.Fed.{wrong_with_more, takes_more, read_more}
+use Rattle.dump_read.proofs.Fed.{takes_more, read_more}
 
 -- ---- the counts
 
@@ -76,12 +76,12 @@ counts_read parts tracks bytes rest more first second short =
 
 pub first_stop : (parts tracks : ℕ) (bytes : List ℕ) (stop : CountStop) → IsFixedStop 0 (big_bytes 4 parts) bytes stop → IsCountStop parts tracks bytes stop
 first_stop parts tracks bytes (Wrong place) (is, none) =
-    ((let e : place + 4 < 9 = omega arith in e), subst (λ (p : ℕ). IsFirstWrong (IsEnd parts tracks) bytes p 4) (sym is) (first_wrong parts tracks bytes none))
+    (inl is, subst (λ (p : ℕ). IsFirstWrong (IsEnd parts tracks) bytes p 4) (sym is) (first_wrong parts tracks bytes none))
 first_stop parts tracks bytes Cut (short, front) = ((let e : length bytes < 8 = omega arith in e), first_cut parts tracks bytes front)
 
 pub second_stop : (parts tracks : ℕ) (bytes rest : List ℕ) (stop : CountStop) → bytes ≡ big_bytes 4 parts ++ rest → IsFixedStop 4 (big_bytes 4 tracks) rest stop → IsCountStop parts tracks bytes stop
 second_stop parts tracks bytes rest (Wrong place) begins (is, none) =
-    ((let e : place + 4 < 9 = omega arith in e), subst (λ (p : ℕ). IsFirstWrong (IsEnd parts tracks) bytes p 4) (sym is) (second_wrong parts tracks bytes rest begins none))
+    (inr is, subst (λ (p : ℕ). IsFirstWrong (IsEnd parts tracks) bytes p 4) (sym is) (second_wrong parts tracks bytes rest begins none))
 second_stop parts tracks bytes rest Cut begins (short, front) =
     let long : length bytes ≡ 4 + length rest = ap length begins ∙ length-append (big_bytes 4 parts) rest in
     ((let e : length bytes < 8 = omega arith in e), second_cut parts tracks bytes rest begins front)
@@ -116,19 +116,21 @@ come_more old new before after bytes buf count is same within took offset = reco
       omega arith;
 }
 
-nothing_left : (left : List ℕ) (next : Option (List ℕ)) → next ≡ Some left → EndsOnly next → left ≡ []
+pub nothing_left : (left : List ℕ) (next : Option (List ℕ)) → next ≡ Some left → EndsOnly next → left ≡ []
 nothing_left left next is ends = subst EndsOnly is ends
 
 -- a count is refused
-bad_count : (parts tracks : ℕ) (bytes piece : List ℕ) (place start : ℕ) (whole left : List ℕ) → whole ≡ (bytes ++ piece) ++ left → (length piece < 8 → left ≡ []) → place + 4 < 9 → start ≡ min (length bytes) largest_offset
+bad_count : (parts tracks : ℕ) (bytes piece : List ℕ) (place start : ℕ) (whole left : List ℕ) → whole ≡ (bytes ++ piece) ++ left
+    → (place ≡ 0) ⊎ (place ≡ 4) → start ≡ min (length bytes) largest_offset
     → IsFirstWrong (IsEnd parts tracks) piece place 4 → IsBadCount parts tracks bytes (min (start + place) largest_offset) 10 whole
-bad_count parts tracks bytes piece place start whole left is ends within at wrong = record {
+bad_count parts tracks bytes piece place start whole left is there at wrong = record {
   rest = piece ++ left;
   place = place;
+  there = there;
   spelled = is ∙ append_assoc bytes piece left;
   at = omega arith;
   number = refl;
-  wrong = wrong_with_more (IsEnd parts tracks) piece left place 4 (λ short. ends (omega arith)) wrong;
+  wrong = wrong_with (IsEnd parts tracks) piece left place 4 wrong;
 }
 
 short_end : (parts tracks : ℕ) (bytes piece whole left : List ℕ) (end : ℕ) → whole ≡ (bytes ++ piece) ++ left → left ≡ [] → length piece < 40 → end ≡ min (length (bytes ++ piece)) largest_offset
@@ -145,10 +147,10 @@ short_end parts tracks bytes piece whole left end is none short at goes =
 
 pub count_refused : (tape : TapeSeen) (feed : Feed) (parts tracks : ℕ) (bytes piece : List ℕ) (start : ℕ) (stop : CountStop) → HasRead tape feed (bytes ++ piece) → start ≡ min (length bytes) largest_offset
     → (length piece < 8 → EndsOnly (coming feed.window tape.left)) → IsCountStop parts tracks piece stop → IsEndFault parts tracks bytes tape.held (count_fault start feed.offset stop)
-count_refused tape feed parts tracks bytes piece start (Wrong place) is at ends (within, wrong) =
+count_refused tape feed parts tracks bytes piece start (Wrong place) is at ends (there, wrong) =
     told tape.held (coming feed.window tape.left) (bytes ++ piece)
     (λ whole. IsBadCount parts tracks bytes (min (start + place) largest_offset) 10 whole ⊎ IsMoreBehind parts tracks bytes (min (start + place) largest_offset) 10 whole) is.taken
-    (λ whole left spelled next. inl (bad_count parts tracks bytes piece place start whole left spelled (λ short. nothing_left left (coming feed.window tape.left) next (ends short)) within at wrong))
+    (λ whole left spelled next. inl (bad_count parts tracks bytes piece place start whole left spelled there at wrong))
 count_refused tape feed parts tracks bytes piece start Cut is at ends (short, goes) =
     told tape.held (coming feed.window tape.left) (bytes ++ piece) (IsShortEnd parts tracks bytes feed.offset) is.taken
     (λ whole left spelled next.

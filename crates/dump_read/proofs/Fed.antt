@@ -1,24 +1,16 @@
 -- What was read from a reel, one part after the other.
-use Rattle.std.proofs.Common.{◌≡◌, inl, inr, ℕ, ◌+◌, ◌≤◌, ◌<◌, min, List, [], ◌++◌, length, take, drop, Option, Some, None, refl, sym, ap, subst, ◌∙◌, arith, length-append, append_assoc}
-use Rattle.std.proofs.lemmas.Bool.{cases_lt}
+use Rattle.std.proofs.Common.{◌≡◌, ℕ, ◌+◌, ◌≤◌, min, List, [], ◌++◌, length, take, drop, Option, Some, None, refl, sym, ap, subst, ◌∙◌, arith, length-append, append_assoc}
 use Rattle.byteorder.specs.Endian.{big_bytes}
-use Rattle.std.proofs.lemmas.List.{take-append-le, take-append-drop, append-nil, length-take}
+use Rattle.std.proofs.lemmas.List.{take-append-drop, append-nil, length-take}
 use Rattle.sha2.specs.Hashers.{Holds256}
 use Rattle.dasd_pool.specs.Stream.{Takes, EndsOnly}
 use Rattle.ckd_image.specs.Bytes.{Begins}
 use Rattle.dump_fmt.specs.declared.piece.DumpHead.{DumpHead}
 use Rattle.dump_fmt.specs.Head.{IsDumpHead, header_text, day_text}
-use Rattle.dump_fmt.specs.declared.fault.DumpFault.{DumpFault}
 use Rattle.dump_read.specs.declared.feed.Feed.{Feed}
-use Rattle.dump_read.specs.declared.header.HeaderField.{HeaderField}
-use Rattle.dump_read.specs.declared.header.HeaderField.TheVariants as fields
-use Rattle.dump_read.specs.declared.header.HeaderStop.{HeaderStop}
-use Rattle.dump_read.specs.declared.header.HeaderStop.TheVariants.{Wrong, Cut}
 use Rattle.dump_read.specs.Tape.{TapeSeen}
 use Rattle.dump_read.specs.Feed.{coming, largest_offset}
-use Rattle.dump_read.specs.Fields.{GoesOn, IsFirstWrong}
-use Rattle.dump_read.specs.Header.{offset_of, length_of, IsHeader, IsHeaderStop}
-use Rattle.dump_read.specs.Reading.{HasRead, HeldSuch, IsHeaderFault, header_fault}
+use Rattle.dump_read.specs.Reading.{HasRead, HeldSuch}
 use Rattle.dump_read.proofs.Words.{whole_front}
 
 takes_none : (held left : Option (List ℕ)) → held ≡ left → Takes held (coming [] left) []
@@ -53,68 +45,6 @@ read_more old new before after bytes piece is same took offset holds = record {
 
 -- ---- what was read of the header
 
-same_take : (rest more : List ℕ) (len : ℕ) → (length rest < len → more ≡ []) → take len (rest ++ more) ≡ take len rest
-same_take rest more len ends = elim (cases_lt (length rest) len) [
-  | inl short ↦ ap (λ (t : List ℕ). take len (rest ++ t)) (ends short) ∙ ap (take len) (append-nil rest)
-  | inr long ↦ take-append-le len rest more long
-]
-
--- a field that is wrong within some bytes is so with more behind them
-pub wrong_with_more : (Is : List ℕ → Type 0) (bytes more : List ℕ) (place len : ℕ) → (length bytes < place + len → more ≡ []) → IsFirstWrong Is bytes place len → IsFirstWrong Is (bytes ++ more) place len
-wrong_with_more Is bytes more place len ends is =
-    let long : length bytes ≡ place + length is.rest = ap length is.spelled ∙ length-append is.front is.rest ∙ ap (λ (n : ℕ). n + length is.rest) is.place_is in
-    record {
-      front = is.front;
-      rest = is.rest ++ more;
-      spelled = ap (λ (t : List ℕ). t ++ more) is.spelled ∙ append_assoc is.front is.rest more;
-      place_is = is.place_is;
-      begun = is.begun;
-      wrong = subst (λ (t : List ℕ). ¬ GoesOn Is (is.front ++ t)) (sym (same_take is.rest more len (λ short. ends (omega arith)))) is.wrong;
-    }
-
-fields_within : (field : HeaderField) → offset_of field + length_of field ≤ 32
-fields_within fields.Magic = omega arith
-fields_within fields.Kind = omega arith
-fields_within fields.Device = omega arith
-fields_within fields.Serial = omega arith
-fields_within fields.Tracks = omega arith
-fields_within fields.Vtoc = omega arith
-fields_within fields.Zeros = omega arith
-
--- what is left is nothing, where fewer than 32 bytes came
-nothing_left : (whole left bytes : List ℕ) (next : Option (List ℕ)) → next ≡ Some left → (length bytes < 32 → EndsOnly next) → length bytes < 32 → left ≡ []
-nothing_left whole left bytes next is ends short = subst EndsOnly is (ends short)
-
-stop_so : (whole : List ℕ) (bytes left : List ℕ) (stop : HeaderStop) → whole ≡ bytes ++ left → (length bytes < 32 → left ≡ []) → IsHeaderStop bytes stop
-    → IsHeaderFault (Some whole) (header_fault (length bytes) stop)
-stop_so whole bytes left (Wrong field) is ends wrong = record {
-  field = field;
-  at = refl;
-  number = refl;
-  wrong = subst (λ (t : List ℕ). IsFirstWrong IsHeader t (offset_of field) (length_of field)) (sym is)
-      (wrong_with_more IsHeader bytes left (offset_of field) (length_of field) (λ short. ends (let h = fields_within field in omega arith)) wrong);
-}
-stop_so whole bytes left Cut is ends (short, goes) =
-    let all : whole ≡ bytes = is ∙ ap (λ (t : List ℕ). bytes ++ t) (ends short) ∙ append-nil bytes in
-    record {
-      all = ap length (sym all);
-      short = let h = ap length all in omega arith;
-      goes = subst (GoesOn IsHeader) (sym all) goes;
-    }
-
-untold : (count : ℕ) (stop : HeaderStop) → IsHeaderFault None (header_fault count stop)
-untold count (Wrong field) = tt
-untold count Cut = tt
-
-refused_by : (held next : Option (List ℕ)) (bytes : List ℕ) (stop : HeaderStop) → Takes held next bytes → (length bytes < 32 → EndsOnly next) → IsHeaderStop bytes stop
-    → IsHeaderFault held (header_fault (length bytes) stop)
-refused_by None next bytes stop took ends is = untold (length bytes) stop
-refused_by (Some whole) next bytes stop took ends is = stop_so whole bytes took.0 stop took.2 (λ short. nothing_left whole took.0 bytes next took.1 ends short) is
-
-pub header_refused : (tape : TapeSeen) (feed : Feed) (bytes : List ℕ) (stop : HeaderStop) → HasRead tape feed bytes → (length bytes < 32 → EndsOnly (coming feed.window tape.left)) → IsHeaderStop bytes stop
-    → IsHeaderFault tape.held (header_fault (length bytes) stop)
-header_refused tape feed bytes stop is ends stops = refused_by tape.held (coming feed.window tape.left) bytes stop is.taken ends stops
-
 pub long_header : (head : DumpHead) → IsDumpHead head → length (header_text head) ≡ 32
 long_header head sound =
     let a = length-append head.serial.text (big_bytes 4 head.tracks) in
@@ -139,13 +69,6 @@ first_fetched old new fresh after buf count same window none empty within took o
 pub whole_header : (tape : TapeSeen) (feed : Feed) (head : DumpHead) (bytes : List ℕ) → HasRead tape feed bytes → length bytes ≤ 32 → IsDumpHead head → Begins (header_text head) bytes
     → HasRead tape feed (header_text head)
 whole_header tape feed head bytes is short sound begins = subst (HasRead tape feed) (header_is head bytes sound short begins) is
-
-pub no_header : (tape : TapeSeen) (feed : Feed) (buf : List ℕ) (count : ℕ) (stop : HeaderStop) (fault : DumpFault) → HasRead tape feed (take count buf) → length buf ≡ 32 → count ≤ length buf
-    → (count < length buf → EndsOnly (coming feed.window tape.left)) → IsHeaderStop (take count buf) stop → fault ≡ header_fault count stop → IsHeaderFault tape.held fault
-no_header tape feed buf count stop fault is full within ends stops same =
-    let len : length (take count buf) ≡ count = length-take count buf ∙ (let e : min count (length buf) ≡ count = omega arith in e) in
-    subst (IsHeaderFault tape.held) (sym (same ∙ ap (λ (n : ℕ). header_fault n stop) (sym len)))
-    (header_refused tape feed (take count buf) stop is (λ short. ends (omega arith)) stops)
 
 -- ---- what is read ahead
 

@@ -38,14 +38,14 @@ short_filled device bytes short =
     short_slot D3390 = omega arith
     short_slot D3380 = omega arith
 
-one_track : (device : Device) (number : ℕ) (bytes : List ℕ) (a b : Text) → length bytes ≤ slot_of device → number < 65535
+pub one_track : (device : Device) (number : ℕ) (bytes : List ℕ) (a b : Text) → length bytes ≤ slot_of device → number < 65535
     → IsTrackText (address_of (heads_of device) number) (filled_slot device bytes) a → IsTrackText (address_of (heads_of device) number) (filled_slot device bytes) b → a ≡ b
 one_track device number bytes a b short few one other =
     one_text (address_of (heads_of device) number) (filled_slot device bytes) a b (short_address device number few) (short_filled device bytes short) one other
 
 -- ---- one label
 
-abbrev volume_of : DumpHead → Head
+abbrev pub volume_of : DumpHead → Head
 volume_of head = record { device = head.device; tracks = head.tracks }
 
 pub no_label_there : (head : DumpHead) (bytes : List ℕ) (track : Text) → length bytes ≤ slot_of head.device → IsTrackText (address_of (heads_of head.device) 0) (filled_slot head.device bytes) track

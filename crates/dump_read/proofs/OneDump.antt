@@ -1,8 +1,7 @@
 -- A dump text ends where it does, and is of one list of pieces.
-use Rattle.std.proofs.Common.{◌≡◌, ℕ, ◌+◌, ◌≤◌, List, [], ◌∷◌, ◌++◌, length, refl, sym, ap, subst, ◌∙◌, arith, length-append, append_assoc}
+use Rattle.std.proofs.Common.{◌≡◌, ℕ, List, [], ◌++◌, refl, sym, ap, ◌∙◌, append_assoc}
 use Rattle.std.proofs.lemmas.List.{append-nil, append_cancel_left}
 use Rattle.sha2.specs.Sha256.{sha256}
-use Rattle.ckd_image.specs.Bytes.{Begins}
 use Rattle.dump_fmt.specs.declared.piece.DumpHead.{DumpHead}
 use Rattle.dump_fmt.specs.declared.piece.Piece.{Piece}
 use Rattle.dump_fmt.specs.Head.{header_text}

@@ -34,12 +34,12 @@ use Rattle.dump_read.proofs.OnWay.{between, within, slots_before}
 
 -- ---- the pieces of a shape
 
-pieces_of_slots : (front : Front) → front.parts ≡ [] → front.current ≡ None → front_pieces front ≡ slots_from 0 front.slots
+pub pieces_of_slots : (front : Front) → front.parts ≡ [] → front.current ≡ None → front_pieces front ≡ slots_from 0 front.slots
 pieces_of_slots front no_parts no_current =
     ap (λ (p : List DumpPart). flat_map part_pieces p ++ (current_pieces front.current ++ slot_pieces front.slots)) no_parts
     ∙ ap (λ (c : Option DumpPart). current_pieces c ++ slot_pieces front.slots) no_current
 
-pieces_of_parts : (front : Front) → front.slots ≡ [] → front_pieces front ≡ flat_map part_pieces front.parts ++ current_pieces front.current
+pub pieces_of_parts : (front : Front) → front.slots ≡ [] → front_pieces front ≡ flat_map part_pieces front.parts ++ current_pieces front.current
 pieces_of_parts front none =
     ap (λ (s : List (List ℕ)). flat_map part_pieces front.parts ++ (current_pieces front.current ++ slot_pieces s)) none
     ∙ ap (λ (t : List Piece). flat_map part_pieces front.parts ++ t) (append-nil (current_pieces front.current))
@@ -50,7 +50,7 @@ bounded_shape true head front few is =
     subst (All IsBounded) (sym (pieces_of_slots front is.no_parts is.no_current)) (bounded_slots head.device 0 front.slots within (recursion_from_All (IsCutSlot head.device) front.slots is.slots))
 bounded_shape false head front few is = bounded_kind false head front few is
 
-bounded : (head : DumpHead) (front : Front) → IsShapeFront head front → All IsBounded (front_pieces front)
+pub bounded : (head : DumpHead) (front : Front) → IsShapeFront head front → All IsBounded (front_pieces front)
 bounded head front is = bounded_shape head.full head front is.header.tracks.1 is.behind
 
 text_with : (head : DumpHead) (front next : Front) (more : List Piece) → front_pieces next ≡ front_pieces front ++ more → front_text head next ≡ front_text head front ++ pieces_text more
@@ -75,7 +75,7 @@ no_slots_full head front PartEnd next adds is = absurd (push_not_empty front.par
 no_slots_full head front Dropped next adds is = absurd (push_not_empty front.parts adds.0 (sym (ap (λ (f : Front). f.parts) adds.3) ∙ is.no_parts))
 no_slots_full head front (Slot number bytes) next adds is = tt
 
-no_slots_by : (full : Bool) (head : DumpHead) (front : Front) (piece : Piece) (next : Front) → Adds front piece next → IsOfShape full head next → HasNoSlots front piece
+pub no_slots_by : (full : Bool) (head : DumpHead) (front : Front) (piece : Piece) (next : Front) → Adds front piece next → IsOfShape full head next → HasNoSlots front piece
 no_slots_by true head front piece next adds is = no_slots_full head front piece next adds is
 no_slots_by false head front piece next adds is = no_slots_logical head front piece next adds is
 
@@ -168,7 +168,7 @@ fronts_go_on head front going =
 
 -- ---- a shape in its parts
 
-in_parts : (head : DumpHead) (front : Front) (digest : List ℕ) → digested_text head front ++ digest ≡ header_text head ++ (pieces_text (front_pieces front) ++ (counts_text front ++ digest))
+pub in_parts : (head : DumpHead) (front : Front) (digest : List ℕ) → digested_text head front ++ digest ≡ header_text head ++ (pieces_text (front_pieces front) ++ (counts_text front ++ digest))
 in_parts head front digest =
     append_assoc (front_text head front) (counts_text front) digest ∙ append_assoc (header_text head) (pieces_text (front_pieces front)) (counts_text front ++ digest)
 
@@ -203,7 +203,7 @@ same_device D3390 D3380 e = absurd (omega (arith, e))
 same_device D3380 D3390 e = absurd (omega (arith, e))
 same_device D3380 D3380 e = refl
 
-alike : (head other : DumpHead) → IsDumpHead head → IsDumpHead other → header_text head ≡ header_text other → AreAlike head other
+pub alike : (head other : DumpHead) → IsDumpHead head → IsDumpHead other → header_text head ≡ header_text other → AreAlike head other
 alike head other sound right e =
     let kind : kind_byte head.full ≡ kind_byte other.full = cc in
     let device : device_byte head.device ≡ device_byte other.device = cc in
@@ -231,7 +231,7 @@ same_shape false head other front device tracks is = record {
   few = is.few;
 }
 
-front_alike : (head other : DumpHead) (front : Front) → IsDumpHead head → AreAlike head other → IsShapeFront other front → IsShapeFront head front
+pub front_alike : (head other : DumpHead) (front : Front) → IsDumpHead head → AreAlike head other → IsShapeFront other front → IsShapeFront head front
 front_alike head other front sound same is = record {
   header = sound;
   behind = same_shape head.full head other front same.device same.tracks (subst (λ (b : Bool). IsOfShape b other front) (sym same.full) is.behind);
@@ -239,7 +239,7 @@ front_alike head other front sound same is = record {
   names = is.names;
 }
 
-closes_alike : (head other : DumpHead) (front : Front) → AreAlike head other → MayClose other front → MayClose head front
+pub closes_alike : (head other : DumpHead) (front : Front) → AreAlike head other → MayClose other front → MayClose head front
 closes_alike head other front same is = record {
   ended = is.ended;
   all_slots = λ t. is.all_slots (sym same.full ∙ t) ∙ sym same.tracks;

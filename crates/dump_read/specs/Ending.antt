@@ -22,7 +22,7 @@ IsEnd parts tracks text = (digest : List ℕ) × (length digest ≡ 32) × (text
 
 -- why the counts aren't read: the one at this place is wrong, or they are cut
 abbrev pub IsCountStop : ℕ → ℕ → List ℕ → CountStop → Type 0
-IsCountStop parts tracks bytes (Wrong place) = (place + 4 < 9) × IsFirstWrong (IsEnd parts tracks) bytes place 4
+IsCountStop parts tracks bytes (Wrong place) = ((place ≡ 0) ⊎ (place ≡ 4)) × IsFirstWrong (IsEnd parts tracks) bytes place 4
 IsCountStop parts tracks bytes Cut = (length bytes < 8) × GoesOn (IsEnd parts tracks) bytes
 
 -- bytes don't begin with the right ones, and so one at this place is wrong, or they are cut
@@ -39,6 +39,7 @@ count_fault start end Cut = Truncated end
 pub record IsBadCount (parts tracks : ℕ) (bytes : List ℕ) (offset why : ℕ) (whole : List ℕ) : Type 0 where
   pub rest : List ℕ
   pub place : ℕ
+  pub there : (place ≡ 0) ⊎ (place ≡ 4)
   pub spelled : whole ≡ bytes ++ rest
   pub at : offset ≡ min (length bytes + place) largest_offset
   pub number : why ≡ 10

@@ -13,3 +13,6 @@ pub mod Shape
 pub mod Marks
 pub mod Standing
 pub mod TrackFields
+pub mod Faults
+pub mod Reader
+pub mod FaultLaws

@@ -1,9 +1,8 @@
 -- The byte with which a piece or the trailer begins, and where it may stand.
-use Rattle.std.specs.Prelude.{◌≡◌, ◌⊎◌, ℕ, List, [], ◌∷◌, Option, Some, None}
+use Rattle.std.specs.Prelude.{◌≡◌, ◌⊎◌, ℕ, [], ◌∷◌}
 use Rattle.ckd_image.specs.Bytes.{Begins}
 use Rattle.dump_fmt.specs.declared.piece.DumpHead.{DumpHead}
 use Rattle.dump_fmt.specs.declared.piece.Piece.{Piece}
-use Rattle.dump_fmt.specs.declared.piece.Piece.TheVariants as pieces
 use Rattle.dump_fmt.specs.Pieces.{piece_text}
 use Rattle.dump_fmt.specs.Front.{Front, Adds}
 use Rattle.dump_read.specs.declared.mark.Mark.{Mark}

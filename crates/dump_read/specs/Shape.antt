@@ -1,5 +1,5 @@
 -- The shape of a dump: its grammar, in which any 32 bytes may stand as the digest, and in which it isn't asked what two slots of a full dump hold.
-use Rattle.std.specs.Prelude.{◌≡◌, ◌⊎◌, ℕ, ◌+◌, ◌<◌, ◌≤◌, Bool, true, false, IsTrue, List, [], ◌∷◌, ◌++◌, length, take, All, Option, Some, None, IfSome}
+use Rattle.std.specs.Prelude.{◌≡◌, ◌⊎◌, ℕ, ◌+◌, ◌<◌, ◌≤◌, Bool, true, false, IsTrue, List, [], ◌++◌, length, take, All, None, IfSome}
 use Rattle.ckd_image.specs.Bytes.{Begins}
 use Rattle.dump_fmt.specs.declared.piece.DumpHead.{DumpHead}
 use Rattle.dump_fmt.specs.declared.piece.Piece.{Piece}

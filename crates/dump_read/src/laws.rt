@@ -1,6 +1,7 @@
 //! What holds of dump texts whatever reads or writes them.
 
 ghost use Rattle.dump_read.specs.DumpLaws.{NoneBeginsAnother, OnePieces};
+ghost use Rattle.dump_read.specs.FaultLaws.{NothingIsWrong, OneIsWrong};
 ghost use Rattle.dump_read.specs.Shape.{FrontsGoOn, PiecesStandBehind, ShapesGoOn, NoShapeBeginsAnother};
 
 /// No dump text begins another one, and each is of one list of pieces.
@@ -15,4 +16,10 @@ pub fn shape_laws()
     ensures pieces { PiecesStandBehind }
     ensures shapes { ShapesGoOn }
     ensures none { NoShapeBeginsAnother }
+{}
+
+/// Nothing is wrong with a dump, and one thing with what is none.
+pub fn fault_laws()
+    ensures none { NothingIsWrong }
+    ensures one { OneIsWrong }
 {}

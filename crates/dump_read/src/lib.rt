@@ -3,6 +3,7 @@
 
 mod ending;
 mod feed;
+mod field;
 mod fields;
 mod header;
 mod labelled;
@@ -19,9 +20,10 @@ mod track;
 
 pub use ending::read_end;
 pub use feed::{Feed, Window};
+pub use field::DumpField;
 pub use header::{HeaderField, HeaderStop, read_header};
 pub use labelled::{holds_format_4, label_in};
-pub use laws::{dump_laws, shape_laws};
+pub use laws::{dump_laws, fault_laws, shape_laws};
 pub use mark::Mark;
 pub use part::{PartField, PartHead, PartStop, is_name_left, read_part};
 pub use reader::DumpReader;

@@ -1,5 +1,4 @@
-use Rattle.std.proofs.Common.{◌≡◌, ℕ, ap, Option, Some, refl}
-use Rattle.dump_read.specs.declared.standing.UnderWay.{UnderWay}
+use Rattle.std.proofs.Common.{ℕ, ap, Some, refl}
 use Rattle.dump_read.proofs.StandingAt.{text_at}
 use Rattle.dump_read.proofs.standing.Standing.count_track.Goals as goal
 
