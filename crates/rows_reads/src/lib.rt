@@ -1,5 +1,9 @@
 //! Tests: dumps that are read.
 #![tactic(auto)]
 
+mod counted;
+mod full;
 #[cfg(test)]
 mod tests;
+#[cfg(test)]
+mod whole;

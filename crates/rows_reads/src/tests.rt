@@ -2,9 +2,8 @@ use by_rules::Day;
 use ckd_image::{Bytes, Device};
 use dasd_pool::MemoryReel;
 use dump_fmt::{DumpFault, DumpHead};
-use dump_read::{
-    DumpReader, Feed, PartField, PartStop, dump_laws, is_name_left, read_end, read_part,
-};
+use dump_read::{DumpReader, Feed, PartField, PartStop, dump_laws, is_name_left, read_part};
+use rows_dump::EMPTY;
 use sha2::Digest;
 use std::test::*;
 use vol_label::Serial;
@@ -28,35 +27,14 @@ fn the_digest_is_of_what_was_fetched(rt: HostRuntime) -> Result<(), Fail> {
     Ok(())
 }
 
-/// A dump of VOL001, a 3390 of one cylinder, on the first day of 2024, without parts: the header, and the trailer from byte 32 on.
-const EMPTY: [u8; 73] = [
-    0x41, 0x44, 0x52, 0x44, 0x55, 0x4d, 0x50, 0x31, 0x4c, 0x90, 0xe5, 0xd6, 0xd3, 0xf0, 0xf0, 0xf1,
-    0x00, 0x00, 0x00, 0x0f, 0x07, 0xe8, 0x00, 0x01, 0x00, 0x00, 0x00, 0x00, 0x00, 0x00, 0x00, 0x00,
-    0x5a, 0x00, 0x00, 0x00, 0x00, 0x00, 0x00, 0x00, 0x00, 0x8d, 0x75, 0xa0, 0x20, 0x4c, 0x28, 0x6f,
-    0xe7, 0xdb, 0x5d, 0x7a, 0x91, 0x17, 0xaa, 0xed, 0x7a, 0x30, 0x27, 0x8d, 0xb0, 0xed, 0xbb, 0x42,
-    0x82, 0x8b, 0x79, 0x69, 0x67, 0xa3, 0x79, 0xcc, 0xea,
-];
-
 /// What the reading of the header of a text answers.
 fn header_of(rt: &HostRuntime, text: &[u8]) -> Result<Result<DumpHead, DumpFault>, Fail> {
     let text = Bytes::from_slice(rt.alloc(), text)?;
     let mut reel = MemoryReel::new(text, Vec::new(rt.alloc()));
     match DumpReader::start(rt.alloc(), &mut reel) {
-        Ok(reader) => Ok(Ok(reader.head)),
+        Ok(reader) => Ok(Ok(reader.head())),
         Err(fault) => Ok(Err(fault)),
     }
-}
-
-/// What the reading of a dump without parts answers of its end: all from the trailer on.
-fn end_of(rt: &HostRuntime, text: &[u8]) -> Result<Result<(), DumpFault>, Fail> {
-    let text = Bytes::from_slice(rt.alloc(), text)?;
-    let mut reel = MemoryReel::new(text, Vec::new(rt.alloc()));
-    let mut feed = Feed::new(rt.alloc())?;
-    let mut front = [0; 33];
-    if feed.fetch(&mut reel, &mut front).is_err() {
-        return Ok(Err(DumpFault::Reel));
-    }
-    Ok(read_end(&mut feed, &mut reel, 0, 0))
 }
 
 #[test]
@@ -101,31 +79,6 @@ fn each_field_of_a_header_has_its_refusal(rt: HostRuntime) -> Result<(), Fail> {
             Err(DumpFault::BadDump(offset, why))
         );
     }
-    Ok(())
-}
-
-#[test]
-fn a_dump_without_parts_has_73_bytes(rt: HostRuntime) -> Result<(), Fail> {
-    assert_eq!(rt; end_of(&rt, &EMPTY)?, Ok(()));
-    assert_eq!(rt; end_of(&rt, &EMPTY[..72])?, Err(DumpFault::Truncated(72)));
-    let mut longer = EMPTY.to_vec(rt.alloc())?;
-    longer.push(0)?;
-    assert_eq!(rt;
-        end_of(&rt, longer.as_slice())?,
-        Err(DumpFault::BadDump(73, 11))
-    );
-    Ok(())
-}
-
-#[test]
-fn another_digest_or_count_is_no_end(rt: HostRuntime) -> Result<(), Fail> {
-    let mut other = EMPTY;
-    other[72] = 0;
-    let differs = matches!(end_of(&rt, &other)?, Err(DumpFault::DigestDiffers { .. }));
-    assert!(rt; differs);
-    let mut counted = EMPTY;
-    counted[40] = 1;
-    assert_eq!(rt; end_of(&rt, &counted)?, Err(DumpFault::BadDump(37, 10)));
     Ok(())
 }
 
