@@ -1,17 +1,14 @@
-//! Tests: data sets are copied and carried between two volumes, and on one.
+//! Tests: data sets are copied and carried between two volumes, and on one. What tests of copies stand on is handed out.
 #![tactic(auto)]
 
 #[cfg(test)]
 mod carries;
 #[cfg(test)]
 mod copies;
-#[cfg(test)]
-mod reasons;
-#[cfg(test)]
-mod refusals;
-#[cfg(test)]
 mod runs;
-#[cfg(test)]
 mod sets;
-#[cfg(test)]
 mod volumes;
+
+pub use runs::{are_left, job, lines_of, run, steps_of};
+pub use sets::{A_B, C_D, LEFT, NEVER, ONE, OTHER, TWO, X_Y};
+pub use volumes::{Contents, EMPTY, INDEXED, Set, UNSTATED};

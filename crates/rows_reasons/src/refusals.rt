@@ -1,10 +1,8 @@
 //! Tests: a statement is refused for a unit or for unlike devices, or its filter takes nothing.
 
-use crate::runs::{are_left, lines_of, run};
-use crate::sets::{A_B, ONE, X_Y};
-use crate::volumes::{Contents, EMPTY, INDEXED, Set};
 use ckd_image::Device;
 use rows_base::RowsFault;
+use rows_copies::{A_B, Contents, EMPTY, INDEXED, ONE, Set, X_Y, are_left, lines_of, run};
 use std::alloc::Global;
 use std::test::*;
 

@@ -1,9 +1,9 @@
 //! Tests: each reason why a data set isn't copied is told, and nothing is changed.
 
-use crate::runs::{are_left, lines_of, run};
-use crate::sets::{A_B, C_D, NEVER, ONE, OTHER, X_Y};
-use crate::volumes::{Contents, EMPTY, Set, UNSTATED};
 use rows_base::RowsFault;
+use rows_copies::{
+    A_B, C_D, Contents, EMPTY, NEVER, ONE, OTHER, Set, UNSTATED, X_Y, are_left, lines_of, run,
+};
 use std::alloc::Global;
 use std::test::*;
 
