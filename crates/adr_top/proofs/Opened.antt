@@ -18,7 +18,6 @@ use Rattle.move_core.specs.Stands.{IsSettled}
 use Rattle.move_core.proofs.Running.{run_less, run_then}
 use Rattle.sysin_lang.specs.Flow.{Plan}
 use Rattle.unit_session.specs.Sessions.{SessionView, IsRefusal}
-use Rattle.job_ops.specs.Setting.{facts_of}
 use Rattle.job_script.specs.Runs.{RunOn}
 use Rattle.job_script.specs.Ends.{SinkSeen, After, EndsScript}
 use Rattle.run_lines.specs.declared.ending.RunEnd.{RunEnd}
@@ -27,6 +26,10 @@ use Rattle.run_lines.specs.Endings.{end_of, last_line}
 use Rattle.run_lines.specs.Texts.{Tells}
 use Rattle.adr_top.specs.Ends.{RunsText}
 use Rattle.adr_top.specs.Parts.{IsRefused, Opens}
+
+-- what never changes of a session's pool
+abbrev facts_at : {P : Type 0} → Ghosts P → SessionView P → Facts
+facts_at pools session = record { shape = pools.shape session.pool; names = session.names; room = session.room }
 
 -- a fault of the pool, and no other, ends a run as one
 pub only_pool : (fault : JournalFault) → end_of fault ≡ ends.Pool → fault ≡ faults.Pool
@@ -74,14 +77,14 @@ opens_not {P} pools pool stopped fault end out serials table today plan left ref
 
 module _ {P : Type 0} (pools : Ghosts P) (pool : P) (session : SessionView P) (plan : Plan) (held : List Hold) (today : Day) (out : SinkSeen) (left : After P)
     (begins : IsRun pools.tells (shown pools pool) (shown pools session.pool) (Unit {0}) [] None)
-    (own : pools.tells → (facts : Facts) (units : List UnitModel) → facts.shape ≡ pools.shape session.pool → IsSettled facts (pools.disk session.pool).state units → facts ≡ facts_of pools session)
+    (own : pools.tells → (facts : Facts) (units : List UnitModel) → facts.shape ≡ pools.shape session.pool → IsSettled facts (pools.disk session.pool).state units → facts ≡ facts_at pools session)
     (runs : EndsScript pools session plan held today out left) where
   -- what the script means on the units of the session it means on those of the pool
   means : pools.tells → (facts : Facts) (units : List UnitModel) → facts.shape ≡ pools.shape pool → IsSettled facts (pools.disk pool).state units
       → RunOn (record { facts = facts; today = today; held = held }) runs.ran runs.under runs.leaves.added left.pending units
   means told facts units same settled =
       let end = (begins.keeps told facts same units settled).settled (tt {0}) in
-      let is : facts ≡ facts_of pools session = own told facts end.units (same ∙ sym begins.shape) end.settled in
+      let is : facts ≡ facts_at pools session = own told facts end.units (same ∙ sym begins.shape) end.settled in
       subst (λ (u : List UnitModel). RunOn (record { facts = facts; today = today; held = held }) runs.ran runs.under runs.leaves.added left.pending u) end.reached
       (subst (λ (f : Facts). RunOn (record { facts = f; today = today; held = held }) runs.ran runs.under runs.leaves.added left.pending end.units) (sym is)
       (runs.leaves.means told end.units (subst (λ (f : Facts). IsSettled f (pools.disk session.pool).state end.units) is end.settled)))

@@ -9,6 +9,7 @@ mod runs;
 mod sets;
 mod volumes;
 
+pub use rows_base::RowsFault;
 pub use runs::{are_left, job, lines_of, run, steps_of};
 pub use sets::{A_B, C_D, LEFT, NEVER, ONE, OTHER, TWO, X_Y};
 pub use volumes::{Contents, EMPTY, INDEXED, Set, UNSTATED};

@@ -1,8 +1,8 @@
 //! Tests: each reason why a data set isn't copied is told, and nothing is changed.
 
-use rows_base::RowsFault;
 use rows_copies::{
-    A_B, C_D, Contents, EMPTY, NEVER, ONE, OTHER, Set, UNSTATED, X_Y, are_left, lines_of, run,
+    A_B, C_D, Contents, EMPTY, NEVER, ONE, OTHER, RowsFault, Set, UNSTATED, X_Y, are_left,
+    lines_of, run,
 };
 use std::alloc::Global;
 use std::test::*;

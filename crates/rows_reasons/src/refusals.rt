@@ -1,8 +1,9 @@
 //! Tests: a statement is refused for a unit or for unlike devices, or its filter takes nothing.
 
 use ckd_image::Device;
-use rows_base::RowsFault;
-use rows_copies::{A_B, Contents, EMPTY, INDEXED, ONE, Set, X_Y, are_left, lines_of, run};
+use rows_copies::{
+    A_B, Contents, EMPTY, INDEXED, ONE, RowsFault, Set, X_Y, are_left, lines_of, run,
+};
 use std::alloc::Global;
 use std::test::*;
 

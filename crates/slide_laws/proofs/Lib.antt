@@ -1,0 +1,4 @@
+pub mod Splits
+pub mod ExtentsOnce
+pub mod OneSlide
+pub mod OneList
