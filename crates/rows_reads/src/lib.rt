@@ -1,6 +1,7 @@
 //! Tests: dumps that are read.
 #![tactic(auto)]
 
+mod copied;
 mod counted;
 mod full;
 #[cfg(test)]

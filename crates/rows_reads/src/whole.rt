@@ -1,12 +1,18 @@
 //! Whole dumps, and what is wrong with those that aren't.
 
+ghost use Rattle.std.specs.Prelude.{◌≡◌};
+ghost use Rattle.dump_fmt.specs.declared.outs.OutState.TheVariants.{Unused};
+
+use crate::copied::copy_dump;
 use crate::counted::{Counted, count_pieces};
 use crate::full::full_text;
 use ckd_image::Bytes;
-use dasd_pool::MemoryReel;
-use dump_fmt::{DumpFault, DumpHead};
+use dasd_pool::{FileMedium, Medium, MemoryReel};
+use dump_fmt::{DdName, DumpFault, DumpHead, OutDd, OutState};
 use dump_read::DumpReader;
 use rows_dump::{EMPTY, dropped_text, one_part_text};
+use std::env;
+use std::fs::{self, File};
 use std::test::*;
 
 /// What a check of a text answers.
@@ -251,5 +257,51 @@ fn a_reel_that_fails_is_told(rt: HostRuntime) -> Result<(), Fail> {
             Some(DumpFault::Reel)
         );
     }
+    Ok(())
+}
+
+/// An output that nothing was written to.
+fn out_of(medium: Box<dyn Medium>) -> OutDd
+    ensures { result.state ≡ Unused }
+{
+    let name = DdName {
+        len: 1,
+        text: *b"O\0\0\0\0\0\0\0",
+    };
+    OutDd {
+        name,
+        medium,
+        state: OutState::Unused,
+    }
+}
+
+/// Whether a copy of a text to a file is whole, and the same to the byte.
+fn is_copied(rt: &HostRuntime, path: &str, text: &[u8]) -> Result<bool, Fail> {
+    let file = File::create(rt, path)?;
+    let folder = File::open(rt, env::temp_dir(rt)?)?;
+    let mut outs = Vec::new(rt.alloc());
+    outs.push(out_of(Box::new(rt.alloc(), FileMedium::new(file, folder))?))?;
+    let bytes = Bytes::from_slice(rt.alloc(), text)?;
+    let mut reel = MemoryReel::new(bytes, Vec::new(rt.alloc()));
+    let Ok(outs) = copy_dump(rt.alloc(), &mut reel, outs) else {
+        return Ok(false);
+    };
+    let whole = outs.iter().all(|out| out.state == OutState::Whole);
+    Ok(whole && fs::read(rt, path)?.as_slice() == text)
+}
+
+#[test]
+fn dumps_are_copied_to_the_byte(rt: HostRuntime) -> Result<(), Fail> {
+    let path = env::temp_dir(&rt)?.join(rt.alloc(), "dump_read_copied")?;
+    assert!(rt; is_copied(&rt, path.as_str(), &EMPTY)?);
+    let one = one_part_text(rt.alloc())?;
+    assert!(rt; is_copied(&rt, path.as_str(), one.as_slice())?);
+    let dropped = dropped_text(rt.alloc())?;
+    assert!(rt; is_copied(&rt, path.as_str(), dropped.as_slice())?);
+    let Ok(full) = full_text(rt.alloc()) else {
+        return Err(Fail::new("no dump"));
+    };
+    assert!(rt; is_copied(&rt, path.as_str(), full.as_slice())?);
+    fs::remove_file(&rt, &path)?;
     Ok(())
 }
