@@ -37,7 +37,7 @@ pub fn one_record(alloc: Global) -> Result<Track, NoMemory>
     })
 }
 
-/// A dump of a data set of this track alone to the third and the second of three outputs.
+/// A dump of a data set of this track alone to each of three outputs, the last one first.
 pub fn one_part(
     alloc: Global,
     outs: Vec<OutDd>,
@@ -52,7 +52,7 @@ pub fn one_part(
     requires placeless { IsPlaceless f1 }
     requires track { StandsOn D3390 track }
 {
-    let Ok(mut writer) = DumpWriter::start(alloc, outs, &[2, 1], head) else {
+    let Ok(mut writer) = DumpWriter::start(alloc, outs, &[2, 1, 0], head) else {
         return Err(DumpFault::NoMemory);
     };
     let (tracks, kind) = (1, 0x01);

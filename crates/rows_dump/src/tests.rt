@@ -73,7 +73,7 @@ fn memory_out(rt: &HostRuntime, room: u32, failing: &[u64]) -> Result<OutDd, Fai
     Ok(out_of(Box::new(rt.alloc(), medium)?))
 }
 
-/// What becomes of three outputs, where a dump goes to the last two, without parts or of one.
+/// What becomes of three outputs, where a dump without parts goes to the last two, or one of a part to all.
 fn dumped(rt: &HostRuntime, outs: Vec<OutDd>, part: bool) -> Result<[OutState; 3], Fail>
     requires unused { map (λ out. out.state) outs.items ≡ Unused ∷ Unused ∷ Unused ∷ [] }
 {
@@ -91,7 +91,7 @@ fn dumped(rt: &HostRuntime, outs: Vec<OutDd>, part: bool) -> Result<[OutState; 3
     }
 }
 
-/// What becomes of an output that isn't asked for, of one in memory, and of a file.
+/// What becomes of an output in memory, which a dump without parts isn't written to, of another one, and of a file.
 fn states(
     rt: &HostRuntime,
     path: &str,
@@ -102,7 +102,7 @@ fn states(
     let file = File::create(rt, path)?;
     let folder = File::open(rt, env::temp_dir(rt)?)?;
     let mut outs = Vec::new(rt.alloc());
-    outs.push(memory_out(rt, 0, &[])?)?;
+    outs.push(memory_out(rt, 316, &[])?)?;
     outs.push(memory_out(rt, room, failing)?)?;
     outs.push(out_of(Box::new(rt.alloc(), FileMedium::new(file, folder))?))?;
     dumped(rt, outs, part)
@@ -147,7 +147,7 @@ fn a_dump_of_one_track_of_80_bytes_has_316_bytes(rt: HostRuntime) -> Result<(), 
     ];
     for (room, failing, state) in cases {
         let found = states(&rt, path.as_str(), room, failing, true)?;
-        assert_eq!(rt; found, [OutState::Unused, state, OutState::Whole]);
+        assert_eq!(rt; found, [OutState::Whole, state, OutState::Whole]);
         assert_eq!(rt; fs::read(&rt, &path)?.as_slice(), text.as_slice());
     }
     fs::remove_file(&rt, &path)?;
@@ -157,12 +157,9 @@ fn a_dump_of_one_track_of_80_bytes_has_316_bytes(rt: HostRuntime) -> Result<(), 
 #[test]
 fn each_output_of_a_dump_may_be_lost(rt: HostRuntime) -> Result<(), Fail> {
     let mut outs = Vec::new(rt.alloc());
-    outs.push(memory_out(&rt, 316, &[])?)?;
+    outs.push(memory_out(&rt, 316, &[1])?)?;
     outs.push(memory_out(&rt, 316, &[2])?)?;
     outs.push(memory_out(&rt, 316, &[0])?)?;
-    assert_eq!(rt;
-        dumped(&rt, outs, true)?,
-        [OutState::Unused, OutState::Lost, OutState::Lost]
-    );
+    assert_eq!(rt; dumped(&rt, outs, true)?, [OutState::Lost; 3]);
     Ok(())
 }
