@@ -17,7 +17,7 @@ use Rattle.move_core.specs.Runs.{IsRun}
 use Rattle.move_core.specs.Stands.{IsSettled}
 use Rattle.move_core.proofs.Running.{run_less, run_then}
 use Rattle.sysin_lang.specs.Flow.{Plan}
-use Rattle.unit_session.specs.Sessions.{SessionView, IsRefusal}
+use Rattle.job_script.specs.unit_session.Sessions.{SessionView, IsRefusal}
 use Rattle.job_script.specs.Runs.{RunOn}
 use Rattle.job_script.specs.Ends.{SinkSeen, After, EndsScript}
 use Rattle.run_lines.specs.declared.ending.RunEnd.{RunEnd}

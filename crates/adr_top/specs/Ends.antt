@@ -25,7 +25,7 @@ use Rattle.run_lines.specs.declared.ending.RunEnd.{RunEnd}
 use Rattle.run_lines.specs.declared.ending.RunEnd.TheVariants as ends
 use Rattle.run_lines.specs.Endings.{end_of, last_line}
 use Rattle.run_lines.specs.Texts.{Tells}
-use Rattle.unit_session.specs.Sessions.{IsRefusal}
+use Rattle.job_script.specs.unit_session.Sessions.{IsRefusal}
 use Rattle.job_script.specs.Runs.{Ran, HasGravest, OnlyListed, steps_of, lines_of, RunOn, HasRun, printed_text}
 use Rattle.job_script.specs.Ends.{SinkSeen, After, IsEndOf, Prints, Took, ended_before}
 use Rattle.adr_top.specs.Asked.{AskFor, Agrees, serials_of}

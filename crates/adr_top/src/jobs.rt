@@ -14,11 +14,11 @@ use crate::lists::Day;
 use crate::texts::{Ready, prepare};
 use ckd_image::Word;
 use dasd_pool::{Pool, Sink, Source};
+use job_script::unit_session::Session;
 use job_script::{Left, run_script};
 use run_lines::{RunEnd, tell};
 use run_words::UnitPaths;
 use std::alloc::{AllocError, Global};
-use unit_session::Session;
 use vol_label::Serial;
 
 /// What a run leaves that is refused: the pool as it is. Its last line is tried.

@@ -8,6 +8,7 @@ mod lists;
 mod runner;
 mod texts;
 
+pub use job_script;
 pub use lists::{Day, InDd, OutDd, OutState};
 pub use move_core::{DdName, Dsn, Origin, Runs, Step};
 pub use run_words::{DdPaths, Run, UnitPaths, WordsFault, read_words};

@@ -7,11 +7,11 @@ use Rattle.free_map.specs.Several.{ArePlaces, AreChosen, AreTooShort}
 use Rattle.volume_model.specs.Unit.{Extent, tracks_of}
 use Rattle.vtoc_core.specs.declared.volume.Row.{Row}
 use Rattle.vtoc_core.specs.declared.volume.Volume.{Volume}
-use Rattle.vtoc_render.proofs.PlacedTakes.{heads_same}
+use Rattle.step_room.proofs.vtoc_render.PlacedTakes.{heads_same}
 use Rattle.plan_core.specs.Consolidate.{IsStepOf}
-use Rattle.unit_steps.specs.Plans.{HasRow}
-use Rattle.unit_steps.proofs.Blocks.{from_slots}
-use Rattle.step_plans.specs.Plans.{IsSound, ArePlacesOn, extents_from}
+use Rattle.step_room.specs.unit_steps.Plans.{HasRow}
+use Rattle.step_room.proofs.unit_steps.Blocks.{from_slots}
+use Rattle.step_room.specs.step_plans.Plans.{IsSound, ArePlacesOn, extents_from}
 use Rattle.job_copies.specs.declared.copying.Copying.{Copying}
 use Rattle.job_copies.specs.Case.{Case}
 use Rattle.job_copies.specs.Loaded.{AreCopied, MayCopy}

@@ -8,9 +8,9 @@ use Rattle.dsn_filter.specs.declared.dsn.Dsn.{Dsn}
 use Rattle.volume_model.specs.Pinned.{IsNameOf}
 use Rattle.volume_model.specs.Unit.{DataSet}
 use Rattle.vtoc_core.specs.declared.volume.Row.{Row}
-use Rattle.unit_change.specs.Described.{DescribesSet}
-use Rattle.unit_steps.specs.Plans.{HasRow}
-use Rattle.step_plans.specs.Plans.{HasNone}
+use Rattle.step_room.specs.unit_change.Described.{DescribesSet}
+use Rattle.step_room.specs.unit_steps.Plans.{HasRow}
+use Rattle.step_room.specs.step_plans.Plans.{HasNone}
 use Rattle.job_copies.specs.declared.copying.Copying.{Copying}
 use Rattle.job_copies.specs.declared.wish.Wish.{Wish}
 use Rattle.job_copies.specs.Case.{Case, IsOwn, IsNamesake, Replaces, ReplacesSome}

@@ -11,10 +11,10 @@ use Rattle.volume_model.specs.Unit.{DataSet}
 use Rattle.volume_change.proofs.Names.{one_text}
 use Rattle.vtoc_core.specs.declared.volume.Row.{Row}
 use Rattle.vtoc_core.specs.Loaded.{field_of}
-use Rattle.unit_change.specs.Changed.{extents_of}
-use Rattle.unit_change.specs.Described.{DescribesSet}
-use Rattle.unit_steps.specs.Plans.{HasRow}
-use Rattle.step_plans.specs.Plans.{HasNone, IsClear}
+use Rattle.step_room.specs.unit_change.Changed.{extents_of}
+use Rattle.step_room.specs.unit_change.Described.{DescribesSet}
+use Rattle.step_room.specs.unit_steps.Plans.{HasRow}
+use Rattle.step_room.specs.step_plans.Plans.{HasNone, IsClear}
 use Rattle.step_room.proofs.SoundRows.{one_row}
 use Rattle.job_copies.specs.declared.copying.Copying.{Copying}
 use Rattle.job_copies.specs.Loaded.{MayCopy}

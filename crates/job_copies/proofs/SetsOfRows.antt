@@ -9,9 +9,9 @@ use Rattle.volume_change.proofs.Names.{one_text}
 use Rattle.vtoc_core.specs.declared.volume.Row.{Row}
 use Rattle.vtoc_core.specs.declared.volume.Volume.{Volume}
 use Rattle.vtoc_layout.proofs.Distinct.{first_or_later, at_first, in_later, in_none}
-use Rattle.unit_change.specs.Described.{Describes, DescribesSet, DescribesSets}
-use Rattle.unit_steps.specs.Plans.{HasRow}
-use Rattle.step_plans.specs.Plans.{IsSound}
+use Rattle.step_room.specs.unit_change.Described.{Describes, DescribesSet, DescribesSets}
+use Rattle.step_room.specs.unit_steps.Plans.{HasRow}
+use Rattle.step_room.specs.step_plans.Plans.{IsSound}
 use Rattle.step_room.proofs.SoundRows.{one_row}
 
 module _ (heads : ℕ) where

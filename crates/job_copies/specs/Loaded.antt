@@ -3,9 +3,9 @@ use Rattle.std.specs.Prelude.{◌≡◌, true, Contains}
 use Rattle.dsn_filter.specs.Dsn.{IsDsn}
 use Rattle.volume_model.specs.Pinned.{IsNameOf}
 use Rattle.vtoc_core.specs.declared.volume.Row.{Row}
-use Rattle.unit_change.specs.Described.{Describes}
-use Rattle.unit_steps.specs.Plans.{HasRow}
-use Rattle.step_plans.specs.Plans.{IsSound}
+use Rattle.step_room.specs.unit_change.Described.{Describes}
+use Rattle.step_room.specs.unit_steps.Plans.{HasRow}
+use Rattle.step_room.specs.step_plans.Plans.{IsSound}
 use Rattle.job_copies.specs.declared.copying.Copying.{Copying}
 use Rattle.job_copies.specs.Case.{Case}
 

@@ -1,7 +1,7 @@
 -- The row of the data set that a copy replaces, on the volume as it was loaded.
 use Rattle.std.specs.Prelude.{◌≡◌, true}
 use Rattle.vtoc_core.specs.declared.volume.Row.{Row}
-use Rattle.unit_steps.specs.Plans.{HasRow}
+use Rattle.step_room.specs.unit_steps.Plans.{HasRow}
 use Rattle.job_copies.specs.declared.copying.Copying.{Copying}
 
 -- the copy would stand in the place of its origin

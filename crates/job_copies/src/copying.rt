@@ -2,8 +2,8 @@
 
 ghost use Rattle.std.specs.Prelude.{◌≡◌, ◌≢◌, ◌↔◌, ◌≤◌, true, length, All, IsTrue, IfOk, IfErr, IfSome, IfNone};
 ghost use Rattle.vtoc_core.specs.declared.volume.Row.{Row as RowOf};
-ghost use Rattle.unit_steps.specs.Plans.{HasRow};
-ghost use Rattle.step_plans.specs.Plans.{IsClear, HasNone};
+ghost use Rattle.step_room.specs.unit_steps.Plans.{HasRow};
+ghost use Rattle.step_room.specs.step_plans.Plans.{IsClear, HasNone};
 ghost use Rattle.job_lines.specs.Order.{IsFirst};
 ghost use Rattle.job_copies.specs.Case.{Case, ReplacesSome};
 ghost use Rattle.job_copies.specs.Loaded.{AreCopied, MayCopy};

@@ -10,5 +10,8 @@ mod row;
 mod wish;
 
 pub use copying::Copying;
+pub use job_select;
 pub use renames::is_rename;
+pub use step_room;
+pub use step_room::{step_plans, unit_change, unit_steps, vtoc_render};
 pub use wish::Wish;

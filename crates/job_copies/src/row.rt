@@ -2,8 +2,8 @@
 
 ghost use Rattle.std.specs.Prelude.{IfSome, IfNone};
 ghost use Rattle.dsn_filter.specs.Dsn.{IsDsn};
-ghost use Rattle.unit_steps.specs.Plans.{HasRow};
-ghost use Rattle.step_plans.specs.Plans.{IsSound, HasNone};
+ghost use Rattle.step_room.specs.unit_steps.Plans.{HasRow};
+ghost use Rattle.step_room.specs.step_plans.Plans.{IsSound, HasNone};
 
 use dsn_filter::Dsn;
 use volume_change::find;

@@ -10,8 +10,8 @@ use Rattle.move_core.specs.declared.steps.Step.{Step}
 use Rattle.move_core.specs.Facts.{shown}
 use Rattle.move_core.specs.Runs.{IsRun, moves_of}
 use Rattle.move_core.proofs.Running.{run_idle, run_then, run_halted}
-use Rattle.unit_session.specs.Sessions.{SessionView}
-use Rattle.unit_session.specs.Planned.{PlannedView}
+use Rattle.job_steps.specs.unit_session.Sessions.{SessionView}
+use Rattle.job_steps.specs.unit_session.Planned.{PlannedView}
 use Rattle.job_steps.specs.declared.cut.Cut.{Cut}
 use Rattle.job_steps.specs.Carried.{pool_cut, pending_cut, IsShort, IsCutIn, AreAfter, AreUnitsAfter}
 use Rattle.job_ops.specs.declared.transfer.Transfer.{Transfer}

@@ -10,9 +10,9 @@ use Rattle.move_core.specs.Runs.{moves_of}
 use Rattle.move_core.proofs.Running.{run_steps}
 use Rattle.vtoc_core.specs.declared.volume.Volume.{Volume}
 use Rattle.unit_load.specs.declared.state.UnitState.{UnitState}
-use Rattle.unit_steps.specs.Plans.{HasRow}
-use Rattle.step_plans.specs.Plans.{IsSound}
-use Rattle.unit_session.specs.Sessions.{SessionView}
+use Rattle.job_copies.specs.unit_steps.Plans.{HasRow}
+use Rattle.job_copies.specs.step_plans.Plans.{IsSound}
+use Rattle.job_steps.specs.unit_session.Sessions.{SessionView}
 use Rattle.job_lines.specs.declared.message.Message.{Message}
 use Rattle.job_steps.specs.declared.cut.Cut.{Cut}
 use Rattle.job_steps.specs.declared.cut.Cut.TheVariants as cuts

@@ -12,12 +12,12 @@ use Rattle.vtoc_core.specs.declared.volume.Volume.{Volume}
 use Rattle.vtoc_layout.proofs.Distinct.{in_middle, or_other, among_others}
 use Rattle.volume_change.specs.declared.change.Change.{Change}
 use Rattle.volume_change.specs.declared.change.Change.TheVariants.{Repair, Put, Swap, Remove, Mark}
-use Rattle.vtoc_render.specs.Next.{IsNext, IsChanged}
+use Rattle.job_copies.specs.vtoc_render.Next.{IsNext, IsChanged}
 use Rattle.unit_load.specs.declared.state.UnitState.{UnitState}
 use Rattle.unit_load.specs.declared.state.UnitState.TheVariants.{Online}
-use Rattle.unit_steps.specs.Plans.{IsLoadedAt, HasRow, putting}
-use Rattle.unit_steps.proofs.OneChange.{same_volume}
-use Rattle.job_select.proofs.OneName.{one_named}
+use Rattle.job_copies.specs.unit_steps.Plans.{IsLoadedAt, HasRow, putting}
+use Rattle.job_copies.proofs.unit_steps.OneChange.{same_volume}
+use Rattle.job_copies.proofs.job_select.OneName.{one_named}
 use Rattle.job_steps.specs.Carried.{IsUnitAfter, AreUnitsAfter}
 use Rattle.job_ops.specs.declared.transfer.Transfer.{Transfer}
 use Rattle.job_ops.specs.declared.transfer.Act.{Act}

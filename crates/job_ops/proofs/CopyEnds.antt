@@ -13,8 +13,8 @@ use Rattle.move_core.specs.declared.steps.Step.{Step}
 use Rattle.move_core.specs.Runs.{moves_of}
 use Rattle.move_core.specs.Stands.{IsGood, IsSettled}
 use Rattle.move_core.proofs.Running.{run_steps}
-use Rattle.unit_session.specs.Sessions.{SessionView}
-use Rattle.step_room.specs.Room.{LackingChangesAreFull, FittingChangesAreNotFull}
+use Rattle.job_steps.specs.unit_session.Sessions.{SessionView}
+use Rattle.job_copies.specs.step_room.Room.{LackingChangesAreFull, FittingChangesAreNotFull}
 use Rattle.job_lines.specs.declared.message.Message.{Message}
 use Rattle.job_lines.specs.declared.message.Message.TheVariants as messages
 use Rattle.job_lines.specs.declared.message.Reason.{Reason}

@@ -13,10 +13,10 @@ use Rattle.vtoc_core.specs.declared.volume.Volume.{Volume}
 use Rattle.unit_load.specs.declared.state.UnitState.{UnitState}
 use Rattle.move_core.specs.declared.steps.Step.{Step}
 use Rattle.move_core.specs.Stands.{IsGood}
-use Rattle.unit_steps.specs.Plans.{IsLoadedAt, HasRow}
-use Rattle.unit_session.specs.Sessions.{SessionView, IsSameSession}
-use Rattle.unit_session.specs.Copies.{HasSource}
-use Rattle.step_plans.specs.Plans.{IsSound}
+use Rattle.job_copies.specs.unit_steps.Plans.{IsLoadedAt, HasRow}
+use Rattle.job_steps.specs.unit_session.Sessions.{SessionView, IsSameSession}
+use Rattle.job_steps.specs.unit_session.Copies.{HasSource}
+use Rattle.job_copies.specs.step_plans.Plans.{IsSound}
 use Rattle.job_lines.specs.declared.message.Message.{Message}
 use Rattle.job_lines.specs.declared.message.Message.TheVariants as messages
 use Rattle.job_lines.specs.declared.message.Reason.{Reason}

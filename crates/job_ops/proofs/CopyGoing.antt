@@ -12,14 +12,14 @@ use Rattle.vol_label.specs.declared.serial.Serial.{Serial}
 use Rattle.volume_model.specs.Unit.{OnlineVolume, online}
 use Rattle.vtoc_core.specs.declared.volume.Volume.{Volume}
 use Rattle.move_core.specs.declared.steps.Step.{Step}
-use Rattle.unit_steps.specs.Loaded.{AreModels}
+use Rattle.job_copies.specs.unit_steps.Loaded.{AreModels}
 use Rattle.vtoc_core.specs.declared.volume.Row.{Row}
 use Rattle.unit_load.specs.declared.state.UnitState.{UnitState}
-use Rattle.unit_steps.specs.Plans.{IsLoadedAt, HasRow}
-use Rattle.unit_session.specs.Sessions.{SessionView}
+use Rattle.job_copies.specs.unit_steps.Plans.{IsLoadedAt, HasRow}
+use Rattle.job_steps.specs.unit_session.Sessions.{SessionView}
 use Rattle.job_lines.specs.declared.message.Message.{Message}
 use Rattle.job_lines.specs.declared.message.Message.TheVariants as messages
-use Rattle.job_select.specs.Selection.{Selects}
+use Rattle.job_copies.specs.job_select.Selection.{Selects}
 use Rattle.job_steps.specs.declared.cut.Cut.{Cut}
 use Rattle.job_copies.specs.declared.wish.Wish.{Wish}
 use Rattle.job_ops.specs.Asked.{IsUnitFor}

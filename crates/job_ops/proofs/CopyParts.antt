@@ -15,14 +15,14 @@ use Rattle.vtoc_core.specs.declared.volume.Row.{Row}
 use Rattle.vtoc_core.specs.declared.volume.Volume.{Volume}
 use Rattle.move_core.specs.Facts.{Facts}
 use Rattle.move_core.specs.Stands.{IsSettled}
-use Rattle.unit_change.specs.Described.{Describes}
+use Rattle.job_copies.specs.unit_change.Described.{Describes}
 use Rattle.unit_load.specs.declared.state.UnitState.{UnitState}
 use Rattle.unit_load.specs.declared.state.UnitState.TheVariants.{Online}
 use Rattle.unit_load.specs.Kept.{IsKept}
-use Rattle.unit_steps.specs.Loaded.{IsModel}
-use Rattle.unit_steps.specs.Plans.{IsLoadedAt, HasRow}
-use Rattle.unit_session.specs.Sessions.{SessionView}
-use Rattle.step_plans.specs.Plans.{ArePlacesOn, IsClear}
+use Rattle.job_copies.specs.unit_steps.Loaded.{IsModel}
+use Rattle.job_copies.specs.unit_steps.Plans.{IsLoadedAt, HasRow}
+use Rattle.job_steps.specs.unit_session.Sessions.{SessionView}
+use Rattle.job_copies.specs.step_plans.Plans.{ArePlacesOn, IsClear}
 use Rattle.job_copies.specs.declared.copying.Copying.{Copying}
 use Rattle.job_copies.specs.Case.{Case, ReplacesSome}
 use Rattle.job_copies.specs.Loaded.{AreCopied, MayCopy}

@@ -18,19 +18,19 @@ use Rattle.vtoc_layout.proofs.Distinct.{first_or_later, in_none, in_front, in_ba
 use Rattle.volume_change.specs.declared.change.Change.{Change}
 use Rattle.volume_change.specs.declared.change.Change.TheVariants.{Repair, Put, Swap, Remove, Mark}
 use Rattle.volume_change.proofs.Names.{one_text}
-use Rattle.vtoc_render.specs.Next.{IsNext, MayChange}
-use Rattle.unit_change.specs.Described.{Describes, DescribesSet}
-use Rattle.unit_change.specs.Changed.{extents_of, set_put, sets_put}
+use Rattle.job_copies.specs.vtoc_render.Next.{IsNext, MayChange}
+use Rattle.job_copies.specs.unit_change.Described.{Describes, DescribesSet}
+use Rattle.job_copies.specs.unit_change.Changed.{extents_of, set_put, sets_put}
 use Rattle.unit_load.specs.declared.state.UnitState.{UnitState}
 use Rattle.move_core.specs.declared.steps.Step.TheVariants as steps
 use Rattle.move_core.specs.Steps.{IsCopy, IsNewKind, extents_on, fields_at, tracks_for, empty_text}
 use Rattle.plan_core.specs.Consolidate.{IsStepOf}
-use Rattle.unit_steps.specs.declared.plan.Plan.{Plan}
-use Rattle.unit_steps.specs.Plans.{IsLoadedAt, HasRow, IsPlan, putting, extents_in}
-use Rattle.unit_steps.proofs.OneChange.{same_volume}
-use Rattle.unit_session.specs.Planned.{IsFullFor}
-use Rattle.step_plans.specs.Plans.{IsSound}
-use Rattle.step_room.specs.Room.{IsFullFor as IsFull, LacksRoom, AreTaken, LackingChangesAreFull, FittingChangesAreNotFull}
+use Rattle.job_copies.specs.unit_steps.declared.plan.Plan.{Plan}
+use Rattle.job_copies.specs.unit_steps.Plans.{IsLoadedAt, HasRow, IsPlan, putting, extents_in}
+use Rattle.job_copies.proofs.unit_steps.OneChange.{same_volume}
+use Rattle.job_steps.specs.unit_session.Planned.{IsFullFor}
+use Rattle.job_copies.specs.step_plans.Plans.{IsSound}
+use Rattle.job_copies.specs.step_room.Room.{IsFullFor as IsFull, LacksRoom, AreTaken, LackingChangesAreFull, FittingChangesAreNotFull}
 use Rattle.job_steps.specs.Carried.{HaveNext}
 use Rattle.job_copies.specs.Case.{Case, ReplacesSome}
 use Rattle.job_copies.specs.Places.{ArePlacesFor}

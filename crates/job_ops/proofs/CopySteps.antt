@@ -6,7 +6,7 @@ use Rattle.volume_model.specs.Pinned.{IsNameOf}
 use Rattle.volume_model.specs.Unit.{OnlineVolume}
 use Rattle.volume_change.proofs.Names.{one_text}
 use Rattle.unit_load.specs.declared.state.UnitState.{UnitState}
-use Rattle.unit_steps.proofs.OneChange.{same_volume}
+use Rattle.job_copies.proofs.unit_steps.OneChange.{same_volume}
 use Rattle.vtoc_core.specs.declared.volume.Volume.{Volume}
 use Rattle.move_core.specs.declared.steps.Step.{Step}
 use Rattle.move_core.specs.declared.steps.Step.TheVariants as steps

@@ -10,11 +10,11 @@ use Rattle.sysin_lang.specs.declared.command.Filter.{Filter}
 use Rattle.vol_label.specs.declared.serial.Serial.{Serial}
 use Rattle.volume_model.specs.Unit.{OnlineVolume, online}
 use Rattle.move_core.specs.declared.steps.Step.{Step}
-use Rattle.unit_steps.specs.Loaded.{AreModels}
-use Rattle.unit_session.specs.Sessions.{SessionView}
+use Rattle.job_copies.specs.unit_steps.Loaded.{AreModels}
+use Rattle.job_steps.specs.unit_session.Sessions.{SessionView}
 use Rattle.job_lines.specs.declared.message.Message.{Message}
 use Rattle.job_lines.specs.declared.message.Message.TheVariants as messages
-use Rattle.job_select.specs.Selection.{Selects}
+use Rattle.job_copies.specs.job_select.Selection.{Selects}
 use Rattle.job_steps.specs.declared.cut.Cut.{Cut}
 use Rattle.job_ops.specs.Asked.{IsUnitFor}
 use Rattle.job_ops.specs.Ends.{ForUnits, Ends}

@@ -21,14 +21,14 @@ use Rattle.vtoc_core.specs.declared.volume.Volume.{Volume}
 use Rattle.vtoc_core.specs.Loaded.{field_of}
 use Rattle.move_core.specs.Facts.{Facts}
 use Rattle.move_core.specs.Stands.{IsAfterSlide, IsSettled}
-use Rattle.unit_change.specs.Changed.{extents_of}
-use Rattle.unit_change.specs.Described.{Describes, DescribesSet}
+use Rattle.job_copies.specs.unit_change.Changed.{extents_of}
+use Rattle.job_copies.specs.unit_change.Described.{Describes, DescribesSet}
 use Rattle.unit_load.specs.declared.state.UnitState.{UnitState}
 use Rattle.unit_load.specs.declared.state.UnitState.TheVariants as states
 use Rattle.unit_load.specs.Kept.{IsKept}
-use Rattle.unit_steps.specs.Loaded.{IsModel}
-use Rattle.unit_steps.specs.Plans.{IsLoadedAt, HasRow}
-use Rattle.step_plans.specs.Plans.{IsSound}
+use Rattle.job_copies.specs.unit_steps.Loaded.{IsModel}
+use Rattle.job_copies.specs.unit_steps.Plans.{IsLoadedAt, HasRow}
+use Rattle.job_copies.specs.step_plans.Plans.{IsSound}
 use Rattle.job_ops.specs.declared.asking.Candidate.{Candidate}
 use Rattle.job_ops.specs.declared.task.Task.{Task}
 use Rattle.job_ops.specs.declared.task.Task.TheVariants as tasks

@@ -18,8 +18,8 @@ use Rattle.move_core.specs.Steps.{shrunk}
 use Rattle.move_core.proofs.Running.{run_less}
 use Rattle.vtoc_core.specs.declared.volume.Row.{Row}
 use Rattle.unit_load.specs.declared.state.UnitState.{UnitState}
-use Rattle.unit_steps.specs.Plans.{HasRow}
-use Rattle.unit_session.specs.Sessions.{SessionView, BrokenView, IsSameSession}
+use Rattle.job_copies.specs.unit_steps.Plans.{HasRow}
+use Rattle.job_steps.specs.unit_session.Sessions.{SessionView, BrokenView, IsSameSession}
 use Rattle.job_lines.specs.declared.message.Message.{Message}
 use Rattle.job_lines.specs.declared.message.Message.TheVariants as messages
 use Rattle.job_lines.specs.declared.message.Reason.{Reason}

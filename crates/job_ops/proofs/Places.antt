@@ -18,17 +18,17 @@ use Rattle.vtoc_core.specs.declared.volume.Row.{Row}
 use Rattle.vtoc_core.specs.declared.volume.Volume.{Volume}
 use Rattle.vtoc_core.specs.Loaded.{field_of}
 use Rattle.volume_change.proofs.Names.{one_text}
-use Rattle.vtoc_render.proofs.PlacedTakes.{heads_same}
-use Rattle.unit_change.specs.Described.{DescribesSet, Describes}
+use Rattle.job_copies.proofs.vtoc_render.PlacedTakes.{heads_same}
+use Rattle.job_copies.specs.unit_change.Described.{DescribesSet, Describes}
 use Rattle.unit_load.specs.declared.state.UnitState.{UnitState}
-use Rattle.unit_steps.specs.Plans.{IsLoadedAt, HasRow, extents_in}
-use Rattle.unit_steps.proofs.Blocks.{from_slots}
+use Rattle.job_copies.specs.unit_steps.Plans.{IsLoadedAt, HasRow, extents_in}
+use Rattle.job_copies.proofs.unit_steps.Blocks.{from_slots}
 use Rattle.plan_core.specs.Consolidate.{IsRowOf, IsSized, IsStepOf, IsPlaceFor, HasNoPlace}
-use Rattle.step_plans.specs.Plans.{IsSound, IsPlaceOn}
-use Rattle.step_plans.proofs.LoadedRows.{sound_row}
-use Rattle.step_plans.proofs.Fronts.{numbers_long}
-use Rattle.step_room.proofs.SoundRows.{one_row}
-use Rattle.job_select.proofs.Counts.{row_tracks_few}
+use Rattle.job_copies.specs.step_plans.Plans.{IsSound, IsPlaceOn}
+use Rattle.job_copies.proofs.step_plans.LoadedRows.{sound_row}
+use Rattle.job_copies.proofs.step_plans.Fronts.{numbers_long}
+use Rattle.job_copies.proofs.step_room.SoundRows.{one_row}
+use Rattle.job_copies.proofs.job_select.Counts.{row_tracks_few}
 use Rattle.job_ops.proofs.Looking.{one_volume}
 use Rattle.job_ops.proofs.ReshapeTargets.{described_by}
 use Rattle.job_ops.specs.Consolidate.{IsPlaceOf, LacksPlace}

@@ -11,10 +11,10 @@ use Rattle.move_core.specs.Facts.{Facts, shown}
 use Rattle.move_core.specs.Runs.{IsRun}
 use Rattle.move_core.specs.Stands.{IsSettled}
 use Rattle.move_core.proofs.Running.{run_then}
-use Rattle.unit_steps.specs.Plans.{PlansRepair}
-use Rattle.unit_session.specs.Sessions.{SessionView, IsSameSession}
-use Rattle.unit_session.specs.Planned.{PlannedView, IsFullFor}
-use Rattle.step_room.specs.Room.{IsFullFor as IsFull, LackingChangesAreFull, FittingChangesAreNotFull}
+use Rattle.job_copies.specs.unit_steps.Plans.{PlansRepair}
+use Rattle.job_steps.specs.unit_session.Sessions.{SessionView, IsSameSession}
+use Rattle.job_steps.specs.unit_session.Planned.{PlannedView, IsFullFor}
+use Rattle.job_copies.specs.step_room.Room.{IsFullFor as IsFull, LackingChangesAreFull, FittingChangesAreNotFull}
 use Rattle.job_steps.specs.declared.cut.Cut.{Cut}
 use Rattle.job_steps.specs.declared.cut.Cut.TheVariants as cuts
 use Rattle.job_steps.specs.Carried.{pending_cut, IsCutBefore, IsCutIn, AreAfter, HaveNext}

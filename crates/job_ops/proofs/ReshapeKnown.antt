@@ -5,16 +5,16 @@ use Rattle.std.proofs.lemmas.Option.{same_Some}
 use Rattle.dasd_pool.specs.declared.pool.Pool.{Ghosts}
 use Rattle.volume_model.specs.Unit.{OnlineVolume, UnitModel, online}
 use Rattle.vtoc_core.specs.declared.volume.Volume.{Volume}
-use Rattle.unit_change.specs.Described.{Describes}
+use Rattle.job_copies.specs.unit_change.Described.{Describes}
 use Rattle.unit_load.specs.declared.state.UnitState.{UnitState}
 use Rattle.unit_load.specs.declared.state.UnitState.TheVariants.{Online}
 use Rattle.unit_load.specs.Kept.{IsKept}
 use Rattle.move_core.specs.Facts.{Facts}
 use Rattle.move_core.specs.Stands.{IsSettled}
-use Rattle.unit_steps.specs.Loaded.{IsModel}
-use Rattle.unit_steps.specs.Plans.{IsLoadedAt}
-use Rattle.unit_session.specs.Sessions.{SessionView}
-use Rattle.step_plans.specs.Plans.{IsSound}
+use Rattle.job_copies.specs.unit_steps.Loaded.{IsModel}
+use Rattle.job_copies.specs.unit_steps.Plans.{IsLoadedAt}
+use Rattle.job_steps.specs.unit_session.Sessions.{SessionView}
+use Rattle.job_copies.specs.step_plans.Plans.{IsSound}
 use Rattle.job_ops.specs.Setting.{facts_of}
 use Rattle.job_ops.specs.Reshaping.{IsKnown}
 

@@ -11,11 +11,11 @@ use Rattle.move_core.specs.declared.steps.Step.TheVariants as steps
 use Rattle.move_core.specs.Facts.{shown}
 use Rattle.move_core.specs.Runs.{IsRun, moves_of}
 use Rattle.move_core.proofs.Running.{run_then, run_halted}
-use Rattle.unit_steps.specs.declared.plan.Plan.{Plan}
-use Rattle.unit_steps.specs.Plans.{IsPlan}
-use Rattle.unit_session.specs.Sessions.{SessionView, IsSameSession}
-use Rattle.unit_session.specs.Planned.{PlannedView, IsFullFor}
-use Rattle.step_room.specs.Room.{RepairsKeepRoomForExtents}
+use Rattle.job_copies.specs.unit_steps.declared.plan.Plan.{Plan}
+use Rattle.job_copies.specs.unit_steps.Plans.{IsPlan}
+use Rattle.job_steps.specs.unit_session.Sessions.{SessionView, IsSameSession}
+use Rattle.job_steps.specs.unit_session.Planned.{PlannedView, IsFullFor}
+use Rattle.job_copies.specs.step_room.Room.{RepairsKeepRoomForExtents}
 use Rattle.job_steps.specs.declared.cut.Cut.{Cut}
 use Rattle.job_steps.specs.declared.steps.Attempt.{Attempt}
 use Rattle.job_steps.specs.declared.steps.Attempt.TheVariants as attempts

@@ -15,13 +15,13 @@ use Rattle.move_core.specs.declared.steps.Step.TheVariants as steps
 use Rattle.move_core.specs.Facts.{shown}
 use Rattle.move_core.specs.Runs.{IsRun}
 use Rattle.move_core.proofs.Running.{run_idle}
-use Rattle.unit_steps.specs.declared.plan.Plan.{Plan}
-use Rattle.unit_steps.specs.Plans.{IsLoadedAt, HasRow, tracks_in}
-use Rattle.unit_steps.proofs.OneChange.{same_volume}
-use Rattle.unit_session.specs.Sessions.{SessionView}
-use Rattle.unit_session.specs.Planned.{MayBegin, IsIndexed, IsLong}
-use Rattle.step_plans.specs.Plans.{IsPlanFor, IsJoinPlan, IsWhole, HasNone, HasManyExtents, HasFewTracks}
-use Rattle.step_room.proofs.SoundRows.{one_row}
+use Rattle.job_copies.specs.unit_steps.declared.plan.Plan.{Plan}
+use Rattle.job_copies.specs.unit_steps.Plans.{IsLoadedAt, HasRow, tracks_in}
+use Rattle.job_copies.proofs.unit_steps.OneChange.{same_volume}
+use Rattle.job_steps.specs.unit_session.Sessions.{SessionView}
+use Rattle.job_steps.specs.unit_session.Planned.{MayBegin, IsIndexed, IsLong}
+use Rattle.job_copies.specs.step_plans.Plans.{IsPlanFor, IsJoinPlan, IsWhole, HasNone, HasManyExtents, HasFewTracks}
+use Rattle.job_copies.proofs.step_room.SoundRows.{one_row}
 use Rattle.job_steps.specs.declared.cut.Cut.{Cut}
 use Rattle.job_steps.specs.declared.cut.Cut.TheVariants as cuts
 use Rattle.job_steps.specs.declared.steps.Attempt.{Attempt}

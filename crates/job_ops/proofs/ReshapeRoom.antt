@@ -7,14 +7,14 @@ use Rattle.vtoc_core.specs.declared.volume.Volume.{Volume}
 use Rattle.vtoc_layout.proofs.Distinct.{first_or_later, in_none, in_middle}
 use Rattle.volume_change.specs.declared.change.Change.{Change}
 use Rattle.volume_change.specs.declared.change.Change.TheVariants.{Repair, Swap, Mark}
-use Rattle.vtoc_render.specs.Next.{IsNext}
-use Rattle.unit_change.specs.Described.{Describes}
+use Rattle.job_copies.specs.vtoc_render.Next.{IsNext}
+use Rattle.job_copies.specs.unit_change.Described.{Describes}
 use Rattle.unit_load.specs.declared.state.UnitState.{UnitState}
-use Rattle.unit_steps.specs.Plans.{IsLoadedAt, PlansRepair}
-use Rattle.unit_steps.proofs.OneChange.{same_volume}
-use Rattle.unit_session.specs.Planned.{IsFullFor}
-use Rattle.step_plans.specs.Plans.{IsSound}
-use Rattle.step_room.specs.Room.{IsFullFor as IsFull, LacksRoom, AreTaken, LackingChangesAreFull, FittingChangesAreNotFull}
+use Rattle.job_copies.specs.unit_steps.Plans.{IsLoadedAt, PlansRepair}
+use Rattle.job_copies.proofs.unit_steps.OneChange.{same_volume}
+use Rattle.job_steps.specs.unit_session.Planned.{IsFullFor}
+use Rattle.job_copies.specs.step_plans.Plans.{IsSound}
+use Rattle.job_copies.specs.step_room.Room.{IsFullFor as IsFull, LacksRoom, AreTaken, LackingChangesAreFull, FittingChangesAreNotFull}
 use Rattle.job_steps.specs.Carried.{HaveNext}
 use Rattle.job_ops.specs.declared.reshaping.Reshape.{Reshape}
 use Rattle.job_ops.proofs.ReshapeTargets.{PlansReshape, texts_to, no_mark, put, taken, put_is}

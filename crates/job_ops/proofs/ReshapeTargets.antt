@@ -15,14 +15,14 @@ use Rattle.vtoc_layout.proofs.Distinct.{first_or_later, at_first, in_later, in_n
 use Rattle.volume_change.specs.declared.change.Change.{Change}
 use Rattle.volume_change.specs.declared.change.Change.TheVariants.{Swap, Mark}
 use Rattle.volume_change.proofs.Names.{one_text}
-use Rattle.unit_change.specs.Changed.{sets_put}
-use Rattle.unit_change.specs.Described.{DescribesSet, DescribesSets, Describes}
+use Rattle.job_copies.specs.unit_change.Changed.{sets_put}
+use Rattle.job_copies.specs.unit_change.Described.{DescribesSet, DescribesSets, Describes}
 use Rattle.unit_load.specs.declared.state.UnitState.{UnitState}
 use Rattle.move_core.specs.Steps.{IsNewKind, JoinsExtents, cut, extents_on, moved}
-use Rattle.unit_steps.specs.Plans.{HasRow, SwapsRow, IsRowWith, extents_in}
-use Rattle.step_plans.specs.Plans.{IsSound}
-use Rattle.step_room.specs.Room.{AreTaken}
-use Rattle.step_room.proofs.SoundRows.{one_row}
+use Rattle.job_copies.specs.unit_steps.Plans.{HasRow, SwapsRow, IsRowWith, extents_in}
+use Rattle.job_copies.specs.step_plans.Plans.{IsSound}
+use Rattle.job_copies.specs.step_room.Room.{AreTaken}
+use Rattle.job_copies.proofs.step_room.SoundRows.{one_row}
 use Rattle.job_ops.specs.declared.reshaping.Layout.{Layout}
 use Rattle.job_ops.specs.declared.reshaping.Layout.TheVariants as layouts
 use Rattle.job_ops.specs.declared.reshaping.Reshape.{Reshape}

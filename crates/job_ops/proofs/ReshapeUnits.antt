@@ -21,22 +21,22 @@ use Rattle.vtoc_layout.proofs.Distinct.{in_map, from_map}
 use Rattle.volume_change.specs.declared.change.Change.{Change}
 use Rattle.volume_change.specs.declared.change.Change.TheVariants.{Repair, Swap}
 use Rattle.volume_change.proofs.Names.{one_text}
-use Rattle.vtoc_render.specs.Next.{IsNext, IsChanged, runs_of_rows}
-use Rattle.unit_change.specs.Changed.{extents_of}
+use Rattle.job_copies.specs.vtoc_render.Next.{IsNext, IsChanged, runs_of_rows}
+use Rattle.job_copies.specs.unit_change.Changed.{extents_of}
 use Rattle.unit_load.specs.declared.state.UnitState.{UnitState}
 use Rattle.unit_load.specs.declared.state.UnitState.TheVariants.{Online}
 use Rattle.move_core.specs.declared.steps.Step.{Step}
 use Rattle.move_core.specs.declared.steps.Step.TheVariants as steps
 use Rattle.move_core.specs.Steps.{KeepsExtents, JoinsExtents, cut}
 use Rattle.plan_core.specs.Consolidate.{IsStepOf}
-use Rattle.unit_steps.specs.declared.plan.Plan.{Plan}
-use Rattle.unit_steps.specs.declared.plan.Tracks.TheVariants as texts
-use Rattle.unit_steps.specs.Plans.{IsLoadedAt, HasRow, Plans, PlansMove, PlansShrink, PlansRepair, IsPlan, extents_in}
-use Rattle.unit_steps.proofs.OneChange.{same_volume}
-use Rattle.unit_session.specs.Planned.{IsFullFor}
-use Rattle.step_plans.specs.Plans.{IsSound}
-use Rattle.step_room.specs.Room.{LacksRoom, RepairsKeepRoomForExtents}
-use Rattle.step_room.proofs.SoundRows.{named, one_row}
+use Rattle.job_copies.specs.unit_steps.declared.plan.Plan.{Plan}
+use Rattle.job_copies.specs.unit_steps.declared.plan.Tracks.TheVariants as texts
+use Rattle.job_copies.specs.unit_steps.Plans.{IsLoadedAt, HasRow, Plans, PlansMove, PlansShrink, PlansRepair, IsPlan, extents_in}
+use Rattle.job_copies.proofs.unit_steps.OneChange.{same_volume}
+use Rattle.job_steps.specs.unit_session.Planned.{IsFullFor}
+use Rattle.job_copies.specs.step_plans.Plans.{IsSound}
+use Rattle.job_copies.specs.step_room.Room.{LacksRoom, RepairsKeepRoomForExtents}
+use Rattle.job_copies.proofs.step_room.SoundRows.{named, one_row}
 use Rattle.job_steps.specs.Carried.{IsUnitAfter, AreUnitsAfter}
 use Rattle.job_ops.specs.declared.reshaping.Layout.{Layout}
 use Rattle.job_ops.specs.declared.reshaping.Layout.TheVariants as layouts

@@ -10,7 +10,7 @@ use Rattle.move_core.specs.Facts.{Facts, shown}
 use Rattle.move_core.specs.Runs.{IsRun}
 use Rattle.move_core.specs.Stands.{IsSettled}
 use Rattle.move_core.proofs.Running.{run_idle, run_then}
-use Rattle.unit_session.specs.Sessions.{SessionView, IsSameSession}
+use Rattle.job_steps.specs.unit_session.Sessions.{SessionView, IsSameSession}
 use Rattle.job_lines.specs.declared.message.Message.{Message}
 use Rattle.job_steps.specs.declared.cut.Cut.{Cut}
 use Rattle.job_steps.specs.declared.cut.Cut.TheVariants as cuts

@@ -9,11 +9,11 @@ use Rattle.vtoc_core.specs.declared.volume.Row.{Row}
 use Rattle.vtoc_core.specs.declared.volume.Volume.{Volume}
 use Rattle.vtoc_layout.specs.Layout.{AreDistinct}
 use Rattle.vtoc_layout.proofs.Distinct.{first_or_later, at_first, in_later, in_none}
-use Rattle.unit_change.specs.Described.{Describes, DescribesSet, DescribesSets}
-use Rattle.unit_steps.specs.Plans.{HasRow}
-use Rattle.unit_steps.proofs.Lists.{one_by}
-use Rattle.step_plans.specs.Plans.{IsSound}
-use Rattle.step_room.proofs.SoundRows.{named, names_differ, one_row}
+use Rattle.job_copies.specs.unit_change.Described.{Describes, DescribesSet, DescribesSets}
+use Rattle.job_copies.specs.unit_steps.Plans.{HasRow}
+use Rattle.job_copies.proofs.unit_steps.Lists.{one_by}
+use Rattle.job_copies.specs.step_plans.Plans.{IsSound}
+use Rattle.job_copies.proofs.step_room.SoundRows.{named, names_differ, one_row}
 
 module _ (heads : ℕ) where
   -- each row has a data set, and each data set a row

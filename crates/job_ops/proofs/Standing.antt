@@ -9,11 +9,11 @@ use Rattle.vol_label.specs.declared.serial.Serial.{Serial}
 use Rattle.volume_model.specs.declared.why.Why.{Why}
 use Rattle.volume_model.specs.Unit.{OnlineVolume, UnitModel, online}
 use Rattle.vtoc_core.specs.declared.volume.Volume.{Volume}
-use Rattle.unit_change.specs.Described.{Describes}
+use Rattle.job_copies.specs.unit_change.Described.{Describes}
 use Rattle.unit_load.specs.declared.state.UnitState.{UnitState}
 use Rattle.unit_load.specs.declared.state.UnitState.TheVariants as loads
-use Rattle.unit_steps.specs.Loaded.{IsModel, AreModels}
-use Rattle.unit_steps.specs.Plans.{IsLoadedAt}
+use Rattle.job_copies.specs.unit_steps.Loaded.{IsModel, AreModels}
+use Rattle.job_copies.specs.unit_steps.Plans.{IsLoadedAt}
 use Rattle.job_lines.specs.declared.message.Message.{Message}
 use Rattle.job_lines.specs.declared.message.Message.TheVariants as messages
 use Rattle.job_ops.specs.declared.units.UnitUse.{UnitUse}

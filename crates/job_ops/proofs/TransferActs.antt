@@ -10,12 +10,12 @@ use Rattle.vtoc_core.specs.declared.volume.Volume.{Volume}
 use Rattle.volume_change.specs.declared.change.Change.{Change}
 use Rattle.volume_change.specs.declared.change.Change.TheVariants.{Repair, Remove}
 use Rattle.vtoc_layout.proofs.Distinct.{first_or_later, in_none, in_front, in_back, in_middle, at_first, or_other, among_others}
-use Rattle.vtoc_render.specs.Next.{IsNext, IsChanged}
+use Rattle.job_copies.specs.vtoc_render.Next.{IsNext, IsChanged}
 use Rattle.unit_load.specs.declared.state.UnitState.{UnitState}
-use Rattle.unit_steps.specs.Plans.{IsLoadedAt, HasRow, PlansDelete, putting}
-use Rattle.unit_steps.proofs.OneChange.{same_volume}
-use Rattle.step_room.specs.Room.{LacksRoom, AlikeChangesHaveRoom, RemovalsHaveRoom}
-use Rattle.job_select.proofs.OneName.{one_named}
+use Rattle.job_copies.specs.unit_steps.Plans.{IsLoadedAt, HasRow, PlansDelete, putting}
+use Rattle.job_copies.proofs.unit_steps.OneChange.{same_volume}
+use Rattle.job_copies.specs.step_room.Room.{LacksRoom, AlikeChangesHaveRoom, RemovalsHaveRoom}
+use Rattle.job_copies.proofs.job_select.OneName.{one_named}
 use Rattle.job_steps.specs.Carried.{IsUnitAfter}
 use Rattle.job_ops.specs.declared.transfer.Transfer.{Transfer}
 use Rattle.job_ops.specs.declared.transfer.Act.{Act}

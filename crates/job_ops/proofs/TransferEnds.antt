@@ -10,8 +10,8 @@ use Rattle.move_core.specs.Facts.{shown}
 use Rattle.move_core.specs.Runs.{IsRun}
 use Rattle.move_core.proofs.Running.{run_idle, run_then, run_halted}
 use Rattle.vtoc_layout.proofs.Distinct.{first_or_later, in_none, at_first}
-use Rattle.unit_session.specs.Sessions.{SessionView, IsSameSession}
-use Rattle.unit_session.specs.Planned.{PlannedView}
+use Rattle.job_steps.specs.unit_session.Sessions.{SessionView, IsSameSession}
+use Rattle.job_steps.specs.unit_session.Planned.{PlannedView}
 use Rattle.job_steps.specs.declared.cut.Cut.{Cut}
 use Rattle.job_steps.specs.declared.cut.Cut.TheVariants as cuts
 use Rattle.job_steps.specs.Carried.{IsCutBefore}

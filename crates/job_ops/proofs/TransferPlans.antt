@@ -8,17 +8,17 @@ use Rattle.vtoc_core.specs.declared.volume.Volume.{Volume}
 use Rattle.volume_change.specs.declared.change.Change.{Change}
 use Rattle.volume_change.specs.declared.change.Change.TheVariants.{Repair, Remove}
 use Rattle.volume_change.proofs.Names.{one_text}
-use Rattle.vtoc_render.specs.Next.{MayChange}
+use Rattle.job_copies.specs.vtoc_render.Next.{MayChange}
 use Rattle.unit_load.specs.declared.state.UnitState.{UnitState}
 use Rattle.move_core.specs.declared.steps.Step.{Step}
 use Rattle.move_core.specs.declared.steps.Step.TheVariants as steps
-use Rattle.unit_steps.specs.declared.plan.Plan.{Plan}
-use Rattle.unit_steps.specs.declared.plan.Tracks.TheVariants as texts
-use Rattle.unit_steps.specs.Plans.{IsLoadedAt, HasRow, Plans, PlansCopy, PlansPut, PlansCarry, PlansDelete, PlansRepair, IsPlan}
-use Rattle.unit_steps.proofs.OneChange.{same_volume}
-use Rattle.unit_session.specs.Planned.{MayBegin, IsIndexed, IsLong}
-use Rattle.step_plans.specs.Plans.{IsPlanFor, IsPlanForBoth, HasNone, HasManyExtents, IsInTheWay, IsClear}
-use Rattle.step_room.proofs.SoundRows.{one_row}
+use Rattle.job_copies.specs.unit_steps.declared.plan.Plan.{Plan}
+use Rattle.job_copies.specs.unit_steps.declared.plan.Tracks.TheVariants as texts
+use Rattle.job_copies.specs.unit_steps.Plans.{IsLoadedAt, HasRow, Plans, PlansCopy, PlansPut, PlansCarry, PlansDelete, PlansRepair, IsPlan}
+use Rattle.job_copies.proofs.unit_steps.OneChange.{same_volume}
+use Rattle.job_steps.specs.unit_session.Planned.{MayBegin, IsIndexed, IsLong}
+use Rattle.job_copies.specs.step_plans.Plans.{IsPlanFor, IsPlanForBoth, HasNone, HasManyExtents, IsInTheWay, IsClear}
+use Rattle.job_copies.proofs.step_room.SoundRows.{one_row}
 use Rattle.job_ops.specs.declared.transfer.Transfer.{Transfer}
 use Rattle.job_ops.specs.declared.transfer.Act.TheVariants as acts
 use Rattle.job_ops.specs.Asked.{MayBeChanged}
@@ -176,11 +176,11 @@ module _ {room : ℕ} {units : List UnitState} {transfer : Transfer} (may : MayT
         one_row may.source may.source_sound row may.row there.there may.row_is.there (one_text transfer.from.name row.name may.row.name there.name_is may.row_is.name_is)
 
     pub places_here : (target : Volume) → IsLoadedAt units transfer.to.unit target → (row : Row) → HasRow source transfer.from.name row
-        → Rattle.step_plans.specs.Plans.ArePlacesOn source row target transfer.runs
+        → Rattle.job_copies.specs.step_plans.Plans.ArePlacesOn source row target transfer.runs
     places_here target there row has =
-        subst (λ (v : Volume). Rattle.step_plans.specs.Plans.ArePlacesOn v row target transfer.runs) (sym same_source)
-        (subst (λ (v : Volume). Rattle.step_plans.specs.Plans.ArePlacesOn may.source row v transfer.runs) (sym (same_volume units transfer.to.unit target may.target.volume there may.target.loaded))
-        (subst (λ (r : Row). Rattle.step_plans.specs.Plans.ArePlacesOn may.source r may.target.volume transfer.runs) (sym (one_of row has)) may.places))
+        subst (λ (v : Volume). Rattle.job_copies.specs.step_plans.Plans.ArePlacesOn v row target transfer.runs) (sym same_source)
+        (subst (λ (v : Volume). Rattle.job_copies.specs.step_plans.Plans.ArePlacesOn may.source row v transfer.runs) (sym (same_volume units transfer.to.unit target may.target.volume there may.target.loaded))
+        (subst (λ (r : Row). Rattle.job_copies.specs.step_plans.Plans.ArePlacesOn may.source r may.target.volume transfer.runs) (sym (one_of row has)) may.places))
 
     not_none : ¬ HasNone source transfer.from.name
     not_none none = none may.row (subst (λ (v : Volume). HasRow v transfer.from.name may.row) (sym same_source) may.row_is)

@@ -18,20 +18,20 @@ use Rattle.volume_change.specs.declared.change.Change.{Change}
 use Rattle.volume_change.specs.declared.change.Change.TheVariants.{Repair, Remove}
 use Rattle.volume_change.proofs.Names.{one_text}
 use Rattle.vtoc_layout.proofs.Distinct.{first_or_later, in_none, in_middle}
-use Rattle.vtoc_render.specs.Next.{IsNext, IsChanged, runs_of_rows}
-use Rattle.unit_change.specs.Changed.{extents_of}
+use Rattle.job_copies.specs.vtoc_render.Next.{IsNext, IsChanged, runs_of_rows}
+use Rattle.job_copies.specs.unit_change.Changed.{extents_of}
 use Rattle.unit_load.specs.declared.state.UnitState.{UnitState}
 use Rattle.unit_load.specs.declared.state.UnitState.TheVariants.{Online}
 use Rattle.move_core.specs.declared.steps.Step.TheVariants as steps
 use Rattle.move_core.specs.Steps.{IsNewKind, extents_on}
 use Rattle.plan_core.specs.Consolidate.{IsStepOf}
-use Rattle.unit_steps.specs.declared.plan.Plan.{Plan}
-use Rattle.unit_steps.specs.Plans.{IsLoadedAt, HasRow, PlansCopy, IsPlan, putting, extents_in}
-use Rattle.unit_steps.proofs.OneChange.{same_volume}
-use Rattle.unit_session.specs.Planned.{IsFullFor}
-use Rattle.step_plans.specs.Plans.{IsSound, ArePlacesOn, IsClear}
-use Rattle.step_room.specs.Room.{LacksRoom, AreAlike, IsAsBefore, AlikeChangesHaveRoom}
-use Rattle.step_room.proofs.Repairs.{as_it_was}
+use Rattle.job_copies.specs.unit_steps.declared.plan.Plan.{Plan}
+use Rattle.job_copies.specs.unit_steps.Plans.{IsLoadedAt, HasRow, PlansCopy, IsPlan, putting, extents_in}
+use Rattle.job_copies.proofs.unit_steps.OneChange.{same_volume}
+use Rattle.job_steps.specs.unit_session.Planned.{IsFullFor}
+use Rattle.job_copies.specs.step_plans.Plans.{IsSound, ArePlacesOn, IsClear}
+use Rattle.job_copies.specs.step_room.Room.{LacksRoom, AreAlike, IsAsBefore, AlikeChangesHaveRoom}
+use Rattle.job_copies.proofs.step_room.Repairs.{as_it_was}
 use Rattle.job_steps.specs.Carried.{IsUnitAfter, HaveNext}
 use Rattle.job_ops.specs.declared.transfer.Transfer.{Transfer}
 use Rattle.job_ops.specs.declared.transfer.Act.TheVariants as acts
@@ -266,14 +266,14 @@ module _ {room : ℕ} {first units : List UnitState} {transfer : Transfer} {bega
     old_was : fitted.old ≡ began.row
     old_was =
         let there : HasRow began.source transfer.from.name fitted.old = subst (λ (v : Volume). HasRow v transfer.from.name fitted.old) source_was fitted.old_is in
-        Rattle.step_room.proofs.SoundRows.one_row began.source began.source_sound fitted.old began.row there.there began.row_is.there
+        Rattle.job_copies.proofs.step_room.SoundRows.one_row began.source began.source_sound fitted.old began.row there.there began.row_is.there
         (one_text transfer.from.name fitted.old.name began.row.name there.name_is began.row_is.name_is)
 
     old_is : copy.old ≡ began.row
     old_is =
         let rows = (kept ready.source).rows_are in
         let has : HasRow ready.may.source transfer.from.name copy.old = subst (λ (v : Volume). HasRow v transfer.from.name copy.old) source_is copy.old_is in
-        Rattle.step_room.proofs.SoundRows.one_row began.source began.source_sound copy.old began.row (subst (λ (list : List Row). Contains list copy.old) rows has.there) began.row_is.there
+        Rattle.job_copies.proofs.step_room.SoundRows.one_row began.source began.source_sound copy.old began.row (subst (λ (list : List Row). Contains list copy.old) rows has.there) began.row_is.there
         (one_text transfer.from.name copy.old.name began.row.name has.name_is began.row_is.name_is)
 
     devices : copy.source.device ≡ fitted.source.device

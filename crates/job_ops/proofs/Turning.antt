@@ -11,7 +11,7 @@ use Rattle.move_core.specs.Runs.{EndsSettled}
 use Rattle.move_core.specs.Stands.{IsSettled}
 use Rattle.move_core.specs.Steps.{Reaches}
 use Rattle.move_core.proofs.Running.{run_idle, run_then}
-use Rattle.unit_session.specs.Sessions.{SessionView}
+use Rattle.job_steps.specs.unit_session.Sessions.{SessionView}
 use Rattle.job_lines.specs.declared.message.Message.{Message}
 use Rattle.job_steps.specs.declared.cut.Cut.{Cut}
 use Rattle.job_steps.specs.Carried.{pending_cut}

@@ -7,7 +7,7 @@ use Rattle.volume_model.specs.declared.why.Why.{Why}
 use Rattle.vtoc_core.specs.declared.volume.Volume.{Volume}
 use Rattle.unit_load.specs.declared.state.UnitState.{UnitState}
 use Rattle.unit_load.specs.declared.state.UnitState.TheVariants as loads
-use Rattle.unit_steps.specs.Plans.{IsLoadedAt}
+use Rattle.job_copies.specs.unit_steps.Plans.{IsLoadedAt}
 use Rattle.job_lines.specs.declared.message.Message.{Message}
 use Rattle.job_lines.specs.declared.message.Message.TheVariants as messages
 use Rattle.job_ops.specs.declared.units.UnitUse.{UnitUse}

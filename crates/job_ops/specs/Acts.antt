@@ -10,12 +10,12 @@ use Rattle.move_core.specs.declared.steps.Step.{Step}
 use Rattle.move_core.specs.declared.steps.Step.TheVariants as steps
 use Rattle.move_core.specs.Facts.{shown}
 use Rattle.move_core.specs.Runs.{IsRun, moves_of}
-use Rattle.unit_steps.specs.declared.plan.Plan.{Plan}
-use Rattle.unit_steps.specs.Plans.{IsLoadedAt, HasRow, IsPlan}
-use Rattle.unit_session.specs.Sessions.{SessionView, IsSameSession}
-use Rattle.unit_session.specs.Planned.{IsFullFor}
-use Rattle.step_plans.specs.declared.copies.SetCopy.{SetCopy}
-use Rattle.step_plans.specs.Plans.{IsSound, ArePlacesOn, IsClear}
+use Rattle.job_copies.specs.unit_steps.declared.plan.Plan.{Plan}
+use Rattle.job_copies.specs.unit_steps.Plans.{IsLoadedAt, HasRow, IsPlan}
+use Rattle.job_steps.specs.unit_session.Sessions.{SessionView, IsSameSession}
+use Rattle.job_steps.specs.unit_session.Planned.{IsFullFor}
+use Rattle.job_copies.specs.step_plans.declared.copies.SetCopy.{SetCopy}
+use Rattle.job_copies.specs.step_plans.Plans.{IsSound, ArePlacesOn, IsClear}
 use Rattle.job_steps.specs.declared.cut.Cut.{Cut}
 use Rattle.job_steps.specs.Carried.{pool_cut, pending_cut, IsShort, pool_left, pending_left, Continues, HaveNext, AreUnitsAfter, IsCutBefore}
 use Rattle.job_ops.specs.declared.transfer.Transfer.{Transfer}

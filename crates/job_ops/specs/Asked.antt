@@ -8,11 +8,11 @@ use Rattle.volume_model.specs.Pinned.{IsNameOf, kept_tracks}
 use Rattle.volume_model.specs.Unit.{DataSet, OnlineVolume, UnitModel, online}
 use Rattle.vtoc_core.specs.declared.volume.Row.{Row}
 use Rattle.vtoc_core.specs.declared.volume.Volume.{Volume}
-use Rattle.unit_change.specs.Described.{DescribesSet}
+use Rattle.job_copies.specs.unit_change.Described.{DescribesSet}
 use Rattle.unit_load.specs.declared.state.UnitState.{UnitState}
-use Rattle.unit_steps.specs.Plans.{IsLoadedAt, HasRow, tracks_in}
+use Rattle.job_copies.specs.unit_steps.Plans.{IsLoadedAt, HasRow, tracks_in}
 use Rattle.move_core.specs.Stands.{IsGood}
-use Rattle.step_plans.specs.Plans.{IsSound}
+use Rattle.job_copies.specs.step_plans.Plans.{IsSound}
 use Rattle.job_ops.specs.declared.asking.Candidate.{Candidate}
 use Rattle.job_ops.specs.declared.task.Task.{Task}
 use Rattle.job_ops.specs.declared.units.UnitUse.{UnitUse}

@@ -17,14 +17,14 @@ use Rattle.move_core.specs.declared.steps.Step.{Step}
 use Rattle.move_core.specs.declared.steps.Step.TheVariants as steps
 use Rattle.move_core.specs.Stands.{IsGood}
 use Rattle.move_core.specs.Steps.{IsCopy}
-use Rattle.step_room.specs.Room.{IsFullFor}
+use Rattle.job_copies.specs.step_room.Room.{IsFullFor}
 use Rattle.job_lines.specs.declared.message.Message.{Message}
 use Rattle.job_lines.specs.declared.message.Message.TheVariants as messages
 use Rattle.job_lines.specs.declared.message.Reason.{Reason}
 use Rattle.job_lines.specs.declared.message.Reason.TheVariants as reasons
 use Rattle.job_lines.specs.declared.severity.Severity.TheVariants as severities
 use Rattle.job_lines.specs.Order.{IsReason, HasNoReason}
-use Rattle.job_select.specs.Selection.{Selects}
+use Rattle.job_copies.specs.job_select.Selection.{Selects}
 use Rattle.job_copies.specs.declared.wish.Wish.{Wish}
 use Rattle.job_copies.specs.Case.{Case, Replaces, ReplacesSome}
 use Rattle.job_copies.specs.Places.{ArePlacesFor, HasNoPlaces}

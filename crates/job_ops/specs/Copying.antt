@@ -8,9 +8,9 @@ use Rattle.vtoc_core.specs.declared.volume.Row.{Row}
 use Rattle.vtoc_core.specs.declared.volume.Volume.{Volume}
 use Rattle.unit_load.specs.declared.state.UnitState.{UnitState}
 use Rattle.unit_load.specs.declared.state.UnitState.TheVariants as states
-use Rattle.unit_steps.specs.Plans.{IsLoadedAt, HasRow}
+use Rattle.job_copies.specs.unit_steps.Plans.{IsLoadedAt, HasRow}
 use Rattle.move_core.specs.Stands.{IsGood}
-use Rattle.step_plans.specs.Plans.{ArePlacesOn, IsClear}
+use Rattle.job_copies.specs.step_plans.Plans.{ArePlacesOn, IsClear}
 use Rattle.job_lines.specs.declared.message.Message.{Message}
 use Rattle.job_lines.specs.declared.message.Message.TheVariants as messages
 use Rattle.job_lines.specs.Order.{IsFirst}

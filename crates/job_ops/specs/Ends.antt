@@ -11,7 +11,7 @@ use Rattle.move_core.specs.declared.steps.Step.{Step}
 use Rattle.move_core.specs.Facts.{shown}
 use Rattle.move_core.specs.Runs.{IsRun}
 use Rattle.move_core.specs.Stands.{IsSettled}
-use Rattle.unit_session.specs.Sessions.{SessionView}
+use Rattle.job_steps.specs.unit_session.Sessions.{SessionView}
 use Rattle.job_steps.specs.declared.cut.Cut.{Cut}
 use Rattle.job_steps.specs.declared.cut.Cut.TheVariants as cuts
 use Rattle.job_steps.specs.Carried.{pool_left, pending_left, pending_cut, Continues}

@@ -1,3 +1,4 @@
+pub use Rattle.job_steps.specs.unit_session as unit_session
 pub mod Setting
 pub mod Refusal
 pub mod Reasons

@@ -6,18 +6,18 @@ use Rattle.volume_model.specs.Pinned.{IsNameOf}
 use Rattle.volume_model.specs.Unit.{Extent, DataSet, OnlineVolume, UnitModel, online}
 use Rattle.vtoc_core.specs.declared.volume.Row.{Row}
 use Rattle.vtoc_core.specs.declared.volume.Volume.{Volume}
-use Rattle.unit_change.specs.Described.{Describes}
+use Rattle.job_copies.specs.unit_change.Described.{Describes}
 use Rattle.unit_load.specs.declared.state.UnitState.{UnitState}
 use Rattle.move_core.specs.declared.steps.Step.{Step}
 use Rattle.move_core.specs.declared.steps.Step.TheVariants as steps
 use Rattle.move_core.specs.Facts.{shown}
 use Rattle.move_core.specs.Runs.{IsRun, moves_of}
 use Rattle.move_core.specs.Steps.{JoinsExtents, moved, shrunk}
-use Rattle.unit_steps.specs.declared.plan.Plan.{Plan}
-use Rattle.unit_steps.specs.Plans.{IsLoadedAt, HasRow, IsPlan, tracks_in}
-use Rattle.unit_session.specs.Sessions.{SessionView, IsSameSession}
-use Rattle.unit_session.specs.Planned.{MayBegin}
-use Rattle.step_plans.specs.Plans.{IsSound, IsPlaceOn}
+use Rattle.job_copies.specs.unit_steps.declared.plan.Plan.{Plan}
+use Rattle.job_copies.specs.unit_steps.Plans.{IsLoadedAt, HasRow, IsPlan, tracks_in}
+use Rattle.job_steps.specs.unit_session.Sessions.{SessionView, IsSameSession}
+use Rattle.job_steps.specs.unit_session.Planned.{MayBegin}
+use Rattle.job_copies.specs.step_plans.Plans.{IsSound, IsPlaceOn}
 use Rattle.job_steps.specs.declared.cut.Cut.{Cut}
 use Rattle.job_steps.specs.declared.cut.Cut.TheVariants as cuts
 use Rattle.job_steps.specs.declared.steps.Attempt.{Attempt}

@@ -11,7 +11,7 @@ use Rattle.job_lines.specs.declared.message.Message.{Message}
 use Rattle.job_lines.specs.declared.message.Message.TheVariants as messages
 use Rattle.job_lines.specs.declared.message.Reason.{Reason}
 use Rattle.job_lines.specs.declared.severity.Severity.{Severity}
-use Rattle.job_select.specs.Selection.{Selects}
+use Rattle.job_copies.specs.job_select.Selection.{Selects}
 use Rattle.job_ops.specs.declared.units.UnitUse.{UnitUse}
 use Rattle.job_lines.specs.Order.{IsReason, HasNoReason}
 use Rattle.job_ops.specs.Refusal.{IsUnitOf, standing_of, Refuses, Lets}

@@ -4,7 +4,7 @@ use Rattle.by_rules.specs.declared.day.Day.{Day}
 use Rattle.dasd_pool.specs.declared.pool.Pool.{Ghosts}
 use Rattle.enq_table.specs.declared.hold.Hold.{Hold}
 use Rattle.move_core.specs.Facts.{Facts}
-use Rattle.unit_session.specs.Sessions.{SessionView}
+use Rattle.job_steps.specs.unit_session.Sessions.{SessionView}
 
 -- what never changes of the pool, the day, and the table of holds
 pub record Setting : Type 0 where

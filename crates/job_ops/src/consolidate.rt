@@ -5,8 +5,8 @@ ghost use Rattle.redo_core.specs.Reading.{journal_of};
 ghost use Rattle.volume_model.specs.Unit.{DataSet, OnlineVolume};
 ghost use Rattle.vtoc_core.specs.declared.volume.Row.{Row as RowOf};
 ghost use Rattle.vtoc_core.specs.declared.volume.Volume.{Volume as VolumeOf};
-ghost use Rattle.unit_steps.specs.Plans.{IsLoadedAt, HasRow};
-ghost use Rattle.step_plans.specs.Plans.{IsPlaceOn};
+ghost use Rattle.job_copies.specs.unit_steps.Plans.{IsLoadedAt, HasRow};
+ghost use Rattle.job_copies.specs.step_plans.Plans.{IsPlaceOn};
 ghost use Rattle.job_ops.specs.declared.task.Task.TheVariants as tasks;
 ghost use Rattle.job_ops.specs.Asked.{MayProcess, IsCandidate, IsSeen, IsSet, IsReasonBefore};
 ghost use Rattle.job_ops.specs.Consolidate.{ConsolidatesSet, IsPlaceOf, LacksPlace};
@@ -23,10 +23,10 @@ use dsn_filter::Dsn;
 use free_map::Run;
 use job_lines::{Message, Reason};
 use job_steps::Cut;
+use job_steps::unit_session::Session;
 use plan_core::next_consolidate;
 use std::alloc::Global;
 use unit_load::UnitState;
-use unit_session::Session;
 
 /// The first track of the place of a data set that has several extents.
 fn place_of<P: Pool>(

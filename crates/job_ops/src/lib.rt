@@ -16,8 +16,9 @@ mod task;
 mod transfer;
 mod units;
 
+pub use job_copies::job_select::select;
 pub use job_lines::{Message, Reason, Severity, line_of};
-pub use job_select::select;
+pub use job_steps::unit_session;
 pub use outcome::Outcome;
 pub use report::{Messages, Report};
 pub use statement::{is_built, run_statement, verb_of};

@@ -11,8 +11,8 @@ use crate::task::Task;
 use dasd_pool::Pool;
 use job_lines::{Message, Reason};
 use job_steps::Cut;
+use job_steps::unit_session::Session;
 use move_core::Step;
-use unit_session::Session;
 
 /// The steps of the run, and the messages of the statement.
 #[derive(Drop)]

@@ -2,8 +2,8 @@
 
 use crate::report::Report;
 use dasd_pool::Pool;
+use job_steps::unit_session::{Broken, Session};
 use move_core::Step;
-use unit_session::{Broken, Session};
 
 /// How a statement ended: it was done, its pool failed, or memory ran out. The steps are those of the run before it, and behind them those that it did.
 #[derive(Drop)]

@@ -17,8 +17,8 @@ use dasd_pool::Pool;
 use dsn_filter::Dsn;
 use job_lines::{Message, Reason};
 use job_steps::Cut;
+use job_steps::unit_session::Session;
 use std::alloc::Global;
-use unit_session::Session;
 
 /// Gives back the unused tracks of a data set that nothing prevents but the room in the VTOC.
 pub(crate) fn give_back<P: Pool>(

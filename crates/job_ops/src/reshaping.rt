@@ -12,14 +12,14 @@ use ckd_image::{Listed, NoMemory};
 use dasd_pool::Pool;
 use dsn_filter::Dsn;
 use free_map::{Run, Runs};
+use job_copies::step_plans::{join_set, repair_space, shrink_set};
+use job_copies::step_room::room_laws;
+use job_copies::unit_steps::Plan;
+use job_steps::unit_session::{Planned, Session};
 use job_steps::{Attempt, Cut, carry_out, try_plan};
 use move_core::Step;
 use std::alloc::Global;
-use step_plans::{join_set, repair_space, shrink_set};
-use step_room::room_laws;
 use unit_load::UnitState;
-use unit_session::{Planned, Session};
-use unit_steps::Plan;
 
 /// The extents that a data set is to have: those of its first tracks, as many as are told, or one.
 #[derive(Clone, Copy)]

@@ -6,8 +6,8 @@ ghost use Rattle.redo_core.specs.Reading.{journal_of};
 ghost use Rattle.volume_model.specs.Unit.{OnlineVolume, online};
 ghost use Rattle.vtoc_core.specs.declared.volume.Row.{Row as RowOf};
 ghost use Rattle.vtoc_core.specs.declared.volume.Volume.{Volume as VolumeOf};
-ghost use Rattle.unit_steps.specs.Plans.{IsLoadedAt, HasRow};
-ghost use Rattle.job_select.specs.Selection.{Selects};
+ghost use Rattle.job_copies.specs.unit_steps.Plans.{IsLoadedAt, HasRow};
+ghost use Rattle.job_copies.specs.job_select.Selection.{Selects};
 ghost use Rattle.job_ops.specs.Asked.{MayProcess};
 ghost use Rattle.job_ops.specs.Ends.{Ends, ForUnits};
 ghost use Rattle.job_ops.specs.Meaning.{TurnOf};
@@ -27,13 +27,13 @@ use ckd_image::NoMemory;
 use dasd_pool::Pool;
 use dsn_filter::Dsn;
 use enq_table::Held;
+use job_copies::job_select::select;
 use job_lines::Message;
-use job_select::select;
 use job_steps::Cut;
+use job_steps::unit_session::Session;
 use std::alloc::Global;
 use sysin_lang::Filter;
 use unit_load::{UnitFault, UnitState};
-use unit_session::Session;
 use vol_label::Serial;
 
 /// What is to be done with the data sets of a volume that a filter takes.

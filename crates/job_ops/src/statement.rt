@@ -22,11 +22,11 @@ use enq_table::Held;
 use job_copies::{Wish, is_rename};
 use job_lines::Message;
 use job_steps::Cut;
+use job_steps::unit_session::Session;
 use move_core::Step;
 use std::alloc::Global;
 use sysin_lang::{Command, Statement};
 use sysin_words::Verb;
-use unit_session::Session;
 
 /// The verb of a command.
 pub fn verb_of(command: &Command) -> Verb

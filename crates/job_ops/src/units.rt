@@ -4,8 +4,8 @@ ghost use Rattle.std.specs.Prelude.{◌≡◌, ◌≢◌, ◌-◌, ◌/◌, ◌<
 ghost use Rattle.volume_model.specs.declared.why.Why.{Why};
 ghost use Rattle.redo_core.specs.Reading.{journal_of};
 ghost use Rattle.unit_load.specs.declared.state.UnitState.TheVariants as states;
-ghost use Rattle.unit_steps.specs.Loaded.{AreModels};
-ghost use Rattle.unit_steps.specs.Plans.{IsLoadedAt};
+ghost use Rattle.job_copies.specs.unit_steps.Loaded.{AreModels};
+ghost use Rattle.job_copies.specs.unit_steps.Plans.{IsLoadedAt};
 ghost use Rattle.job_lines.specs.declared.message.Message.TheVariants as messages;
 ghost use Rattle.job_ops.specs.Refusal.{IsUnitOf, standing_in, IsUnknown, Refuses, Lets};
 ghost use Rattle.job_ops.specs.Asked.{IsUnitFor};
@@ -13,8 +13,8 @@ ghost use Rattle.job_ops.specs.Ends.{ForUnits};
 
 use dasd_pool::Pool;
 use job_lines::Message;
+use job_steps::unit_session::Session;
 use unit_load::UnitState;
-use unit_session::Session;
 use vol_label::Serial;
 use vtoc_core::Volume;
 

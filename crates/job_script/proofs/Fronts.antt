@@ -21,7 +21,7 @@ use Rattle.run_lines.specs.Endings.{last_line}
 use Rattle.run_lines.proofs.Appending.{appends_none, appends_then, appends_some_then}
 use Rattle.sysin_lang.specs.declared.command.Statement.{Statement}
 use Rattle.sysin_lang.specs.Flow.{Codes, Plan, Command, End, zero_codes, next_of, answered, Leaves}
-use Rattle.unit_session.specs.Sessions.{SessionView}
+use Rattle.job_ops.specs.unit_session.Sessions.{SessionView}
 use Rattle.job_ops.specs.declared.report.Report.{Report}
 use Rattle.job_ops.specs.Ends.{ForUnits, KeepsFacts}
 use Rattle.job_ops.specs.Setting.{Setting, facts_of, setting_of}

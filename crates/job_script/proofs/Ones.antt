@@ -18,7 +18,7 @@ use Rattle.run_lines.specs.Endings.{last_line}
 use Rattle.run_lines.specs.Texts.{Tells}
 use Rattle.run_lines.proofs.Appending.{appends_none}
 use Rattle.sysin_lang.specs.declared.command.Statement.{Statement}
-use Rattle.unit_session.specs.Sessions.{SessionView}
+use Rattle.job_ops.specs.unit_session.Sessions.{SessionView}
 use Rattle.job_ops.specs.declared.report.Report.{Report}
 use Rattle.job_ops.specs.Ends.{ForUnits, KeepsFacts, OnlyReads}
 use Rattle.job_ops.specs.Meaning.{MeansStatement, IsCutCommand}

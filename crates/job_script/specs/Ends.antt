@@ -10,7 +10,7 @@ use Rattle.move_core.specs.Facts.{shown}
 use Rattle.move_core.specs.Runs.{IsRun}
 use Rattle.sysin_lang.specs.declared.command.Statement.{Statement}
 use Rattle.sysin_lang.specs.Flow.{Plan}
-use Rattle.unit_session.specs.Sessions.{SessionView}
+use Rattle.job_ops.specs.unit_session.Sessions.{SessionView}
 use Rattle.job_ops.specs.Ends.{ForUnits}
 use Rattle.job_ops.specs.Setting.{setting_of}
 use Rattle.run_lines.specs.declared.ending.RunEnd.{RunEnd}

@@ -7,6 +7,7 @@ mod lines;
 mod run;
 
 pub use built::are_built;
+pub use job_ops::unit_session;
 pub use left::Left;
 pub use lines::{LinesFault, write_messages};
 pub use run::run_script;

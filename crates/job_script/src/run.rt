@@ -18,12 +18,12 @@ use by_rules::Day;
 use dasd_pool::{Pool, Sink};
 use enq_table::Held;
 use job_lines::{Message, line_of};
+use job_ops::unit_session::{Broken, Session};
 use job_ops::{Outcome, Report, run_statement, verb_of};
 use move_core::Step;
 use run_lines::{RunEnd, close, tell_behind, write_all};
 use std::alloc::Global;
 use sysin_lang::{Flow, Script, Statement};
-use unit_session::{Broken, Session};
 
 /// A run between two statements: the session, the steps so far, and the code of the last statement.
 #[derive(Drop)]

@@ -16,9 +16,9 @@ use Rattle.vtoc_core.specs.Loaded.{field_of}
 use Rattle.vtoc_layout.specs.Layout.{AreDistinct, AreApart}
 use Rattle.vtoc_layout.proofs.Apart.{all_from}
 use Rattle.vtoc_layout.proofs.Distinct.{first_or_later, in_none, at_first, in_front, in_back, in_map, from_map, from_flat, distinct_append, no_more}
-use Rattle.vtoc_render.proofs.Known.{usable_small}
-use Rattle.unit_change.proofs.Describing.{runs_in_row}
-use Rattle.unit_steps.proofs.Blocks.{from_slots}
+use Rattle.step_plans.proofs.vtoc_render.Known.{usable_small}
+use Rattle.step_plans.proofs.unit_change.Describing.{runs_in_row}
+use Rattle.step_plans.proofs.unit_steps.Blocks.{from_slots}
 use Rattle.step_plans.specs.Plans.{IsSound, extents_from}
 use Rattle.step_plans.proofs.LoadedRows.{IsLoadedRow, sound_row}
 use Rattle.job_select.proofs.Wholes.{on}

@@ -16,8 +16,8 @@ use Rattle.volume_model.specs.Unit.{Extent, DataSet, tracks_of}
 use Rattle.vtoc_core.specs.declared.volume.Row.{Row}
 use Rattle.vtoc_core.specs.declared.volume.Volume.{Volume}
 use Rattle.volume_change.proofs.Names.{one_text}
-use Rattle.unit_change.specs.Described.{DescribesSet, DescribesSets}
-use Rattle.unit_steps.specs.Plans.{HasRow}
+use Rattle.step_plans.specs.unit_change.Described.{DescribesSet, DescribesSets}
+use Rattle.step_plans.specs.unit_steps.Plans.{HasRow}
 use Rattle.step_plans.specs.Plans.{IsSound, extents_from}
 use Rattle.set_facts.specs.Facts.{facts_from, facts_of}
 use Rattle.set_facts.specs.Selection.{Passes, criteria_in}

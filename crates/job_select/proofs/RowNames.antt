@@ -9,9 +9,9 @@ use Rattle.vtoc_core.specs.declared.volume.Volume.{Volume}
 use Rattle.vtoc_core.specs.Loaded.{row_in, HasItsName}
 use Rattle.vtoc_layout.specs.Layout.{AreDistinct}
 use Rattle.vtoc_layout.proofs.Distinct.{in_map}
-use Rattle.unit_change.proofs.LoadedTracks.{own_names}
-use Rattle.unit_change.proofs.OneOrder.{name_in, distinct_moved}
-use Rattle.unit_steps.proofs.Blocks.{few, home_short}
+use Rattle.step_plans.proofs.unit_change.LoadedTracks.{own_names}
+use Rattle.step_plans.proofs.unit_change.OneOrder.{name_in, distinct_moved}
+use Rattle.step_plans.proofs.unit_steps.Blocks.{few, home_short}
 use Rattle.step_plans.specs.Plans.{IsSound}
 
 abbrev named : Row → List ℕ

@@ -5,7 +5,7 @@ ghost use Rattle.ckd_image.specs.Device.{heads_of};
 ghost use Rattle.volume_model.specs.Pinned.{IsPinned, IsMovable, IsManaged, GoesOn, IsSequentialOrPartitioned, organization_in};
 ghost use Rattle.volume_model.specs.Reads.{fields_of_1};
 ghost use Rattle.volume_model.specs.Unit.{DataSet};
-ghost use Rattle.unit_change.specs.Described.{DescribesSet};
+ghost use Rattle.step_plans.specs.unit_change.Described.{DescribesSet};
 ghost use Rattle.job_select.specs.Whole.{IsWholeOn};
 
 use crate::names::name_of;

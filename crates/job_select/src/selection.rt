@@ -5,8 +5,8 @@ ghost use Rattle.by_rules.specs.Day.{IsToday};
 ghost use Rattle.ckd_image.specs.Device.{heads_of};
 ghost use Rattle.volume_model.specs.Unit.{DataSet, OnlineVolume};
 ghost use Rattle.vtoc_core.specs.declared.volume.Row.{Row as RowOf};
-ghost use Rattle.unit_change.specs.Described.{Describes, DescribesSet};
-ghost use Rattle.unit_steps.specs.Plans.{HasRow};
+ghost use Rattle.step_plans.specs.unit_change.Described.{Describes, DescribesSet};
+ghost use Rattle.step_plans.specs.unit_steps.Plans.{HasRow};
 ghost use Rattle.step_plans.specs.Plans.{IsSound};
 ghost use Rattle.job_select.specs.Selection.{Takes, Selects};
 

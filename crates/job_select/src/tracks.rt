@@ -4,7 +4,7 @@ ghost use Rattle.std.specs.Prelude.{◌≡◌, ◌≤◌, length, Contains};
 ghost use Rattle.ckd_image.specs.Device.{heads_of};
 ghost use Rattle.volume_model.specs.Pinned.{kept_tracks as kept_tracks_of};
 ghost use Rattle.volume_model.specs.Unit.{DataSet, tracks_of};
-ghost use Rattle.unit_change.specs.Described.{DescribesSet};
+ghost use Rattle.step_plans.specs.unit_change.Described.{DescribesSet};
 ghost use Rattle.step_plans.specs.Plans.{IsSound, extents_from};
 
 use ckd_image::Device;

@@ -4,14 +4,14 @@ use Rattle.std.specs.Prelude.{slice_set}
 use Rattle.std.proofs.lemmas.List.Elements.{All-nil, All-cons, All-head, All-tail}
 use Rattle.vtoc_core.specs.declared.volume.Volume.{Volume}
 use Rattle.volume_change.specs.declared.change.Change.{Change}
-use Rattle.vtoc_render.specs.declared.change.Rendered.{Rendered}
-use Rattle.vtoc_render.specs.Next.{IsNext}
+use Rattle.unit_session.specs.vtoc_render.declared.change.Rendered.{Rendered}
+use Rattle.unit_session.specs.vtoc_render.Next.{IsNext}
 use Rattle.unit_load.specs.declared.state.UnitState.{UnitState}
 use Rattle.unit_load.specs.declared.state.UnitState.TheVariants.{Online}
-use Rattle.unit_steps.specs.Plans.{IsLoadedAt}
-use Rattle.unit_steps.specs.Rendering.{WereRendered, AreOfUnits, units_after}
-use Rattle.unit_steps.proofs.Lists.{get_set_other}
-use Rattle.unit_steps.proofs.Readying.{pairs_first, pairs_rest}
+use Rattle.unit_session.specs.unit_steps.Plans.{IsLoadedAt}
+use Rattle.unit_session.specs.unit_steps.Rendering.{WereRendered, AreOfUnits, units_after}
+use Rattle.unit_session.proofs.unit_steps.Lists.{get_set_other}
+use Rattle.unit_session.proofs.unit_steps.Readying.{pairs_first, pairs_rest}
 use Rattle.job_steps.specs.Carried.{HaveNext, IsUnitAfter, AreUnitsAfter}
 
 -- a volume after a change of a unit

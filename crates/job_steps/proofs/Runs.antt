@@ -8,10 +8,10 @@ use Rattle.move_core.specs.Facts.{shown}
 use Rattle.move_core.specs.Runs.{IsRun, Ended}
 use Rattle.move_core.proofs.Running.{run_less, run_then}
 use Rattle.unit_load.specs.declared.state.UnitState.{UnitState}
-use Rattle.unit_steps.specs.declared.plan.Plan.{Plan}
-use Rattle.unit_steps.specs.Plans.{IsPlan}
-use Rattle.unit_steps.specs.Rendering.{WereRendered, units_after}
-use Rattle.unit_steps.proofs.Small.{plans_small}
+use Rattle.unit_session.specs.unit_steps.declared.plan.Plan.{Plan}
+use Rattle.unit_session.specs.unit_steps.Plans.{IsPlan}
+use Rattle.unit_session.specs.unit_steps.Rendering.{WereRendered, units_after}
+use Rattle.unit_session.proofs.unit_steps.Small.{plans_small}
 use Rattle.unit_session.specs.declared.fault.PlanFault.{PlanFault}
 use Rattle.unit_session.specs.declared.fault.PlanFault.TheVariants as faults
 use Rattle.unit_session.specs.declared.fault.PlanStop.{PlanStop}

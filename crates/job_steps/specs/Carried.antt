@@ -3,12 +3,12 @@ use Rattle.std.specs.Prelude.{◌≡◌, ◌⊎◌, ℕ, List, [], ◌∷◌, Al
 use Rattle.dasd_pool.specs.declared.pool.Pool.{Ghosts}
 use Rattle.vtoc_core.specs.declared.volume.Volume.{Volume}
 use Rattle.volume_change.specs.declared.change.Change.{Change}
-use Rattle.vtoc_render.specs.Next.{IsNext}
+use Rattle.unit_session.specs.vtoc_render.Next.{IsNext}
 use Rattle.unit_load.specs.declared.state.UnitState.{UnitState}
 use Rattle.unit_load.specs.declared.state.UnitState.TheVariants.{Online}
 use Rattle.move_core.specs.declared.steps.Step.{Step}
-use Rattle.unit_steps.specs.declared.plan.Plan.{Plan}
-use Rattle.unit_steps.specs.Plans.{IsLoadedAt}
+use Rattle.unit_session.specs.unit_steps.declared.plan.Plan.{Plan}
+use Rattle.unit_session.specs.unit_steps.Plans.{IsLoadedAt}
 use Rattle.unit_session.specs.Sessions.{SessionView, BrokenView, IsSameSession}
 use Rattle.unit_session.specs.Planned.{PlannedView, IsFullFor}
 use Rattle.job_steps.specs.declared.cut.Cut.{Cut}

@@ -1,1 +1,2 @@
+pub use Rattle.unit_session.specs as unit_session
 pub mod Carried

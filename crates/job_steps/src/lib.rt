@@ -6,3 +6,4 @@ mod steps;
 
 pub use cut::Cut;
 pub use steps::{Attempt, carry_out, try_plan};
+pub use unit_session;

@@ -4,14 +4,14 @@ ghost use Rattle.std.specs.Prelude.{◌≡◌, [], ◌∷◌, ◌++◌, None, If
 ghost use Rattle.move_core.specs.Facts.{shown};
 ghost use Rattle.move_core.specs.Runs.{IsRun, Ended};
 ghost use Rattle.unit_session.specs.Planned.{MayBegin, pool_switched, done_by};
-ghost use Rattle.unit_steps.specs.Plans.{IsPlan};
+ghost use Rattle.unit_session.specs.unit_steps.Plans.{IsPlan};
 ghost use Rattle.job_steps.specs.Carried.{pool_left, pending_left, Continues, steps_of, pool_tried, pending_tried, IsTried, IsReadyOrFull, IsCutBefore, AreAfter, IsUnderWay, IsCutIn, pending_made};
 
 use crate::cut::Cut;
 use dasd_pool::Pool;
 use move_core::Step;
+use unit_session::unit_steps::Plan;
 use unit_session::{Broken, PlanFault, PlanStop, Planned, Session};
-use unit_steps::Plan;
 
 /// What becomes of a plan: its step is ready, or the VTOC has no room for it.
 #[derive(Drop)]

@@ -14,7 +14,7 @@ use Rattle.run_words.proofs.OneRun as runs
 use Rattle.run_lines.specs.declared.ending.RunEnd.{RunEnd}
 use Rattle.run_lines.specs.declared.ending.RunEnd.TheVariants as ends
 use Rattle.run_lines.specs.Endings.{status_of, end_of}
-use Rattle.job_script.specs.Ends.{After}
+use Rattle.adr_top.specs.job_script.Ends.{After}
 use Rattle.adr_top.specs.Asked.{AskFor, AsksForJournal}
 use Rattle.adr_top.specs.Ends.{Given, StopsBefore, EndsRun}
 use Rattle.adr_top.specs.Texts.{SourceSeen, StopsTexts}

@@ -24,9 +24,9 @@ use Rattle.run_lines.specs.declared.ending.RunEnd.{RunEnd}
 use Rattle.run_lines.specs.declared.ending.RunEnd.TheVariants as ends
 use Rattle.run_lines.specs.Endings.{end_of}
 use Rattle.run_lines.specs.Texts.{most_bytes, IsTextOf}
-use Rattle.job_script.specs.Built.{AreBuilt}
-use Rattle.job_script.specs.Ends.{After}
-use Rattle.job_script.specs.Runs.{Ran, HasRun}
+use Rattle.adr_top.specs.job_script.Built.{AreBuilt}
+use Rattle.adr_top.specs.job_script.Ends.{After}
+use Rattle.adr_top.specs.job_script.Runs.{Ran, HasRun}
 use Rattle.adr_top.specs.Asked.{AskFor, serials_of}
 use Rattle.adr_top.specs.Ends.{Given, AsksText, StopsBefore, EndsReady, OpensNot, RunsText, EndsRun}
 use Rattle.adr_top.specs.Texts.{SourceSeen, IsHeldText, IsLong, StopsTexts}

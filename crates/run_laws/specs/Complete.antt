@@ -7,7 +7,7 @@ use Rattle.vol_label.specs.declared.serial.Serial.{Serial}
 use Rattle.redo_core.specs.Faults.{MayOpen}
 use Rattle.sysin_lang.specs.Flow.{Plan}
 use Rattle.run_lines.specs.declared.ending.RunEnd.TheVariants as ends
-use Rattle.job_script.specs.Ends.{After}
+use Rattle.adr_top.specs.job_script.Ends.{After}
 use Rattle.adr_top.specs.Asked.{serials_of}
 use Rattle.adr_top.specs.Ends.{Given, AsksText, EndsRun}
 use Rattle.adr_top.specs.Texts.{Texts, AreReady, HasFailed}

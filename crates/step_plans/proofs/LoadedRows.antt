@@ -27,12 +27,12 @@ use Rattle.vtoc_layout.proofs.Apart.{all_from, apart_each, map_flat}
 use Rattle.vtoc_layout.proofs.Distinct.{from_filter, from_flat, in_flat, in_map, in_later}
 use Rattle.volume_change.specs.Runs.{runs_in}
 use Rattle.volume_change.specs.Spot.{AreNamed}
-use Rattle.render_laws.specs.Rendered.{WasLoaded}
-use Rattle.render_laws.proofs.Before.{has_layout, apart, ends, extent_there}
+use Rattle.unit_steps.specs.render_laws.Rendered.{WasLoaded}
+use Rattle.unit_steps.proofs.render_laws.Before.{has_layout, apart, ends, extent_there}
 use Rattle.vtoc_check.proofs.Overlapping.{run_facts}
-use Rattle.vtoc_render.proofs.Known.{rows_named, usable_small}
-use Rattle.vtoc_render.proofs.NextCounts.{set_of_row}
-use Rattle.vtoc_render.proofs.PlacedTakes.{heads_same}
+use Rattle.unit_steps.proofs.vtoc_render.Known.{rows_named, usable_small}
+use Rattle.unit_steps.proofs.vtoc_render.NextCounts.{set_of_row}
+use Rattle.unit_steps.proofs.vtoc_render.PlacedTakes.{heads_same}
 use Rattle.unit_steps.proofs.Blocks.{from_slots}
 use Rattle.step_plans.specs.Plans.{IsSound, AreRuns}
 

@@ -31,8 +31,8 @@ use Rattle.volume_change.specs.declared.change.Change.{Change}
 use Rattle.volume_change.specs.declared.change.Change.TheVariants.{Swap, Remove}
 use Rattle.volume_change.proofs.Names.{one_text}
 use Rattle.vtoc_layout.proofs.Apart.{all_from}
-use Rattle.vtoc_render.specs.Next.{MayChange, MayPut}
-use Rattle.unit_change.proofs.Kept.{tracks_all}
+use Rattle.unit_steps.specs.vtoc_render.Next.{MayChange, MayPut}
+use Rattle.unit_steps.proofs.unit_change.Kept.{tracks_all}
 use Rattle.unit_load.specs.declared.state.UnitState.{UnitState}
 use Rattle.plan_core.specs.Consolidate.{IsStepOf}
 use Rattle.move_core.specs.declared.steps.Origin.TheVariants as origins

@@ -18,13 +18,13 @@ use Rattle.vtoc_core.specs.declared.volume.Volume.{Volume}
 use Rattle.vtoc_core.specs.Loaded.{field_of, HasItsName}
 use Rattle.vtoc_layout.specs.Layout.{AreApart}
 use Rattle.volume_change.specs.Runs.{runs_in}
-use Rattle.vtoc_render.specs.Next.{MayPut}
-use Rattle.unit_change.proofs.Describing.{runs_in_row}
-use Rattle.unit_change.proofs.LoadedTracks.{free_unused_by_rows}
+use Rattle.unit_steps.specs.vtoc_render.Next.{MayPut}
+use Rattle.unit_steps.proofs.unit_change.Describing.{runs_in_row}
+use Rattle.unit_steps.proofs.unit_change.LoadedTracks.{free_unused_by_rows}
 use Rattle.unit_steps.proofs.Blocks.{few, home_short, from_slots}
 use Rattle.unit_steps.proofs.Readying.{pairs_first, pairs_rest}
 use Rattle.unit_steps.proofs.Rows.{runs_on}
-use Rattle.vtoc_render.proofs.Known.{usable_small}
+use Rattle.unit_steps.proofs.vtoc_render.Known.{usable_small}
 use Rattle.step_plans.specs.Plans.{IsSound, IsRoom, field_on}
 use Rattle.step_plans.proofs.Places.{on_runs, are_on_runs, kinds_on}
 

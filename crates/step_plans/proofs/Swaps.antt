@@ -27,8 +27,8 @@ use Rattle.vtoc_layout.proofs.Distinct.{in_map, from_map}
 use Rattle.volume_change.specs.declared.change.Change.{Change}
 use Rattle.volume_change.specs.declared.change.Change.TheVariants.{Swap}
 use Rattle.volume_change.specs.Runs.{runs_in}
-use Rattle.vtoc_render.specs.Next.{MayChange}
-use Rattle.unit_change.proofs.Describing.{runs_in_row}
+use Rattle.unit_steps.specs.vtoc_render.Next.{MayChange}
+use Rattle.unit_steps.proofs.unit_change.Describing.{runs_in_row}
 use Rattle.unit_load.specs.declared.state.UnitState.{UnitState}
 use Rattle.move_core.specs.declared.steps.Step.{Step}
 use Rattle.move_core.specs.declared.steps.Step.TheVariants as steps

@@ -3,7 +3,7 @@ use Rattle.std.specs.Prelude.{ℕ}
 use Rattle.volume_model.specs.Pinned.{IsNameOf}
 use Rattle.vtoc_core.specs.declared.volume.Row.{Row}
 use Rattle.vtoc_core.specs.declared.volume.Volume.{Volume}
-use Rattle.vtoc_render.specs.Next.{MayChange}
+use Rattle.unit_steps.specs.vtoc_render.Next.{MayChange}
 use Rattle.move_core.specs.Steps.{IsNewKind, extents_on, fields_at}
 use Rattle.volume_model.specs.Reads.{fields_of_1}
 use Rattle.unit_steps.specs.Plans.{HasRow, IsRowWith, extents_in, putting}

@@ -16,9 +16,9 @@ use Rattle.vtoc_core.specs.Loaded.{field_of, records_for}
 use Rattle.volume_change.specs.declared.change.Change.{Change}
 use Rattle.volume_change.specs.declared.change.Change.TheVariants.{Repair, Put, Swap, Remove, Mark}
 use Rattle.volume_change.specs.Runs.{IsFreeAfter}
-use Rattle.vtoc_render.specs.Next.{IsChanged, used_by, runs_of_rows}
-use Rattle.unit_change.specs.Changed.{extents_of, sets_put}
-use Rattle.unit_change.proofs.ChangedRows.{parted_rows}
+use Rattle.step_plans.specs.vtoc_render.Next.{IsChanged, used_by, runs_of_rows}
+use Rattle.step_plans.specs.unit_change.Changed.{extents_of, sets_put}
+use Rattle.step_plans.proofs.unit_change.ChangedRows.{parted_rows}
 use Rattle.step_plans.specs.Plans.{IsSound}
 use Rattle.step_room.specs.Room.{AreAlike}
 use Rattle.step_room.proofs.Changing.{DoGo, rows_go, one_gone, put_runs, put_records}

@@ -15,11 +15,11 @@ use Rattle.volume_change.specs.declared.change.Change.{Change}
 use Rattle.volume_change.specs.declared.change.Change.TheVariants.{Repair, Put, Swap, Remove, Mark}
 use Rattle.volume_change.specs.Runs.{runs_in}
 use Rattle.volume_change.proofs.Names.{one_text}
-use Rattle.vtoc_render.specs.Next.{IsRowPut, AreRowsAfter, runs_of_rows}
-use Rattle.vtoc_render.proofs.NextRows.{fields_same}
-use Rattle.unit_change.specs.Described.{DescribesSet, DescribesSets}
-use Rattle.unit_change.specs.Changed.{AreGone, extents_of, sets_put}
-use Rattle.unit_change.proofs.Describing.{runs_in_row}
+use Rattle.step_plans.specs.vtoc_render.Next.{IsRowPut, AreRowsAfter, runs_of_rows}
+use Rattle.step_plans.proofs.vtoc_render.NextRows.{fields_same}
+use Rattle.step_plans.specs.unit_change.Described.{DescribesSet, DescribesSets}
+use Rattle.step_plans.specs.unit_change.Changed.{AreGone, extents_of, sets_put}
+use Rattle.step_plans.proofs.unit_change.Describing.{runs_in_row}
 use Rattle.step_plans.specs.Plans.{IsSound}
 use Rattle.step_room.proofs.SoundRows.{one_row}
 

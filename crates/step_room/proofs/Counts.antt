@@ -10,8 +10,8 @@ use Rattle.vtoc_core.specs.declared.volume.Volume.{Volume}
 use Rattle.vtoc_core.specs.Loaded.{records_for}
 use Rattle.volume_change.specs.declared.change.Change.{Change}
 use Rattle.volume_change.specs.declared.change.Change.TheVariants.{Repair, Put, Swap, Remove, Mark}
-use Rattle.vtoc_render.specs.Next.{IsNext, used_by}
-use Rattle.unit_change.specs.Described.{DescribesSets, Describes}
+use Rattle.step_plans.specs.vtoc_render.Next.{IsNext, used_by}
+use Rattle.step_plans.specs.unit_change.Described.{DescribesSets, Describes}
 
 sum_of_three : {X : Type 0} (f : X → ℕ) (all xs ys zs : List X) → all ≡ xs ++ (ys ++ zs) → sum_by f all ≡ sum_by f xs + (sum_by f ys + sum_by f zs)
 sum_of_three f all xs ys zs are = omega (arith, ap (sum_by f) are, sum_by-append f xs (ys ++ zs), sum_by-append f ys zs)

@@ -13,10 +13,10 @@ use Rattle.vtoc_layout.specs.Layout.{AreDistinct}
 use Rattle.vtoc_layout.proofs.Distinct.{in_front, in_back, in_map, not_both, distinct_back}
 use Rattle.volume_change.specs.Runs.{IsFreeAfter}
 use Rattle.volume_change.proofs.Tracks.{in_front as in_front_runs, in_back as in_back_runs, in_either}
-use Rattle.vtoc_render.specs.Next.{runs_of_rows}
-use Rattle.vtoc_render.proofs.PlacedTracks.{in_or_not}
-use Rattle.unit_change.specs.Described.{DescribesSets, Describes}
-use Rattle.unit_change.proofs.Describing.{runs_described}
+use Rattle.step_plans.specs.vtoc_render.Next.{runs_of_rows}
+use Rattle.step_plans.proofs.vtoc_render.PlacedTracks.{in_or_not}
+use Rattle.step_plans.specs.unit_change.Described.{DescribesSets, Describes}
+use Rattle.step_plans.proofs.unit_change.Describing.{runs_described}
 use Rattle.step_plans.specs.Plans.{IsSound}
 use Rattle.step_room.proofs.SoundRows.{named, names_differ, row_with, sound_track, sound_parts}
 

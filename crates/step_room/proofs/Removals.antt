@@ -13,9 +13,9 @@ use Rattle.vtoc_core.specs.Loaded.{field_of, records_for}
 use Rattle.volume_change.specs.declared.change.Change.TheVariants.{Remove}
 use Rattle.volume_change.specs.Runs.{runs_in}
 use Rattle.volume_change.proofs.Names.{one_text}
-use Rattle.vtoc_render.specs.Next.{IsChanged, runs_of_rows}
-use Rattle.unit_change.proofs.ChangedRows.{parted_rows}
-use Rattle.unit_steps.specs.Plans.{HasRow}
+use Rattle.step_plans.specs.vtoc_render.Next.{IsChanged, runs_of_rows}
+use Rattle.step_plans.proofs.unit_change.ChangedRows.{parted_rows}
+use Rattle.step_plans.specs.unit_steps.Plans.{HasRow}
 use Rattle.step_plans.specs.Plans.{IsSound}
 use Rattle.step_room.specs.Room.{RemovalsHaveRoom}
 use Rattle.step_room.proofs.Changing.{rows_go}

@@ -10,10 +10,10 @@ use Rattle.vtoc_core.specs.declared.volume.Volume.{Volume}
 use Rattle.volume_change.specs.declared.change.Change.{Change}
 use Rattle.volume_change.specs.declared.change.Change.TheVariants.{Repair, Swap, Mark}
 use Rattle.volume_change.specs.Runs.{IsFreeAfter}
-use Rattle.vtoc_render.specs.Next.{IsChanged, IsNext, AreRowsAfter, used_by, runs_of_rows}
-use Rattle.unit_change.proofs.ChangedRows.{is_changed}
-use Rattle.unit_change.proofs.LoadedTracks.{all_counted}
-use Rattle.unit_steps.proofs.Blocks.{few, home_short}
+use Rattle.step_plans.specs.vtoc_render.Next.{IsChanged, IsNext, AreRowsAfter, used_by, runs_of_rows}
+use Rattle.step_plans.proofs.unit_change.ChangedRows.{is_changed}
+use Rattle.step_plans.proofs.unit_change.LoadedTracks.{all_counted}
+use Rattle.step_plans.proofs.unit_steps.Blocks.{few, home_short}
 use Rattle.step_plans.specs.Plans.{IsSound}
 use Rattle.step_room.specs.Room.{LacksRoom, RepairsKeepRoom, RepairsKeepRoomForExtents, AreAlike, AlikeChangesHaveRoom}
 use Rattle.step_room.proofs.Counts.{next_counted}

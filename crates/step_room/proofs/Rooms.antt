@@ -15,11 +15,11 @@ use Rattle.vtoc_layout.proofs.Distinct.{parted}
 use Rattle.volume_change.specs.declared.change.Change.{Change}
 use Rattle.volume_change.specs.declared.change.Change.TheVariants.{Repair, Put, Swap, Remove, Mark}
 use Rattle.volume_change.specs.Runs.{IsFreeAfter}
-use Rattle.vtoc_render.specs.Next.{IsChanged, used_by, runs_of_rows}
-use Rattle.unit_change.specs.Described.{Describes}
-use Rattle.unit_change.specs.Changed.{AreGone, sets_put}
-use Rattle.unit_change.proofs.ChangedRows.{is_changed, parted_rows, lawful_put}
-use Rattle.unit_change.proofs.Describing.{runs_described}
+use Rattle.step_plans.specs.vtoc_render.Next.{IsChanged, used_by, runs_of_rows}
+use Rattle.step_plans.specs.unit_change.Described.{Describes}
+use Rattle.step_plans.specs.unit_change.Changed.{AreGone, sets_put}
+use Rattle.step_plans.proofs.unit_change.ChangedRows.{is_changed, parted_rows, lawful_put}
+use Rattle.step_plans.proofs.unit_change.Describing.{runs_described}
 use Rattle.step_plans.specs.Plans.{IsSound}
 use Rattle.step_room.specs.Room.{LackingChangesAreFull, FittingChangesAreNotFull, AreTaken}
 use Rattle.step_room.proofs.Changing.{rows_go, described_go, one_gone, put_runs, put_records}

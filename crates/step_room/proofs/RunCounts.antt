@@ -8,7 +8,7 @@ use Rattle.free_map.proofs.Apart.{from_le}
 use Rattle.vtoc_layout.specs.Layout.{AreDistinct}
 use Rattle.vtoc_layout.proofs.Distinct.{first_or_later, in_none, in_front, in_back, in_map, no_more}
 use Rattle.vtoc_layout.proofs.FreeRules.{held_in}
-use Rattle.vtoc_render.proofs.PlacedTracks.{run_with}
+use Rattle.step_plans.proofs.vtoc_render.PlacedTracks.{run_with}
 
 abbrev first_of : Run → ℕ
 first_of run = run.first

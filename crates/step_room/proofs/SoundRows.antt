@@ -22,16 +22,16 @@ use Rattle.vtoc_layout.proofs.Apart.{NoneShared, apart_two, map_flat}
 use Rattle.vtoc_layout.proofs.Distinct.{from_flat, in_flat, in_later}
 use Rattle.vtoc_layout.proofs.FreeRules.{held_in}
 use Rattle.volume_change.specs.Runs.{runs_in}
-use Rattle.render_laws.specs.Rendered.{WasLoaded}
-use Rattle.render_laws.proofs.Before.{apart, ends, extent_there}
-use Rattle.vtoc_render.specs.Next.{runs_of_rows}
-use Rattle.vtoc_render.proofs.NextCounts.{set_of_row}
-use Rattle.vtoc_render.proofs.PlacedTakes.{heads_same}
-use Rattle.vtoc_render.proofs.PlacedTracks.{run_with, none_shared}
-use Rattle.unit_change.proofs.LoadedTracks.{own_names}
-use Rattle.unit_change.proofs.OneOrder.{name_in, distinct_moved}
-use Rattle.unit_steps.proofs.Blocks.{few, home_short, from_slots}
-use Rattle.unit_steps.proofs.Lists.{one_by}
+use Rattle.step_plans.specs.render_laws.Rendered.{WasLoaded}
+use Rattle.step_plans.proofs.render_laws.Before.{apart, ends, extent_there}
+use Rattle.step_plans.specs.vtoc_render.Next.{runs_of_rows}
+use Rattle.step_plans.proofs.vtoc_render.NextCounts.{set_of_row}
+use Rattle.step_plans.proofs.vtoc_render.PlacedTakes.{heads_same}
+use Rattle.step_plans.proofs.vtoc_render.PlacedTracks.{run_with, none_shared}
+use Rattle.step_plans.proofs.unit_change.LoadedTracks.{own_names}
+use Rattle.step_plans.proofs.unit_change.OneOrder.{name_in, distinct_moved}
+use Rattle.step_plans.proofs.unit_steps.Blocks.{few, home_short, from_slots}
+use Rattle.step_plans.proofs.unit_steps.Lists.{one_by}
 use Rattle.step_plans.specs.Plans.{IsSound}
 
 -- ---- names

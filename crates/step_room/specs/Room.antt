@@ -9,10 +9,10 @@ use Rattle.vtoc_core.specs.declared.volume.Row.{Row}
 use Rattle.vtoc_core.specs.declared.volume.Volume.{Volume}
 use Rattle.volume_change.specs.declared.change.Change.{Change}
 use Rattle.volume_change.specs.declared.change.Change.TheVariants.{Repair, Put, Swap, Remove, Mark}
-use Rattle.vtoc_render.specs.Next.{MayChange, IsNext, HasNoRoom}
-use Rattle.unit_change.specs.Described.{Describes}
-use Rattle.unit_change.specs.Changed.{AreGone, extents_of, sets_put}
-use Rattle.unit_steps.specs.Plans.{HasRow}
+use Rattle.step_plans.specs.vtoc_render.Next.{MayChange, IsNext, HasNoRoom}
+use Rattle.step_plans.specs.unit_change.Described.{Describes}
+use Rattle.step_plans.specs.unit_change.Changed.{AreGone, extents_of, sets_put}
+use Rattle.step_plans.specs.unit_steps.Plans.{HasRow}
 use Rattle.step_plans.specs.Plans.{IsSound}
 
 -- a volume has no room in its VTOC for what is left once some of its data sets went and others came

@@ -4,3 +4,5 @@
 mod laws;
 
 pub use laws::room_laws;
+pub use step_plans;
+pub use step_plans::{unit_change, unit_steps, vtoc_render};

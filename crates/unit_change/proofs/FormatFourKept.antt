@@ -13,10 +13,10 @@ use Rattle.vtoc_core.specs.declared.volume.Volume.{Volume}
 use Rattle.vtoc_rewrite.specs.Rewrite.{AreSlotsAfter}
 use Rattle.vtoc_write.specs.Written.{AreRewritten}
 use Rattle.layout_edit.specs.Change.{edits_of, vtoc_after}
-use Rattle.render_laws.specs.Rendered.{WasLoaded}
-use Rattle.render_laws.proofs.Before.{has_layout, four_long, stands_after}
-use Rattle.render_laws.proofs.Indicators.{stated_long, stated_valid}
-use Rattle.render_laws.proofs.LayoutAfter.{four_found}
+use Rattle.vtoc_render.specs.render_laws.Rendered.{WasLoaded}
+use Rattle.vtoc_render.proofs.render_laws.Before.{has_layout, four_long, stands_after}
+use Rattle.vtoc_render.proofs.render_laws.Indicators.{stated_long, stated_valid}
+use Rattle.vtoc_render.proofs.render_laws.LayoutAfter.{four_found}
 use Rattle.volume_change.specs.declared.change.Change.{Change}
 use Rattle.volume_change.specs.declared.change.Change.TheVariants.{Repair, Put, Swap, Remove, Mark}
 use Rattle.vtoc_render.specs.declared.change.Rendered.{Rendered}

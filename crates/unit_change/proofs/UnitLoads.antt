@@ -14,7 +14,7 @@ use Rattle.volume_model.specs.Unit.{OnlineVolume}
 use Rattle.vtoc_check.specs.Slots.{AreSlotsOf}
 use Rattle.vtoc_core.specs.declared.volume.Volume.{Volume}
 use Rattle.vtoc_load.specs.LoadedVtoc.{IsLoadedVtoc}
-use Rattle.render_laws.specs.Rendered.{WasLoaded}
+use Rattle.vtoc_render.specs.render_laws.Rendered.{WasLoaded}
 use Rattle.unit_change.specs.Changed.{IsUnitOf, OnlineUnitsLoad}
 use Rattle.unit_change.proofs.FormatFour.{home_of}
 use Rattle.unit_change.proofs.LoadedTracks.{four, four_here}

@@ -4,3 +4,5 @@
 mod laws;
 
 pub use laws::{changed_laws, loaded_laws};
+pub use vtoc_render;
+pub use vtoc_render::render_laws;

@@ -9,8 +9,8 @@ use Rattle.redo_core.specs.declared.entries.Entry.{Entry}
 use Rattle.redo_core.specs.Reading.{journal_of}
 use Rattle.redo_core.specs.Stops.{JournalView}
 use Rattle.volume_change.specs.declared.change.Change.{Change}
-use Rattle.vtoc_render.specs.declared.change.Rendered.{Rendered}
-use Rattle.unit_change.specs.Described.{AreShort}
+use Rattle.unit_steps.specs.vtoc_render.declared.change.Rendered.{Rendered}
+use Rattle.unit_steps.specs.unit_change.Described.{AreShort}
 use Rattle.unit_load.specs.declared.state.UnitState.{UnitState}
 use Rattle.volume_model.specs.Unit.{UnitModel}
 use Rattle.move_core.specs.Facts.{Facts}

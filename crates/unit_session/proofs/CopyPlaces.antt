@@ -30,14 +30,14 @@ use Rattle.volume_change.specs.declared.change.Change.{Change}
 use Rattle.volume_change.specs.declared.change.Change.TheVariants.{Swap, Remove}
 use Rattle.volume_change.specs.Runs.{runs_in}
 use Rattle.volume_change.proofs.Names.{one_text}
-use Rattle.render_laws.specs.Rendered.{WasLoaded}
-use Rattle.render_laws.proofs.Before.{ends, extent_there, usable_within}
-use Rattle.vtoc_render.specs.Next.{MayChange, MayPut}
-use Rattle.vtoc_render.proofs.NextCounts.{set_of_row}
-use Rattle.vtoc_render.proofs.PlacedTakes.{heads_same}
-use Rattle.unit_change.specs.Changed.{extents_of}
-use Rattle.unit_change.proofs.LoadedTracks.{four, free_unused_by_rows, in_all_rows, own_names}
-use Rattle.unit_change.proofs.OneOrder.{distinct_moved, name_in}
+use Rattle.unit_steps.specs.render_laws.Rendered.{WasLoaded}
+use Rattle.unit_steps.proofs.render_laws.Before.{ends, extent_there, usable_within}
+use Rattle.unit_steps.specs.vtoc_render.Next.{MayChange, MayPut}
+use Rattle.unit_steps.proofs.vtoc_render.NextCounts.{set_of_row}
+use Rattle.unit_steps.proofs.vtoc_render.PlacedTakes.{heads_same}
+use Rattle.unit_steps.specs.unit_change.Changed.{extents_of}
+use Rattle.unit_steps.proofs.unit_change.LoadedTracks.{four, free_unused_by_rows, in_all_rows, own_names}
+use Rattle.unit_steps.proofs.unit_change.OneOrder.{distinct_moved, name_in}
 use Rattle.unit_load.specs.declared.state.UnitState.{UnitState}
 use Rattle.unit_load.specs.declared.state.UnitState.TheVariants.{Online}
 use Rattle.unit_load.specs.Kept.{IsFromSlots}

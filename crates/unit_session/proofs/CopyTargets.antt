@@ -16,7 +16,7 @@ use Rattle.vtoc_layout.specs.Layout.{AreApart, AreDistinct}
 use Rattle.vtoc_layout.proofs.Apart.{all_from}
 use Rattle.vtoc_layout.proofs.Distinct.{first_or_later, at_first, in_later, in_none, from_filter, from_flat, from_map, distinct_append}
 use Rattle.vtoc_layout.proofs.FreeRules.{held_in}
-use Rattle.vtoc_render.proofs.PlacedTracks.{none_shared}
+use Rattle.unit_steps.proofs.vtoc_render.PlacedTracks.{none_shared}
 use Rattle.unit_session.specs.declared.copies.TextMove.{TextMove}
 use Rattle.unit_session.specs.Copies.{moves_between}
 

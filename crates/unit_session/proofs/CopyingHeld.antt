@@ -14,7 +14,7 @@ use Rattle.vtoc_layout.proofs.Distinct.{at_first, in_later, in_map, in_filter}
 use Rattle.volume_model.specs.Reads.{IsTextAt, AreTexts}
 use Rattle.volume_model.specs.Sound.{Slots}
 use Rattle.volume_model.specs.Unit.{Text, good, bad}
-use Rattle.unit_change.specs.Described.{own_place}
+use Rattle.unit_steps.specs.unit_change.Described.{own_place}
 use Rattle.move_core.specs.Steps.{empty_text}
 use Rattle.unit_session.specs.declared.copies.TextMove.{TextMove}
 use Rattle.unit_session.specs.declared.copies.Copies.{Copies}

@@ -6,7 +6,7 @@ use Rattle.dasd_pool.specs.Disk.{Image, Shape, State}
 use Rattle.redo_core.specs.declared.control.Control.{Control}
 use Rattle.redo_core.specs.Phases.{IsAtRest}
 use Rattle.redo_core.specs.Reading.{journal_of, fills_of}
-use Rattle.unit_change.specs.Described.{AreShort}
+use Rattle.unit_steps.specs.unit_change.Described.{AreShort}
 use Rattle.unit_load.specs.declared.state.UnitState.{UnitState}
 use Rattle.unit_load.specs.Kept.{IsKept, AreKeptOf}
 use Rattle.unit_load.specs.State.{IsStateOf}

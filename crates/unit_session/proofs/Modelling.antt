@@ -29,8 +29,8 @@ use Rattle.move_core.specs.Facts.{Facts}
 use Rattle.move_core.specs.Stands.{IsAfterSlide, Means, IsSettled}
 use Rattle.move_core.proofs.OneFault.{one_head_fault, one_label_fault}
 use Rattle.move_core.proofs.Replacing.{unit_alone}
-use Rattle.unit_change.specs.Described.{AreShort, own_place}
-use Rattle.unit_change.proofs.LoadedUnits.{loaded_online, refused_offline}
+use Rattle.unit_steps.specs.unit_change.Described.{AreShort, own_place}
+use Rattle.unit_steps.proofs.unit_change.LoadedUnits.{loaded_online, refused_offline}
 use Rattle.unit_load.specs.declared.state.UnitState.{UnitState}
 use Rattle.unit_load.specs.declared.state.UnitState.TheVariants as states
 use Rattle.unit_load.specs.State.{IsStateOf}

@@ -7,9 +7,9 @@ use Rattle.dsn_filter.specs.declared.dsn.Dsn.{Dsn}
 use Rattle.vtoc_core.specs.declared.volume.Volume.{Volume}
 use Rattle.volume_change.specs.declared.change.Change.{Change}
 use Rattle.volume_change.specs.declared.change.Change.TheVariants.{Remove}
-use Rattle.vtoc_render.specs.Loads.{LoadsFrom}
-use Rattle.vtoc_render.specs.Next.{MayChange}
-use Rattle.unit_change.proofs.LoadedTracks.{four}
+use Rattle.unit_steps.specs.vtoc_render.Loads.{LoadsFrom}
+use Rattle.unit_steps.specs.vtoc_render.Next.{MayChange}
+use Rattle.unit_steps.proofs.unit_change.LoadedTracks.{four}
 use Rattle.unit_load.specs.declared.state.UnitState.{UnitState}
 use Rattle.unit_load.specs.Kept.{IsFromSlots}
 use Rattle.move_core.specs.declared.steps.Origin.TheVariants as origins

@@ -10,8 +10,8 @@ use Rattle.redo_core.specs.Reading.{journal_of}
 use Rattle.redo_core.specs.Stops.{JournalView}
 use Rattle.vol_label.specs.declared.serial.Serial.{Serial}
 use Rattle.vtoc_core.specs.declared.volume.Volume.{Volume}
-use Rattle.vtoc_render.specs.declared.change.Rendered.{Rendered}
-use Rattle.vtoc_render.proofs.Known.{rows_named}
+use Rattle.unit_steps.specs.vtoc_render.declared.change.Rendered.{Rendered}
+use Rattle.unit_steps.proofs.vtoc_render.Known.{rows_named}
 use Rattle.volume_change.specs.declared.change.Change.{Change}
 use Rattle.volume_change.specs.Spot.{AreNamed}
 use Rattle.unit_load.specs.Reads.{OnlyReads}

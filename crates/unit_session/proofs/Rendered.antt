@@ -7,9 +7,9 @@ use Rattle.std.proofs.lemmas.List.Elements.{All-nil, All-cons}
 use Rattle.redo_core.specs.declared.entries.Entry.{Entry}
 use Rattle.vtoc_core.specs.declared.volume.Volume.{Volume}
 use Rattle.volume_change.specs.declared.change.Change.{Change}
-use Rattle.vtoc_render.specs.declared.change.Rendered.{Rendered}
-use Rattle.vtoc_render.specs.Loads.{LoadsFrom}
-use Rattle.vtoc_render.specs.Next.{MayChange}
+use Rattle.unit_steps.specs.vtoc_render.declared.change.Rendered.{Rendered}
+use Rattle.unit_steps.specs.vtoc_render.Loads.{LoadsFrom}
+use Rattle.unit_steps.specs.vtoc_render.Next.{MayChange}
 use Rattle.unit_load.specs.declared.state.UnitState.{UnitState}
 use Rattle.unit_load.specs.declared.state.UnitState.TheVariants.{Online}
 use Rattle.unit_steps.specs.Plans.{IsLoadedAt}

@@ -26,7 +26,7 @@ use Rattle.vtoc_core.specs.declared.volume.Volume.{Volume}
 use Rattle.volume_change.proofs.Names.{one_text}
 use Rattle.move_core.specs.Facts.{Facts}
 use Rattle.move_core.specs.Stands.{IsGood, IsSettled}
-use Rattle.unit_change.specs.Described.{own_place}
+use Rattle.unit_steps.specs.unit_change.Described.{own_place}
 use Rattle.unit_load.specs.declared.state.UnitState.{UnitState}
 use Rattle.unit_load.specs.declared.state.UnitState.TheVariants.{Online}
 use Rattle.unit_steps.specs.Loaded.{HaveStates, AreLoaded, KeepVtocs}

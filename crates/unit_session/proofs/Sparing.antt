@@ -6,7 +6,7 @@ use Rattle.dasd_pool.specs.Disk.{Disk, LeavesOnly, Runs, Shape, IsSynced}
 use Rattle.redo_core.specs.declared.entries.Entry.{Entry}
 use Rattle.redo_core.specs.Phases.{of_commit, targets}
 use Rattle.redo_core.specs.Reading.{among, journal_of, placed}
-use Rattle.vtoc_render.specs.declared.change.Rendered.{Rendered}
+use Rattle.unit_steps.specs.vtoc_render.declared.change.Rendered.{Rendered}
 use Rattle.volume_change.specs.declared.change.Change.{Change}
 use Rattle.unit_load.specs.declared.state.UnitState.{UnitState}
 use Rattle.unit_steps.specs.Loaded.{AreLoaded, AreVtocsOf, KeepVtocs}

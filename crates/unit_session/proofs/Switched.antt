@@ -12,9 +12,9 @@ use Rattle.redo_core.specs.Phases.{IsAtRest, IsCommitted}
 use Rattle.redo_core.specs.Reading.{journal_of, placed}
 use Rattle.volume_change.specs.declared.change.Change.{Change}
 use Rattle.volume_change.specs.declared.change.Change.TheVariants.{Mark}
-use Rattle.vtoc_render.specs.declared.change.Rendered.{Rendered}
+use Rattle.unit_steps.specs.vtoc_render.declared.change.Rendered.{Rendered}
 use Rattle.move_core.specs.Taking.{AreSame}
-use Rattle.unit_change.specs.Described.{AreShort}
+use Rattle.unit_steps.specs.unit_change.Described.{AreShort}
 use Rattle.unit_load.specs.declared.state.UnitState.{UnitState}
 use Rattle.unit_load.specs.declared.state.UnitState.TheVariants.{Online}
 use Rattle.unit_load.specs.Kept.{AreKeptOf}

@@ -6,7 +6,7 @@ use Rattle.std.proofs.lemmas.Option.{same_Some, slice_get_read, slice_get_within
 use Rattle.ckd_image.specs.Device.{slot_of}
 use Rattle.vtoc_core.specs.declared.volume.Volume.{Volume}
 use Rattle.volume_change.specs.declared.change.Change.{Change}
-use Rattle.vtoc_render.specs.declared.change.Rendered.{Rendered}
+use Rattle.unit_steps.specs.vtoc_render.declared.change.Rendered.{Rendered}
 use Rattle.unit_load.specs.declared.state.UnitState.{UnitState}
 use Rattle.unit_steps.specs.Plans.{IsLoadedAt}
 use Rattle.unit_steps.specs.Rendering.{AreOfUnits, ArePatched, VtocsAfter}

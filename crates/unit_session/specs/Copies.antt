@@ -16,7 +16,7 @@ use Rattle.volume_model.specs.Reads.{IsTextAt}
 use Rattle.vtoc_core.specs.declared.volume.Row.{Row}
 use Rattle.vtoc_core.specs.declared.volume.Volume.{Volume}
 use Rattle.volume_change.specs.declared.change.Change.{Change}
-use Rattle.unit_change.specs.Described.{AreShort}
+use Rattle.unit_steps.specs.unit_change.Described.{AreShort}
 use Rattle.unit_load.specs.declared.state.UnitState.{UnitState}
 use Rattle.move_core.specs.Steps.{empty_text}
 use Rattle.unit_steps.specs.declared.plan.Tracks.{Tracks}

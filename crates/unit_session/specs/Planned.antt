@@ -12,9 +12,9 @@ use Rattle.vtoc_core.specs.declared.volume.Volume.{Volume}
 use Rattle.vtoc_write.specs.declared.blocks.Block.{Block}
 use Rattle.vtoc_write.specs.Written.{AreAscending}
 use Rattle.volume_change.specs.declared.change.Change.{Change}
-use Rattle.vtoc_render.specs.declared.change.Rendered.{Rendered}
-use Rattle.vtoc_render.specs.Loads.{LoadsFrom}
-use Rattle.vtoc_render.specs.Next.{HasNoRoom, MayChange}
+use Rattle.unit_steps.specs.vtoc_render.declared.change.Rendered.{Rendered}
+use Rattle.unit_steps.specs.vtoc_render.Loads.{LoadsFrom}
+use Rattle.unit_steps.specs.vtoc_render.Next.{HasNoRoom, MayChange}
 use Rattle.unit_load.specs.declared.state.UnitState.{UnitState}
 use Rattle.move_core.specs.declared.steps.Step.{Step}
 use Rattle.move_core.specs.Taking.{TakeUnits}

@@ -8,7 +8,7 @@ ghost use Rattle.vtoc_core.specs.declared.volume.Row.{Row as RowOf};
 ghost use Rattle.vtoc_core.specs.declared.volume.Volume.{Volume as VolumeOf};
 ghost use Rattle.vtoc_core.specs.Loaded.{field_of};
 ghost use Rattle.volume_change.specs.Spot.{AreNamed};
-ghost use Rattle.unit_change.specs.Changed.{extents_of};
+ghost use Rattle.unit_steps.specs.unit_change.Changed.{extents_of};
 ghost use Rattle.unit_steps.specs.Plans.{IsLoadedAt, IsPlan};
 ghost use Rattle.unit_steps.specs.Copied.{IsPutBy};
 ghost use Rattle.unit_session.specs.Copies.{moves_between, HasSource, HasTarget, AreRowCopies, AreCopiesOf};

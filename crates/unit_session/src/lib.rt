@@ -15,3 +15,5 @@ pub use copies::{Copies, TextMove};
 pub use fault::{Broken, PlanFault, PlanStop};
 pub use planned::{Copied, Planned};
 pub use session::Session;
+pub use unit_steps;
+pub use unit_steps::vtoc_render;

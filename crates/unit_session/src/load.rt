@@ -2,7 +2,7 @@
 
 ghost use Rattle.std.specs.Prelude.{◌≡◌, ◌<◌, IfOk, IfErr};
 ghost use Rattle.redo_core.specs.Reading.{journal_of};
-ghost use Rattle.unit_change.specs.Described.{AreShort};
+ghost use Rattle.unit_steps.specs.unit_change.Described.{AreShort};
 ghost use Rattle.unit_load.specs.Kept.{IsKept, AreKeptOf};
 ghost use Rattle.unit_load.specs.Reads.{OnlyReads, IsUnitFault};
 ghost use Rattle.unit_load.specs.State.{IsStateOf};

@@ -8,8 +8,8 @@ use crate::copies::volume_at;
 use ckd_image::Bytes;
 use free_map::Run;
 use unit_load::UnitState;
+use unit_steps::vtoc_render::Rendered;
 use volume_change::Change;
-use vtoc_render::Rendered;
 use vtoc_write::Block;
 
 /// Puts blocks in place among the slots of a run, of so many bytes each.

@@ -28,8 +28,8 @@ use dasd_pool::{Pool, PoolFault};
 use redo_core::{Entries, Journal};
 use std::alloc::Global;
 use std::marker::Model;
+use unit_steps::vtoc_render::Rendered;
 use unit_steps::{Plan, Tracks};
-use vtoc_render::Rendered;
 
 /// A session and a plan of which all is ready: nothing is written, and no memory is taken any more.
 #[derive(Drop)]

@@ -12,9 +12,9 @@ use ckd_image::{Bytes, NoMemory};
 use redo_core::Entries;
 use std::alloc::Global;
 use unit_load::UnitState;
+use unit_steps::vtoc_render::{Rendered, render};
 use volume_change::Change;
 use vtoc_check::VtocFault;
-use vtoc_render::{Rendered, render};
 use vtoc_write::Block;
 
 /// Whether the volume of a unit has an index.

@@ -10,7 +10,7 @@ use Rattle.redo_core.specs.Phases.{targets}
 use Rattle.redo_core.specs.Reading.{among, placed, set_block}
 use Rattle.redo_core.proofs.Crash.{placed_other}
 use Rattle.volume_change.specs.declared.change.Change.{Change}
-use Rattle.vtoc_render.specs.declared.change.Rendered.{Rendered}
+use Rattle.unit_change.specs.vtoc_render.declared.change.Rendered.{Rendered}
 use Rattle.unit_load.specs.declared.state.UnitState.TheVariants.{Online}
 use Rattle.unit_load.specs.declared.state.UnitState.{UnitState}
 use Rattle.unit_steps.specs.Laws.{UnchangedHaveNoEntry}

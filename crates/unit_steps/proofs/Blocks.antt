@@ -26,13 +26,13 @@ use Rattle.vtoc_write.specs.Written.{slot_at, block_of, IsRewritten, IsBlockFor,
 use Rattle.vtoc_write.proofs.Texts.{front_within, long_after, short_slot}
 use Rattle.vtoc_rewrite.proofs.Addresses.{one_text_anywhere}
 use Rattle.layout_edit.specs.Change.{edits_of}
-use Rattle.render_laws.specs.Rendered.{WasLoaded}
-use Rattle.render_laws.proofs.Before.{tracks_stand}
+use Rattle.unit_change.specs.render_laws.Rendered.{WasLoaded}
+use Rattle.unit_change.proofs.render_laws.Before.{tracks_stand}
 use Rattle.volume_change.specs.declared.change.Change.{Change}
 use Rattle.volume_change.specs.declared.change.Change.TheVariants.{Repair, Put, Swap, Remove, Mark}
-use Rattle.vtoc_render.specs.declared.change.Rendered.{Rendered}
-use Rattle.vtoc_render.specs.Change.{IsChangeWritten}
-use Rattle.vtoc_render.specs.Loads.{OfEachVtoc}
+use Rattle.unit_change.specs.vtoc_render.declared.change.Rendered.{Rendered}
+use Rattle.unit_change.specs.vtoc_render.Change.{IsChangeWritten}
+use Rattle.unit_change.specs.vtoc_render.Loads.{OfEachVtoc}
 use Rattle.unit_change.proofs.FormatFour.{home_of, home_in}
 use Rattle.unit_change.proofs.LoadedTracks.{four, four_here}
 use Rattle.unit_load.specs.Kept.{IsFromSlots}

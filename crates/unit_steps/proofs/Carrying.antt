@@ -14,7 +14,7 @@ use Rattle.vtoc_check.specs.Slots.{AreSlotsOf}
 use Rattle.volume_change.specs.declared.change.Change.{Change}
 use Rattle.volume_change.specs.declared.change.Change.TheVariants.{Remove}
 use Rattle.volume_change.proofs.Names.{one_text}
-use Rattle.vtoc_render.specs.declared.change.Rendered.{Rendered}
+use Rattle.unit_change.specs.vtoc_render.declared.change.Rendered.{Rendered}
 use Rattle.unit_change.specs.Described.{AreShort}
 use Rattle.unit_load.specs.declared.state.UnitState.{UnitState}
 use Rattle.unit_load.specs.declared.state.UnitState.TheVariants.{Online}

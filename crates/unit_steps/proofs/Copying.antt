@@ -19,8 +19,8 @@ use Rattle.volume_model.specs.Sound.{Slots, IsTrackReading, IsVtoc}
 use Rattle.vtoc_check.specs.Slots.{AreSlotsOf}
 use Rattle.vtoc_core.specs.declared.volume.Volume.{Volume}
 use Rattle.vtoc_load.specs.LoadedVtoc.{IsLoadedVtoc}
-use Rattle.vtoc_render.specs.Next.{runs_of_rows}
-use Rattle.vtoc_render.proofs.PlacedTracks.{IsUnused}
+use Rattle.unit_change.specs.vtoc_render.Next.{runs_of_rows}
+use Rattle.unit_change.proofs.vtoc_render.PlacedTracks.{IsUnused}
 use Rattle.unit_change.specs.Described.{AreShort}
 use Rattle.unit_change.proofs.FormatFour.{home_of, home_in}
 use Rattle.unit_change.proofs.LoadedTracks.{free_unused_by_rows}

@@ -16,8 +16,8 @@ use Rattle.vtoc_layout.proofs.Distinct.{first_or_later, in_none}
 use Rattle.volume_change.specs.declared.change.Change.{Change}
 use Rattle.volume_change.specs.declared.change.Change.TheVariants.{Swap}
 use Rattle.volume_change.specs.Runs.{runs_in}
-use Rattle.vtoc_render.specs.declared.change.Rendered.{Rendered}
-use Rattle.vtoc_render.specs.Next.{runs_of_rows}
+use Rattle.unit_change.specs.vtoc_render.declared.change.Rendered.{Rendered}
+use Rattle.unit_change.specs.vtoc_render.Next.{runs_of_rows}
 use Rattle.unit_change.specs.Changed.{extents_of}
 use Rattle.unit_change.specs.Described.{own_place}
 use Rattle.unit_change.proofs.Kept.{texts_kept}

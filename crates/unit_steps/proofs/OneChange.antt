@@ -16,11 +16,11 @@ use Rattle.vtoc_core.specs.declared.volume.Volume.{Volume}
 use Rattle.vtoc_core.specs.Loaded.{field_of}
 use Rattle.volume_change.specs.declared.change.Change.{Change}
 use Rattle.volume_change.specs.declared.change.Change.TheVariants.{Mark}
-use Rattle.vtoc_render.specs.declared.change.Rendered.{Rendered}
-use Rattle.vtoc_render.specs.Change.{IsChangeWritten}
-use Rattle.vtoc_render.specs.Loads.{OfEachVtoc}
-use Rattle.vtoc_render.specs.Next.{MayChange, IsNext}
-use Rattle.vtoc_render.specs.Render.{LoadsAfter}
+use Rattle.unit_change.specs.vtoc_render.declared.change.Rendered.{Rendered}
+use Rattle.unit_change.specs.vtoc_render.Change.{IsChangeWritten}
+use Rattle.unit_change.specs.vtoc_render.Loads.{OfEachVtoc}
+use Rattle.unit_change.specs.vtoc_render.Next.{MayChange, IsNext}
+use Rattle.unit_change.specs.vtoc_render.Render.{LoadsAfter}
 use Rattle.unit_change.specs.Changed.{AreTextsPut, sets_put, set_put, extents_of}
 use Rattle.unit_change.specs.Described.{AreShort}
 use Rattle.unit_load.specs.declared.state.UnitState.{UnitState}

@@ -15,8 +15,8 @@ use Rattle.vtoc_core.specs.declared.volume.Volume.{Volume}
 use Rattle.volume_change.specs.declared.change.Change.{Change}
 use Rattle.volume_change.specs.declared.change.Change.TheVariants.{Mark}
 use Rattle.volume_change.specs.Runs.{runs_in}
-use Rattle.vtoc_render.specs.declared.change.Rendered.{Rendered}
-use Rattle.vtoc_render.specs.Next.{MayChange, MayPut}
+use Rattle.unit_change.specs.vtoc_render.declared.change.Rendered.{Rendered}
+use Rattle.unit_change.specs.vtoc_render.Next.{MayChange, MayPut}
 use Rattle.unit_change.specs.Changed.{AreGone, AreTextsPut, extents_of, set_put, sets_put}
 use Rattle.unit_change.specs.Described.{own_place}
 use Rattle.unit_load.specs.declared.state.UnitState.{UnitState}

@@ -21,8 +21,8 @@ use Rattle.vtoc_core.specs.Loaded.{row_in, field_of, HasItsName}
 use Rattle.vtoc_layout.specs.Layout.{AreApart, AreDistinct}
 use Rattle.vtoc_layout.proofs.Distinct.{first_or_later, at_first, in_later, in_none, in_middle}
 use Rattle.volume_change.specs.Runs.{runs_in}
-use Rattle.vtoc_render.specs.Next.{MayPut, runs_of_rows}
-use Rattle.vtoc_render.proofs.PlacedTracks.{none_shared}
+use Rattle.unit_change.specs.vtoc_render.Next.{MayPut, runs_of_rows}
+use Rattle.unit_change.proofs.vtoc_render.PlacedTracks.{none_shared}
 use Rattle.unit_change.specs.Changed.{extents_of}
 use Rattle.unit_change.specs.Described.{own_place, DescribesSets}
 use Rattle.unit_change.proofs.Describing.{in_one_step, runs_in_row}

@@ -8,7 +8,7 @@ use Rattle.volume_model.specs.Reads.{AreTexts}
 use Rattle.volume_model.specs.Unit.{Text, Extent, DataSet, UnitModel, tracks_of}
 use Rattle.volume_change.specs.declared.change.Change.{Change}
 use Rattle.volume_change.specs.declared.change.Change.TheVariants.{Repair, Swap, Remove}
-use Rattle.vtoc_render.specs.declared.change.Rendered.{Rendered}
+use Rattle.unit_change.specs.vtoc_render.declared.change.Rendered.{Rendered}
 use Rattle.unit_change.specs.Changed.{extents_of}
 use Rattle.unit_change.specs.Described.{own_place}
 use Rattle.unit_load.specs.declared.state.UnitState.{UnitState}

@@ -21,8 +21,8 @@ use Rattle.vtoc_write.specs.Written.{block_of, slot_with}
 use Rattle.vtoc_write.proofs.Texts.{short_slot}
 use Rattle.volume_change.specs.declared.change.Change.{Change}
 use Rattle.volume_change.specs.declared.change.Change.TheVariants.{Mark}
-use Rattle.vtoc_render.specs.declared.change.Rendered.{Rendered}
-use Rattle.vtoc_render.specs.Next.{IsChanged}
+use Rattle.unit_change.specs.vtoc_render.declared.change.Rendered.{Rendered}
+use Rattle.unit_change.specs.vtoc_render.Next.{IsChanged}
 use Rattle.unit_change.specs.Described.{AreShort}
 use Rattle.unit_change.proofs.ChangedRows.{is_changed}
 use Rattle.unit_change.proofs.FormatFour.{run_inside}

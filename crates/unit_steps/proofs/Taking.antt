@@ -15,7 +15,7 @@ use Rattle.volume_model.specs.Sound.{Slots}
 use Rattle.volume_model.specs.Unit.{UnitModel}
 use Rattle.vtoc_write.specs.declared.blocks.Block.{Block}
 use Rattle.volume_change.specs.declared.change.Change.{Change}
-use Rattle.vtoc_render.specs.declared.change.Rendered.{Rendered}
+use Rattle.unit_change.specs.vtoc_render.declared.change.Rendered.{Rendered}
 use Rattle.unit_change.specs.Described.{own_place}
 use Rattle.unit_change.proofs.FormatFour.{run_inside}
 use Rattle.unit_load.specs.declared.state.UnitState.{UnitState}

@@ -22,8 +22,8 @@ use Rattle.vtoc_layout.specs.Layout.{AreDistinct}
 use Rattle.vtoc_load.specs.LoadedVtoc.{IsLoadedVtoc}
 use Rattle.volume_change.specs.declared.change.Change.{Change}
 use Rattle.volume_change.specs.declared.change.Change.TheVariants.{Mark}
-use Rattle.vtoc_render.specs.declared.change.Rendered.{Rendered}
-use Rattle.vtoc_render.specs.Next.{MayChange}
+use Rattle.unit_change.specs.vtoc_render.declared.change.Rendered.{Rendered}
+use Rattle.unit_change.specs.vtoc_render.Next.{MayChange}
 use Rattle.unit_change.specs.Changed.{AreGone, AreTextsPut, sets_put, IsUnitOf, extents_of}
 use Rattle.unit_change.specs.Described.{own_place, AreShort, Describes}
 use Rattle.unit_change.proofs.Describing.{sets_found}

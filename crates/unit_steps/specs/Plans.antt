@@ -13,7 +13,7 @@ use Rattle.vtoc_core.specs.declared.volume.Row.{Row}
 use Rattle.vtoc_core.specs.declared.volume.Volume.{Volume}
 use Rattle.volume_change.specs.declared.change.Change.{Change}
 use Rattle.volume_change.specs.declared.change.Change.TheVariants.{Repair, Put, Swap, Remove}
-use Rattle.vtoc_render.specs.Next.{MayChange}
+use Rattle.unit_change.specs.vtoc_render.Next.{MayChange}
 use Rattle.unit_change.specs.Changed.{extents_of}
 use Rattle.unit_load.specs.declared.state.UnitState.{UnitState}
 use Rattle.unit_load.specs.declared.state.UnitState.TheVariants.{Online}

@@ -10,11 +10,11 @@ use Rattle.vtoc_core.specs.declared.volume.Volume.{Volume}
 use Rattle.vtoc_write.specs.declared.blocks.Block.{Block}
 use Rattle.vtoc_write.specs.Written.{block_of, slot_with}
 use Rattle.volume_change.specs.declared.change.Change.{Change}
-use Rattle.vtoc_render.specs.declared.change.Rendered.{Rendered}
-use Rattle.vtoc_render.specs.Change.{IsChangeWritten}
-use Rattle.vtoc_render.specs.Loads.{OfEachVtoc}
-use Rattle.vtoc_render.specs.Next.{IsNext}
-use Rattle.vtoc_render.specs.Render.{LoadsAfter}
+use Rattle.unit_change.specs.vtoc_render.declared.change.Rendered.{Rendered}
+use Rattle.unit_change.specs.vtoc_render.Change.{IsChangeWritten}
+use Rattle.unit_change.specs.vtoc_render.Loads.{OfEachVtoc}
+use Rattle.unit_change.specs.vtoc_render.Next.{IsNext}
+use Rattle.unit_change.specs.vtoc_render.Render.{LoadsAfter}
 use Rattle.unit_load.specs.declared.state.UnitState.{UnitState}
 use Rattle.unit_load.specs.declared.state.UnitState.TheVariants.{Online}
 use Rattle.unit_steps.specs.Plans.{IsLoadedAt}

@@ -6,3 +6,5 @@ mod plan;
 
 pub use laws::{copying_laws, switching_laws};
 pub use plan::{Changes, Plan, Tracks};
+pub use unit_change;
+pub use unit_change::{render_laws, vtoc_render};

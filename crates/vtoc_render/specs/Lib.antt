@@ -1,3 +1,4 @@
+pub use Rattle.render_laws.specs as render_laws
 pub mod Loads
 pub mod Next
 pub mod Render

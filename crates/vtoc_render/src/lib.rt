@@ -15,3 +15,4 @@ mod space;
 
 pub use change::{Rendered, render};
 pub use laws::loading_laws;
+pub use render_laws;

@@ -3,7 +3,7 @@ use Rattle.std.proofs.lemmas.List.Elements.{All-contains}
 use Rattle.ckd_image.specs.Device.{heads_of}
 use Rattle.volume_model.specs.Pinned.{IsNameOf}
 use Rattle.unit_load.specs.declared.state.UnitState.{UnitState}
-use Rattle.unit_steps.specs.Loaded.{IsModel}
+use Rattle.job_copies.specs.unit_steps.Loaded.{IsModel}
 use Rattle.job_ops.specs.Setting.{facts_of}
 use Rattle.job_ops.proofs.Looking.{unit_there, few_extents, seen, loaded_there, loaded_sound, found_row, stays_pinned}
 use Rattle.job_ops.proofs.asking.look_up.Goals as goal

@@ -4,8 +4,8 @@ use Rattle.std.proofs.lemmas.Option.{IfSome_then}
 use Rattle.volume_model.specs.Unit.{online}
 use Rattle.vtoc_core.specs.declared.volume.Row.{Row}
 use Rattle.unit_load.specs.declared.state.UnitState.{UnitState}
-use Rattle.unit_steps.specs.Loaded.{IsModel}
-use Rattle.step_plans.proofs.LoadedRows.{sound_named}
+use Rattle.job_copies.specs.unit_steps.Loaded.{IsModel}
+use Rattle.job_copies.proofs.step_plans.LoadedRows.{sound_named}
 use Rattle.job_ops.specs.Setting.{facts_of}
 use Rattle.job_ops.proofs.Looking.{loaded_sound, described_online}
 use Rattle.job_ops.proofs.Places.{free_heads, is_sized, one_here, place_here, place_seen, none_seen}

@@ -4,8 +4,8 @@ use Rattle.volume_model.specs.Unit.{online}
 use Rattle.vtoc_core.specs.declared.volume.Row.{Row}
 use Rattle.vtoc_core.specs.declared.volume.Volume.{Volume}
 use Rattle.unit_load.specs.declared.state.UnitState.{UnitState}
-use Rattle.unit_steps.specs.Loaded.{IsModel}
-use Rattle.unit_steps.specs.Plans.{HasRow}
+use Rattle.job_copies.specs.unit_steps.Loaded.{IsModel}
+use Rattle.job_copies.specs.unit_steps.Plans.{HasRow}
 use Rattle.job_ops.specs.Setting.{facts_of}
 use Rattle.job_ops.proofs.Looking.{described_online, one_volume}
 use Rattle.job_ops.proofs.copies.taken.Goals as goal

@@ -2,7 +2,7 @@ use Rattle.std.proofs.Common.{refl, ap, ◌∙◌}
 use Rattle.sysin_words.specs.declared.lead.Verb.{Verb}
 use Rattle.job_lines.specs.declared.message.Message.TheVariants as messages
 use Rattle.job_lines.specs.Lines.{line}
-use Rattle.unit_session.specs.Sessions.{SessionView}
+use Rattle.job_ops.specs.unit_session.Sessions.{SessionView}
 use Rattle.job_script.proofs.Ones.{not_begun, reported, halted_in, short_in}
 use Rattle.job_script.proofs.run.run_one.Goals as goal
 

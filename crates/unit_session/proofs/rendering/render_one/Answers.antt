@@ -2,8 +2,8 @@ use Rattle.std.proofs.Common.{◌≡◌, ℕ, List, length, Some, refl, sym, ap,
 use Rattle.std.specs.Prelude.{slice_get}
 use Rattle.std.proofs.lemmas.Option.{same_Some, slice_get_read, slice_get_within}
 use Rattle.vtoc_core.specs.declared.volume.Volume.{Volume}
-use Rattle.vtoc_render.specs.Loads.{LoadsFrom}
-use Rattle.vtoc_render.specs.Next.{MayChange}
+use Rattle.unit_steps.specs.vtoc_render.Loads.{LoadsFrom}
+use Rattle.unit_steps.specs.vtoc_render.Next.{MayChange}
 use Rattle.unit_session.proofs.Rendered.{one_loaded}
 use Rattle.unit_session.proofs.rendering.render_one.Goals as goal
 

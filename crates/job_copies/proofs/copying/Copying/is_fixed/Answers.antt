@@ -4,7 +4,7 @@ use Rattle.ckd_image.specs.Device.{heads_of}
 use Rattle.volume_model.specs.Pinned.{IsPinned}
 use Rattle.volume_model.specs.Unit.{DataSet}
 use Rattle.vtoc_core.specs.declared.volume.Row.{Row}
-use Rattle.unit_steps.specs.Plans.{HasRow}
+use Rattle.step_room.specs.unit_steps.Plans.{HasRow}
 use Rattle.job_copies.specs.Case.{Case, Replaces}
 use Rattle.job_copies.proofs.Replaced.{origin_described}
 use Rattle.job_copies.proofs.Rows.{few_extents, same_origin}

@@ -1,7 +1,7 @@
 use Rattle.std.proofs.Common.{◌≡◌, inl, inr, ◌↔◌, IsTrue, Bool, not, false, Bor, refl, sym, subst, ◌∙◌}
 use Rattle.std.proofs.lemmas.Bool.{false≢true, not_from_true, not_from_false, OnFalse_from}
 use Rattle.vtoc_core.specs.declared.volume.Row.{Row}
-use Rattle.step_plans.specs.Plans.{HasNone}
+use Rattle.step_room.specs.step_plans.Plans.{HasNone}
 use Rattle.job_copies.specs.Reasons.{IsNameTaken}
 use Rattle.job_copies.specs.Rows.{IsOwnRow}
 use Rattle.job_copies.proofs.Replaced.{own_told, replace_told, namesake_found}

@@ -1,7 +1,7 @@
 use Rattle.std.proofs.Common.{IsTrue, ◌↔◌, Bool, Bor, sym, subst}
 use Rattle.std.proofs.lemmas.Bool.{iff_false, OnFalse_at}
 use Rattle.vtoc_core.specs.declared.volume.Row.{Row}
-use Rattle.step_plans.specs.Plans.{IsClear}
+use Rattle.step_room.specs.step_plans.Plans.{IsClear}
 use Rattle.job_copies.specs.Case.{ReplacesSome}
 use Rattle.job_copies.proofs.Reasons.{pinned_first, held_first, spared_first, taken_first, none_first}
 use Rattle.job_copies.proofs.Replaced.{replaced_found}

@@ -3,8 +3,8 @@ use Rattle.std.proofs.lemmas.Result.{err_from_is_err_and}
 use Rattle.unit_load.specs.declared.state.UnitState.{UnitState}
 use Rattle.move_core.specs.Facts.{shown}
 use Rattle.move_core.specs.Runs.{IsRun}
-use Rattle.unit_steps.specs.Plans.{IsLoadedAt}
-use Rattle.unit_session.specs.Sessions.{IsSameSession}
+use Rattle.job_copies.specs.unit_steps.Plans.{IsLoadedAt}
+use Rattle.job_steps.specs.unit_session.Sessions.{IsSameSession}
 use Rattle.job_ops.specs.Reshaping.{step_of, FitsReshape}
 use Rattle.job_ops.proofs.ReshapeUnits.{reshape_planned}
 use Rattle.job_ops.proofs.ReshapeEnds.{ends_same, lacks_change, room_plain, steps_plain, same_facts}

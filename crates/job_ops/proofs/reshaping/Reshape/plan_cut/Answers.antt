@@ -2,7 +2,7 @@ use Rattle.std.proofs.Common.{◌⊎◌, Some, ap, subst, ◌∙◌}
 use Rattle.std.specs.Prelude.{IfSome, IfNone}
 use Rattle.unit_load.specs.declared.state.UnitState.{UnitState}
 use Rattle.move_core.specs.declared.steps.Step.TheVariants as steps
-use Rattle.step_plans.specs.Plans.{IsPlanFor, HasNone, HasManyExtents, HasFewTracks}
+use Rattle.job_copies.specs.step_plans.Plans.{IsPlanFor, HasNone, HasManyExtents, HasFewTracks}
 use Rattle.job_ops.proofs.ReshapePlans.{cut_planned, not_cut}
 use Rattle.job_ops.proofs.reshaping.Reshape.plan_cut.Goals as goal
 

@@ -1,7 +1,7 @@
 use Rattle.std.proofs.Common.{◌⊎◌, Some, ap, subst, ◌∙◌}
 use Rattle.std.specs.Prelude.{IfSome, IfNone}
 use Rattle.unit_load.specs.declared.state.UnitState.{UnitState}
-use Rattle.step_plans.specs.Plans.{IsJoinPlan, IsWhole, HasNone, HasManyExtents}
+use Rattle.job_copies.specs.step_plans.Plans.{IsJoinPlan, IsWhole, HasNone, HasManyExtents}
 use Rattle.job_ops.specs.Reshaping.{CanHave}
 use Rattle.job_ops.proofs.ReshapePlans.{can_here, join_planned, not_joined}
 use Rattle.job_ops.specs.declared.reshaping.Layout.{Layout}

@@ -2,9 +2,9 @@ use Rattle.std.proofs.Common.{◌≢◌, ◌⊎◌, Bool, sym, subst, ◌∙◌}
 use Rattle.std.specs.Prelude.{IfOk, IfSome, IfNone}
 use Rattle.dsn_filter.specs.Dsn.{IsDsn}
 use Rattle.vtoc_core.specs.declared.volume.Row.{Row as RowOf}
-use Rattle.unit_steps.specs.Plans.{HasRow}
-use Rattle.step_plans.specs.declared.copies.SetCopy.{SetCopy}
-use Rattle.step_plans.specs.Plans.{ArePlacesOn, IsPlanForBoth, IsInTheWay, HasNone, HasManyExtents, step_of_copy, step_of_carry}
+use Rattle.job_copies.specs.unit_steps.Plans.{HasRow}
+use Rattle.job_copies.specs.step_plans.declared.copies.SetCopy.{SetCopy}
+use Rattle.job_copies.specs.step_plans.Plans.{ArePlacesOn, IsPlanForBoth, IsInTheWay, HasNone, HasManyExtents, step_of_copy, step_of_carry}
 use Rattle.job_ops.proofs.TransferPlans.{copied_step, carried_apart}
 use Rattle.job_ops.proofs.transfer.Transfer.found_plan.Goals as goal
 

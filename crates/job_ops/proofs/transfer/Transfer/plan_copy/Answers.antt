@@ -1,7 +1,7 @@
 use Rattle.std.proofs.Common.{◌⊎◌, Some, ap, subst, ◌∙◌}
 use Rattle.std.specs.Prelude.{IfSome, IfNone}
 use Rattle.unit_load.specs.declared.state.UnitState.{UnitState}
-use Rattle.step_plans.specs.Plans.{IsPlanForBoth, IsInTheWay, HasNone, HasManyExtents}
+use Rattle.job_copies.specs.step_plans.Plans.{IsPlanForBoth, IsInTheWay, HasNone, HasManyExtents}
 use Rattle.job_ops.specs.declared.transfer.Act.TheVariants as acts
 use Rattle.job_ops.specs.Acts.{step_of_act}
 use Rattle.job_ops.proofs.TransferPlans.{copy_made, places_here, not_refused}

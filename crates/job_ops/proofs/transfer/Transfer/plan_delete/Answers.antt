@@ -2,7 +2,7 @@ use Rattle.std.proofs.Common.{Some, ap, subst, ◌∙◌}
 use Rattle.std.specs.Prelude.{IfSome}
 use Rattle.move_core.specs.declared.steps.Step.TheVariants as steps
 use Rattle.unit_load.specs.declared.state.UnitState.{UnitState}
-use Rattle.step_plans.specs.Plans.{IsPlanFor}
+use Rattle.job_copies.specs.step_plans.Plans.{IsPlanFor}
 use Rattle.job_ops.proofs.TransferPlans.{delete_made}
 use Rattle.job_ops.proofs.transfer.Transfer.plan_delete.Goals as goal
 

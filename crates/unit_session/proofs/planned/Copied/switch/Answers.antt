@@ -2,7 +2,7 @@ use Rattle.std.proofs.Common.{◌≡◌, ℕ, ◌<◌, List, All, length, sym, a
 use Rattle.dasd_pool.specs.Disk.{Shape, IsSynced}
 use Rattle.redo_core.specs.Reading.{journal_of}
 use Rattle.volume_change.specs.declared.change.Change.{Change}
-use Rattle.vtoc_render.specs.declared.change.Rendered.{Rendered}
+use Rattle.unit_steps.specs.vtoc_render.declared.change.Rendered.{Rendered}
 use Rattle.unit_load.specs.declared.state.UnitState.{UnitState}
 use Rattle.move_core.specs.Taking.{TakeUnits}
 use Rattle.move_core.proofs.Running.{idle_at_rest, switch_done, switch_failed}
