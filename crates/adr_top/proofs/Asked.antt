@@ -1,5 +1,5 @@
 -- What words ask for, as what a run may do.
-use Rattle.std.proofs.Common.{◌≡◌, ◌≢◌, ◌⊎◌, inl, inr, ℕ, ◌+◌, ◌-◌, ◌<◌, ◌≤◌, List, [], ◌∷◌, length, map, get_or, All, AllPairs, Bool, true, false, cond, ◌&&◌, refl, sym, ap, subst, ◌∙◌, arith}
+use Rattle.std.proofs.Common.{◌≡◌, inl, inr, ℕ, ◌+◌, ◌<◌, ◌≤◌, List, [], ◌∷◌, length, get_or, All, Bool, true, false, cond, ◌&&◌, refl, sym, ap, subst, ◌∙◌, arith}
 use Rattle.std.specs.List.{AllZip}
 use Rattle.std.proofs.lemmas.List.{get_or-map, length-map}
 use Rattle.std.proofs.lemmas.List.Elements.{All-cons, All-nil}
@@ -19,11 +19,11 @@ use Rattle.run_words.specs.declared.run.Run.{Run}
 use Rattle.run_words.specs.declared.run.Run.TheVariants.{Jobs, Format, Make}
 use Rattle.run_words.specs.Words.{Spells, IsRun, IsUnit, AreUnits}
 use Rattle.run_words.proofs.OneRun as runs
-use Rattle.run_lines.specs.declared.ending.RunEnd.{RunEnd}
 use Rattle.run_lines.specs.declared.ending.RunEnd.TheVariants as ends
+use Rattle.dump_fmt.specs.Outs.{FilesSeen}
 use Rattle.job_script.specs.Ends.{SinkSeen, After}
 use Rattle.adr_top.specs.Asked.{AskFor, Agrees, HasUnits, serials_of}
-use Rattle.adr_top.specs.Ends.{Given, given, IsAsked, EndsRun}
+use Rattle.adr_top.specs.Ends.{given, IsAsked, EndsRun}
 use Rattle.adr_top.specs.Parts.{IsLawful, IsRefused, EndsAsked}
 use Rattle.adr_top.specs.Texts.{SourceSeen, IsUncalled}
 
@@ -105,18 +105,18 @@ agrees_at asked {n} {m} outs ins same agrees = subst (λ (k : ℕ). Agrees asked
 
 -- ---- how what is asked ends
 
-module _ {P : Type 0} (pools : Ghosts P) (words : List (List ℕ)) (units : ℕ) (outs ins : List DdName) (today : Day) (sysin held : SourceSeen) (out : SinkSeen) (pool : P) (left : After P) where
-  pub refused_words : ((run : Run) → ¬ IsAsked (given words units outs ins today sysin held out) run) → IsUncalled sysin → IsUncalled held → IsRefused out pool ends.Words left
-      → EndsRun pools (given words units outs ins today sysin held out) pool left
+module _ {P : Type 0} (pools : Ghosts P) (words : List (List ℕ)) (units : ℕ) (outs ins : List DdName) (files : FilesSeen) (today : Day) (sysin held : SourceSeen) (out : SinkSeen) (pool : P) (left : After P) where
+  pub refused_words : ((run : Run) → ¬ IsAsked (given words units outs ins files today sysin held out) run) → IsUncalled sysin → IsUncalled held → IsRefused out pool ends.Words left
+      → EndsRun pools (given words units outs ins files today sysin held out) pool left
   refused_words none no_sysin no_held refused =
       inl (record { why = inl ((refused.end_is, none), record { sysin = no_sysin; held = no_held }); did = refused.did; same = refused.same })
 
-  pub refused_memory : IsUncalled sysin → IsUncalled held → IsRefused out pool ends.Memory left → EndsRun pools (given words units outs ins today sysin held out) pool left
+  pub refused_memory : IsUncalled sysin → IsUncalled held → IsRefused out pool ends.Memory left → EndsRun pools (given words units outs ins files today sysin held out) pool left
   refused_memory no_sysin no_held refused =
       inl (record { why = inr (inr (inl (refused.end_is, record { sysin = no_sysin; held = no_held }))); did = refused.did; same = refused.same })
 
-  pub ends_asked : (asked : Run) → IsAsked (given words units outs ins today sysin held out) asked → EndsAsked pools asked held sysin out pool today left
-      → EndsRun pools (given words units outs ins today sysin held out) pool left
+  pub ends_asked : (asked : Run) → IsAsked (given words units outs ins files today sysin held out) asked → EndsAsked pools files asked held sysin out pool today left
+      → EndsRun pools (given words units outs ins files today sysin held out) pool left
   ends_asked (Jobs volumes journal text path out_words in_words) is end = elim (end.1) [
     | inl stops ↦ inl (record {
       why = inr (inr (inr (volumes, path, (journal, text, out_words, in_words, is), stops.0, end.0)));

@@ -1,12 +1,10 @@
 -- What holds of a run however it ended.
-use Rattle.std.proofs.Common.{◌≡◌, ◌≢◌, ◌⊎◌, inl, inr, ℕ, ◌≤◌, List, [], ◌∷◌, ◌++◌, Option, None, refl, sym, ap, subst, ◌∙◌, arith}
-use Rattle.dasd_pool.specs.Disk.{Shape}
+use Rattle.std.proofs.Common.{◌≡◌, ◌≢◌, inl, inr, ℕ, ◌≤◌, List, [], Option, refl, sym, ap, subst, ◌∙◌, arith}
 use Rattle.dasd_pool.specs.declared.pool.Pool.{Ghosts}
-use Rattle.dasd_pool.specs.Count.{Rose}
 use Rattle.redo_core.specs.declared.fault.JournalFault.{JournalFault}
 use Rattle.redo_core.specs.declared.fault.JournalFault.TheVariants as faults
 use Rattle.move_core.specs.declared.steps.Step.{Step}
-use Rattle.move_core.specs.Facts.{Shown, shown}
+use Rattle.move_core.specs.Facts.{shown}
 use Rattle.move_core.specs.Runs.{IsRun}
 use Rattle.move_core.proofs.Running.{run_idle, run_less}
 use Rattle.run_lines.specs.declared.ending.RunEnd.{RunEnd}
@@ -15,7 +13,7 @@ use Rattle.run_lines.specs.Endings.{status_of, end_of}
 use Rattle.job_script.specs.Ends.{After}
 use Rattle.job_script.specs.Runs.{HasRun, answers_of}
 use Rattle.adr_top.specs.Asked.{AsksForJournal}
-use Rattle.adr_top.specs.Ends.{Given, HasCode, StopsBefore, EndsBefore, EndsFormat, EndsReady, WasMade, WasNotMade, OpensNot, RunsText, EndsRun}
+use Rattle.adr_top.specs.Ends.{Given, HasCode, StopsBefore, EndsBefore, EndsFormat, EndsReady, EndsRun}
 use Rattle.adr_top.specs.Texts.{StopsTexts}
 use Rattle.adr_top.proofs.Codes.{text_sets, end_small, answers_small}
 

@@ -1,5 +1,5 @@
 -- A run over a session that was opened, as a run over the pool that was handed in.
-use Rattle.std.proofs.Common.{◌≡◌, ◌≢◌, inl, ℕ, List, [], ◌++◌, None, refl, sym, ap, subst, ◌∙◌}
+use Rattle.std.proofs.Common.{◌≡◌, ◌≢◌, inl, List, [], None, refl, sym, ap, subst, ◌∙◌}
 use Rattle.by_rules.specs.declared.day.Day.{Day}
 use Rattle.dasd_pool.specs.Disk.{Runs, none}
 use Rattle.dasd_pool.specs.declared.pool.Pool.{Ghosts}
@@ -18,6 +18,7 @@ use Rattle.move_core.specs.Stands.{IsSettled}
 use Rattle.move_core.proofs.Running.{run_less, run_then}
 use Rattle.sysin_lang.specs.Flow.{Plan}
 use Rattle.job_script.specs.unit_session.Sessions.{SessionView, IsRefusal}
+use Rattle.dump_fmt.specs.Outs.{FilesSeen}
 use Rattle.job_script.specs.Runs.{RunOn}
 use Rattle.job_script.specs.Ends.{SinkSeen, After, EndsScript}
 use Rattle.run_lines.specs.declared.ending.RunEnd.{RunEnd}
@@ -48,14 +49,14 @@ refused_run {tells} {old} {new} {fault} {end} is run =
     run
 
 -- the journal wasn't opened
-pub opens_not : {P : Type 0} (pools : Ghosts P) (pool stopped : P) (fault : JournalFault) (end : RunEnd) (out : SinkSeen) (serials : List Serial) (table : List Hold) (today : Day) (plan : Plan)
+pub opens_not : {P : Type 0} (pools : Ghosts P) (pool stopped : P) (fault : JournalFault) (end : RunEnd) (files : FilesSeen) (out : SinkSeen) (serials : List Serial) (table : List Hold) (today : Day) (plan : Plan)
     (left : After P) → IsRefused out stopped end left → end ≡ end_of fault → IsRun pools.tells (shown pools pool) (shown pools stopped) (fault ≡ faults.Pool → ⊥) [] None
     → (pools.tells → IsOpenFault (pools.shape pool) (pools.disk pool).state.contents serials fault)
     → (pools.tells → IsRefusal fault → Runs none (pools.disk pool) (pools.disk stopped))
     → (pools.tells → Runs (of_opening (journal_of (pools.shape pool)) (pools.disk pool).state.contents) (pools.disk pool) (pools.disk stopped))
-    → Opens pools out pool serials table today plan left
-opens_not {P} pools pool stopped fault end out serials table today plan left refused end_is run cause unwritten opening =
-    subst (λ (a : After P). Opens pools out pool serials table today plan a) same (record {
+    → Opens pools files out pool serials table today plan left
+opens_not {P} pools pool stopped fault end files out serials table today plan left refused end_is run cause unwritten opening =
+    subst (λ (a : After P). Opens pools files out pool serials table today plan a) same (record {
       run = refused_run end_is run;
       how = inl (record {
         fault = fault;
@@ -75,18 +76,18 @@ opens_not {P} pools pool stopped fault end out serials table today plan left ref
     same : record { pool = stopped; steps = []; pending = None; end = end } ≡ left
     same = λ i. record { pool = sym refused.same i; steps = sym refused.did.steps i; pending = sym refused.did.pending i; end = sym refused.end_is i }
 
-module _ {P : Type 0} (pools : Ghosts P) (pool : P) (session : SessionView P) (plan : Plan) (held : List Hold) (today : Day) (out : SinkSeen) (left : After P)
+module _ {P : Type 0} (pools : Ghosts P) (pool : P) (session : SessionView P) (plan : Plan) (held : List Hold) (today : Day) (files : FilesSeen) (out : SinkSeen) (left : After P)
     (begins : IsRun pools.tells (shown pools pool) (shown pools session.pool) (Unit {0}) [] None)
     (own : pools.tells → (facts : Facts) (units : List UnitModel) → facts.shape ≡ pools.shape session.pool → IsSettled facts (pools.disk session.pool).state units → facts ≡ facts_at pools session)
-    (runs : EndsScript pools session plan held today out left) where
+    (runs : EndsScript pools session plan held today files out left) where
   -- what the script means on the units of the session it means on those of the pool
   means : pools.tells → (facts : Facts) (units : List UnitModel) → facts.shape ≡ pools.shape pool → IsSettled facts (pools.disk pool).state units
-      → RunOn (record { facts = facts; today = today; held = held }) runs.ran runs.under runs.leaves.added left.pending units
+      → RunOn (record { facts = facts; today = today; held = held }) runs.ran runs.under runs.leaves.cut runs.leaves.added left.pending units
   means told facts units same settled =
       let end = (begins.keeps told facts same units settled).settled (tt {0}) in
       let is : facts ≡ facts_at pools session = own told facts end.units (same ∙ sym begins.shape) end.settled in
-      subst (λ (u : List UnitModel). RunOn (record { facts = facts; today = today; held = held }) runs.ran runs.under runs.leaves.added left.pending u) end.reached
-      (subst (λ (f : Facts). RunOn (record { facts = f; today = today; held = held }) runs.ran runs.under runs.leaves.added left.pending end.units) (sym is)
+      subst (λ (u : List UnitModel). RunOn (record { facts = facts; today = today; held = held }) runs.ran runs.under runs.leaves.cut runs.leaves.added left.pending u) end.reached
+      (subst (λ (f : Facts). RunOn (record { facts = f; today = today; held = held }) runs.ran runs.under runs.leaves.cut runs.leaves.added left.pending end.units) (sym is)
       (runs.leaves.means told end.units (subst (λ (f : Facts). IsSettled f (pools.disk session.pool).state end.units) is end.settled)))
 
   pub opens_run : IsRun pools.tells (shown pools pool) (shown pools left.pool) (left.end ≢ ends.Pool) left.steps left.pending
@@ -95,7 +96,7 @@ module _ {P : Type 0} (pools : Ghosts P) (pool : P) (session : SessionView P) (p
       (run_then begins (tt {0}) runs.leaves.run)
 
   pub runs_text : (serials : List Serial) → (pools.tells → MayOpen (pools.shape pool) (pools.disk pool).state.contents serials)
-      → (pools.tells → Runs (of_opening (journal_of (pools.shape pool)) (pools.disk pool).state.contents) (pools.disk pool) (pools.disk session.pool)) → RunsText pools out pool serials held today plan left
+      → (pools.tells → Runs (of_opening (journal_of (pools.shape pool)) (pools.disk pool).state.contents) (pools.disk pool) (pools.disk session.pool)) → RunsText pools files out pool serials held today plan left
   runs_text serials opened opening = record {
     opened = opened;
     ran = runs.ran;
@@ -110,5 +111,7 @@ module _ {P : Type 0} (pools : Ghosts P) (pool : P) (session : SessionView P) (p
     earlier = runs.leaves.earlier;
     quiet = λ told listed.
         subst (λ (p : P). Runs (of_opening (journal_of (pools.shape pool)) (pools.disk pool).state.contents) (pools.disk pool) (pools.disk p)) (sym (runs.leaves.quiet listed)) (opening told);
+    cut = runs.leaves.cut;
+    handed = runs.leaves.handed;
     means = means;
   }

@@ -26,25 +26,27 @@ use Rattle.run_lines.specs.declared.ending.RunEnd.TheVariants as ends
 use Rattle.run_lines.specs.Endings.{end_of, last_line}
 use Rattle.run_lines.specs.Texts.{Tells}
 use Rattle.job_script.specs.unit_session.Sessions.{IsRefusal}
-use Rattle.job_script.specs.Runs.{Ran, HasGravest, OnlyListed, steps_of, lines_of, RunOn, HasRun, printed_text}
+use Rattle.dump_fmt.specs.Outs.{FilesSeen}
+use Rattle.job_script.specs.Runs.{Ran, HandsOn, HasGravest, OnlyListed, steps_of, lines_of, RunOn, HasRun, printed_text}
 use Rattle.job_script.specs.Ends.{SinkSeen, After, IsEndOf, Prints, Took, ended_before}
 use Rattle.adr_top.specs.Asked.{AskFor, Agrees, serials_of}
 use Rattle.adr_top.specs.Texts.{SourceSeen, Texts, AreReady, StopsTexts, TakesTexts, IsUncalled}
 
--- What a run is given, and what its sources and its sink saw of it.
+-- What a run is given, what its sources and its sink saw of it, and what its outputs and inputs were before it and are after it.
 pub record Given : Type 0 where
   pub words : List (List ℕ)
   pub units : ℕ
   pub outs : List DdName
   pub ins : List DdName
+  pub files : FilesSeen
   pub today : Day
   pub sysin : SourceSeen
   pub held : SourceSeen
   pub out : SinkSeen
 
-abbrev pub given : List (List ℕ) → ℕ → List DdName → List DdName → Day → SourceSeen → SourceSeen → SinkSeen → Given
-given words units outs ins today sysin held out =
-    record { words = words; units = units; outs = outs; ins = ins; today = today; sysin = sysin; held = held; out = out }
+abbrev pub given : List (List ℕ) → ℕ → List DdName → List DdName → FilesSeen → Day → SourceSeen → SourceSeen → SinkSeen → Given
+given words units outs ins files today sysin held out =
+    record { words = words; units = units; outs = outs; ins = ins; files = files; today = today; sysin = sysin; held = held; out = out }
 
 -- the words ask for a run, and what is handed in agrees with it
 abbrev pub IsAsked : Given → Run → Type 0
@@ -143,7 +145,7 @@ pub record OpensNot {P : Type 0} (pools : Ghosts P) (out : SinkSeen) (pool : P) 
 
 -- The journal was opened, and the text ran: statements of its plan by their codes, each as it means on the units for which the pool stood, and none began before the lines of
 -- all before it were taken. Where they all only list, no more than the opening was written.
-pub record RunsText {P : Type 0} (pools : Ghosts P) (out : SinkSeen) (pool : P) (serials : List Serial) (table : List Hold) (today : Day) (plan : Plan) (left : After P) : Type 0 where
+pub record RunsText {P : Type 0} (pools : Ghosts P) (files : FilesSeen) (out : SinkSeen) (pool : P) (serials : List Serial) (table : List Hold) (today : Day) (plan : Plan) (left : After P) : Type 0 where
   pub opened : pools.tells → MayOpen (pools.shape pool) (pools.disk pool).state.contents serials
   pub ran : List Ran
   pub under : Option Statement
@@ -156,8 +158,10 @@ pub record RunsText {P : Type 0} (pools : Ghosts P) (out : SinkSeen) (pool : P) 
   pub printed : Prints out left.end (printed_text ran under wanted)
   pub earlier : Took out (lines_of (ended_before ran under))
   pub quiet : pools.tells → OnlyListed ran under → Runs (of_opening (journal_of (pools.shape pool)) (pools.disk pool).state.contents) (pools.disk pool) (pools.disk left.pool)
+  pub cut : FilesSeen
+  pub handed : HandsOn files ran under cut
   pub means : pools.tells → (facts : Facts) (units : List UnitModel) → facts.shape ≡ pools.shape pool → IsSettled facts (pools.disk pool).state units
-      → RunOn (record { facts = facts; today = today; held = table }) ran under added left.pending units
+      → RunOn (record { facts = facts; today = today; held = table }) ran under cut added left.pending units
 
 -- The pool was called for texts that were ready. Where it failed its count of faults rose.
 pub record EndsReady {P : Type 0} (pools : Ghosts P) (given : Given) (pool : P) (left : After P) : Type 0 where
@@ -166,7 +170,7 @@ pub record EndsReady {P : Type 0} (pools : Ghosts P) (given : Given) (pool : P) 
   pub plan : Plan
   pub ready : WasReady given volumes table plan
   pub run : IsRun pools.tells (shown pools pool) (shown pools left.pool) (left.end ≢ ends.Pool) left.steps left.pending
-  pub how : OpensNot pools given.out pool (serials_of volumes) left ⊎ RunsText pools given.out pool (serials_of volumes) table given.today plan left
+  pub how : OpensNot pools given.out pool (serials_of volumes) left ⊎ RunsText pools given.files given.out pool (serials_of volumes) table given.today plan left
 
 -- ---- all of it
 

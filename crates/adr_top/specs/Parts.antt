@@ -14,6 +14,7 @@ use Rattle.run_words.specs.declared.run.Run.{Run}
 use Rattle.run_words.specs.declared.run.Run.TheVariants.{Jobs, Format, Make}
 use Rattle.run_lines.specs.declared.ending.RunEnd.{RunEnd}
 use Rattle.run_lines.specs.declared.ending.RunEnd.TheVariants as ends
+use Rattle.dump_fmt.specs.Outs.{FilesSeen}
 use Rattle.job_script.specs.Ends.{SinkSeen, After}
 use Rattle.adr_top.specs.Asked.{serials_of}
 use Rattle.adr_top.specs.Ends.{DidNothing, Formats, OpensNot, RunsText}
@@ -34,16 +35,16 @@ abbrev pub EndsFormatting : {P : Type 0} → Ghosts P → SinkSeen → P → Lis
 EndsFormatting pools out pool serials room left = Formats pools out pool serials room left ⊎ IsRefused out pool ends.Memory left
 
 -- the pool was called for texts that were ready
-pub record Opens {P : Type 0} (pools : Ghosts P) (out : SinkSeen) (pool : P) (serials : List Serial) (table : List Hold) (today : Day) (plan : Plan) (left : After P) : Type 0 where
+pub record Opens {P : Type 0} (pools : Ghosts P) (files : FilesSeen) (out : SinkSeen) (pool : P) (serials : List Serial) (table : List Hold) (today : Day) (plan : Plan) (left : After P) : Type 0 where
   pub run : IsRun pools.tells (shown pools pool) (shown pools left.pool) (left.end ≢ ends.Pool) left.steps left.pending
-  pub how : OpensNot pools out pool serials left ⊎ RunsText pools out pool serials table today plan left
+  pub how : OpensNot pools out pool serials left ⊎ RunsText pools files out pool serials table today plan left
 
 -- the texts weren't ready, or they were and the pool was called for them
-abbrev pub EndsJobs : {P : Type 0} → Ghosts P → Option (List ℕ) → SourceSeen → SourceSeen → SinkSeen → P → List Serial → Day → After P → Type 0
-EndsJobs pools path held sysin out pool serials today left =
+abbrev pub EndsJobs : {P : Type 0} → Ghosts P → FilesSeen → Option (List ℕ) → SourceSeen → SourceSeen → SinkSeen → P → List Serial → Day → After P → Type 0
+EndsJobs pools files path held sysin out pool serials today left =
     TakesTexts path held sysin
     × ((StopsTexts path held sysin left.end × IsRefused out pool left.end left)
-    ⊎ ((texts : Texts) × (table : List Hold) × (plan : Plan) × AreReady path held sysin texts table plan × Opens pools out pool serials table today plan left))
+    ⊎ ((texts : Texts) × (table : List Hold) × (plan : Plan) × AreReady path held sysin texts table plan × Opens pools files out pool serials table today plan left))
 
 -- ---- by what is asked
 
@@ -53,8 +54,8 @@ IsLawful shape (Jobs volumes journal sysin path outs ins) = AreNames shape (seri
 IsLawful shape (Format volumes journal room) = AreNames shape (serials_of volumes) × (3 ≤ room) × (room ≤ 8191)
 IsLawful shape (Make number) = Unit {0}
 
-abbrev pub EndsAsked : {P : Type 0} → Ghosts P → Run → SourceSeen → SourceSeen → SinkSeen → P → Day → After P → Type 0
-EndsAsked pools (Jobs volumes journal text path outs ins) held sysin out pool today left = EndsJobs pools path held sysin out pool (serials_of volumes) today left
-EndsAsked pools (Format volumes journal room) held sysin out pool today left =
+abbrev pub EndsAsked : {P : Type 0} → Ghosts P → FilesSeen → Run → SourceSeen → SourceSeen → SinkSeen → P → Day → After P → Type 0
+EndsAsked pools files (Jobs volumes journal text path outs ins) held sysin out pool today left = EndsJobs pools files path held sysin out pool (serials_of volumes) today left
+EndsAsked pools files (Format volumes journal room) held sysin out pool today left =
     (IsUncalled held × IsUncalled sysin) × EndsFormatting pools out pool (serials_of volumes) room left
-EndsAsked pools (Make number) held sysin out pool today left = (IsUncalled held × IsUncalled sysin) × IsRefused out pool ends.NotBuilt left
+EndsAsked pools files (Make number) held sysin out pool today left = (IsUncalled held × IsUncalled sysin) × IsRefused out pool ends.NotBuilt left

@@ -2,6 +2,7 @@
 
 ghost use Rattle.std.specs.Prelude.{◌≡◌, ◌⊎◌, IfOk, List};
 ghost use Rattle.by_rules.specs.Day.{IsToday};
+ghost use Rattle.dump_fmt.specs.Outs.{files_of};
 ghost use Rattle.redo_core.specs.Opening.{AreNames};
 ghost use Rattle.sysin_lang.specs.Script.{plan_of_script};
 ghost use Rattle.job_script.specs.Built.{AreBuilt};
@@ -10,10 +11,11 @@ ghost use Rattle.job_script.specs.Ends.{after_of};
 ghost use Rattle.adr_top.specs.Parts.{IsRefused, Opens, EndsJobs, sink_seen};
 ghost use Rattle.adr_top.specs.Reading.{source_seen};
 
-use crate::lists::Day;
+use crate::lists::{Day, InDd, OutDd};
 use crate::texts::{Ready, prepare};
 use ckd_image::Word;
 use dasd_pool::{Pool, Sink, Source};
+use dump_fmt::{Seen, SeenIn};
 use job_script::unit_session::Session;
 use job_script::{Left, run_script};
 use run_lines::{RunEnd, tell};
@@ -21,13 +23,21 @@ use run_words::UnitPaths;
 use std::alloc::{AllocError, Global};
 use vol_label::Serial;
 
-/// What a run leaves that is refused: the pool as it is. Its last line is tried.
-pub(crate) fn refuse<O: Sink, P>(alloc: Global, out: &mut O, pool: P, end: RunEnd) -> Left<P>
-    ensures { IsRefused (sink_seen O.Sink out.old out.new) pool end (after_of result) }
+/// What a run leaves that is refused: the pool and the outputs as they are. Its last line is tried.
+pub(crate) fn refuse<O: Sink, P>(
+    alloc: Global,
+    out: &mut O,
+    pool: P,
+    outs: Vec<OutDd>,
+    end: RunEnd,
+) -> Left<P>
+    ensures ends { IsRefused (sink_seen O.Sink out.old out.new) pool end (after_of result) }
+    ensures outs { result.outs.items ≡ outs.items }
 {
     tell(out, end);
     Left {
         pool,
+        outs,
         steps: Vec::new(alloc),
         pending: None,
         end,
@@ -52,16 +62,33 @@ fn open_and_run<O: Sink, P: Pool>(
     ready: &Ready,
     out: &mut O,
     pool: P,
+    outs: Vec<OutDd>,
+    ins: &mut Vec<InDd>,
     today: Day,
 ) -> Left<P>
     requires names { AreNames (P.shape pool) serials.now }
     requires built { AreBuilt (plan_of_script ready.now.script) }
     requires today { IsToday today }
-    ensures { Opens P.Pool (sink_seen O.Sink out.old out.new) pool serials.now ready.now.held today (plan_of_script ready.now.script) (after_of result) }
+    ensures ends { Opens P.Pool
+        (record { before = files_of ⟦<OutDd as Seen>⟧.seen ⟦<InDd as SeenIn>⟧.seen outs.items ins.old.items; after = files_of ⟦<OutDd as Seen>⟧.seen ⟦<InDd as SeenIn>⟧.seen result.outs.items ins.new.items })
+        (sink_seen O.Sink out.old out.new) pool serials.now ready.now.held today (plan_of_script ready.now.script) (after_of result) }
+    ensures outs { result.outs.items ≡ outs.items }
+    ensures ins { ins.new.items ≡ ins.old.items }
 {
     match Session::begin(alloc, pool, serials) {
-        Ok(session) => run_script(alloc, session, &ready.script, &ready.held, today, out),
-        Err(stop) => refuse(alloc, out, stop.pool, RunEnd::from(stop.cause)),
+        Ok(session) => {
+            run_script(
+                alloc,
+                session,
+                &ready.script,
+                &ready.held,
+                outs,
+                ins,
+                today,
+                out,
+            )
+        }
+        Err(stop) => refuse(alloc, out, stop.pool, outs, RunEnd::from(stop.cause)),
     }
 }
 
@@ -74,19 +101,25 @@ pub(crate) fn run_jobs<S: Source, H: Source, O: Sink, P: Pool>(
     held: &mut H,
     out: &mut O,
     pool: P,
+    outs: Vec<OutDd>,
+    ins: &mut Vec<InDd>,
     today: Day,
 ) -> Left<P>
     requires names { AreNames (P.shape pool) (serials_of volumes.now) }
     requires today { IsToday today }
-    ensures { EndsJobs P.Pool path.now (source_seen H.Source held.old held.new) (source_seen S.Source sysin.old sysin.new) (sink_seen O.Sink out.old out.new)
+    ensures ends { EndsJobs P.Pool
+        (record { before = files_of ⟦<OutDd as Seen>⟧.seen ⟦<InDd as SeenIn>⟧.seen outs.items ins.old.items; after = files_of ⟦<OutDd as Seen>⟧.seen ⟦<InDd as SeenIn>⟧.seen result.outs.items ins.new.items })
+        path.now (source_seen H.Source held.old held.new) (source_seen S.Source sysin.old sysin.new) (sink_seen O.Sink out.old out.new)
         pool (serials_of volumes.now) today (after_of result) }
+    ensures outs { result.outs.items ≡ outs.items }
+    ensures ins { ins.new.items ≡ ins.old.items }
 {
     let ready = match prepare(alloc, path, sysin, held) {
         Ok(ready) => ready,
-        Err(end) => return refuse(alloc, out, pool, end),
+        Err(end) => return refuse(alloc, out, pool, outs, end),
     };
     match names_of(alloc, volumes) {
-        Ok(serials) => open_and_run(alloc, &serials, &ready, out, pool, today),
-        Err(_) => refuse(alloc, out, pool, RunEnd::Memory),
+        Ok(serials) => open_and_run(alloc, &serials, &ready, out, pool, outs, ins, today),
+        Err(_) => refuse(alloc, out, pool, outs, RunEnd::Memory),
     }
 }

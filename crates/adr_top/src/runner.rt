@@ -3,6 +3,7 @@
 ghost use Rattle.std.specs.Prelude.{◌≡◌, ◌≢◌, ◌⊎◌, ◌∷◌, List, ℕ, map};
 ghost use Rattle.by_rules.specs.Day.{IsToday};
 ghost use Rattle.dasd_pool.specs.Disk.{Image};
+ghost use Rattle.dump_fmt.specs.Outs.{files_of};
 ghost use Rattle.vol_label.specs.declared.serial.Serial.{Serial};
 ghost use Rattle.volume_model.specs.Unit.{UnitModel};
 ghost use Rattle.move_core.specs.Facts.{Facts, shown};
@@ -22,6 +23,7 @@ use crate::jobs::{refuse, run_jobs};
 use crate::lists::{Day, InDd, OutDd};
 use ckd_image::Word;
 use dasd_pool::{Pool, Sink, Source};
+use dump_fmt::{Seen, SeenIn};
 use job_script::Left;
 use move_core::Step;
 use run_lines::RunEnd;
@@ -40,10 +42,10 @@ pub struct Ended<P> {
     pub status: u8,
 }
 
-/// What a run leaves, with the outputs and inputs that were handed in.
-fn hand_back<P>(left: Left<P>, outs: Vec<OutDd>, ins: Vec<InDd>) -> Ended<P>
+/// What a run leaves, with the inputs that were handed in.
+fn hand_back<P>(left: Left<P>, ins: Vec<InDd>) -> Ended<P>
     ensures pool { result.pool ≡ left.pool }
-    ensures outs { result.outs.items ≡ outs.items }
+    ensures outs { result.outs.items ≡ left.outs.items }
     ensures ins { result.ins.items ≡ ins.items }
     ensures steps { result.steps.items ≡ left.steps.items }
     ensures pending { result.pending ≡ left.pending }
@@ -51,7 +53,7 @@ fn hand_back<P>(left: Left<P>, outs: Vec<OutDd>, ins: Vec<InDd>) -> Ended<P>
 {
     Ended {
         pool: left.pool,
-        outs,
+        outs: left.outs,
         ins,
         steps: left.steps,
         pending: left.pending,
@@ -67,21 +69,27 @@ fn run<S: Source, H: Source, O: Sink, P: Pool>(
     held: &mut H,
     out: &mut O,
     pool: P,
+    outs: Vec<OutDd>,
+    ins: &mut Vec<InDd>,
     today: Day,
 ) -> Left<P>
     requires today { IsToday today }
     requires names { IsLawful (P.shape pool) asked.now }
-    ensures { EndsAsked P.Pool asked.now (source_seen H.Source held.old held.new) (source_seen S.Source sysin.old sysin.new) (sink_seen O.Sink out.old out.new)
+    ensures ends { EndsAsked P.Pool
+        (record { before = files_of ⟦<OutDd as Seen>⟧.seen ⟦<InDd as SeenIn>⟧.seen outs.items ins.old.items; after = files_of ⟦<OutDd as Seen>⟧.seen ⟦<InDd as SeenIn>⟧.seen result.outs.items ins.new.items })
+        asked.now (source_seen H.Source held.old held.new) (source_seen S.Source sysin.old sysin.new) (sink_seen O.Sink out.old out.new)
         pool today (after_of result) }
+    ensures outs { result.outs.items ≡ outs.items }
+    ensures ins { ins.new.items ≡ ins.old.items }
 {
     match asked {
         Run::Jobs {
             units,
             held: path,
             ..
-        } => run_jobs(alloc, units, path, sysin, held, out, pool, today),
-        Run::Format { units, room, .. } => make_journal(alloc, units, *room, out, pool),
-        Run::Make { .. } => refuse(alloc, out, pool, RunEnd::NotBuilt),
+        } => run_jobs(alloc, units, path, sysin, held, out, pool, outs, ins, today),
+        Run::Format { units, room, .. } => make_journal(alloc, units, *room, out, pool, outs),
+        Run::Make { .. } => refuse(alloc, out, pool, outs, RunEnd::NotBuilt),
     }
 }
 
@@ -93,24 +101,27 @@ fn run_words<S: Source, H: Source, O: Sink, P: Pool>(
     held: &mut H,
     out: &mut O,
     pool: P,
-    outs: &[OutDd],
-    ins: &[InDd],
+    outs: Vec<OutDd>,
+    ins: &mut Vec<InDd>,
     today: Day,
 ) -> Left<P>
     requires { IsToday today }
-    ensures { EndsRun P.Pool (given words.now (P.shape pool).units (map (λ out. out.name) outs.now) (map (λ one. one.name) ins.now) today
-        (source_seen S.Source sysin.old sysin.new) (source_seen H.Source held.old held.new) (sink_seen O.Sink out.old out.new)) pool (after_of result) }
+    ensures ends { EndsRun P.Pool (given words.now (P.shape pool).units (map (λ out. out.name) outs.items) (map (λ one. one.name) ins.old.items)
+        (record { before = files_of ⟦<OutDd as Seen>⟧.seen ⟦<InDd as SeenIn>⟧.seen outs.items ins.old.items; after = files_of ⟦<OutDd as Seen>⟧.seen ⟦<InDd as SeenIn>⟧.seen result.outs.items ins.new.items })
+        today (source_seen S.Source sysin.old sysin.new) (source_seen H.Source held.old held.new) (sink_seen O.Sink out.old out.new)) pool (after_of result) }
+    ensures outs { result.outs.items ≡ outs.items }
+    ensures ins { ins.new.items ≡ ins.old.items }
 {
     match read_words(alloc, words) {
         Ok(asked) => {
-            if agrees(&asked, pool.units(), outs, ins) {
-                run(alloc, &asked, sysin, held, out, pool, today)
+            if agrees(&asked, pool.units(), &outs, ins) {
+                run(alloc, &asked, sysin, held, out, pool, outs, ins, today)
             } else {
-                refuse(alloc, out, pool, RunEnd::Words)
+                refuse(alloc, out, pool, outs, RunEnd::Words)
             }
         }
-        Err(WordsFault::Words) => refuse(alloc, out, pool, RunEnd::Words),
-        Err(WordsFault::NoMemory) => refuse(alloc, out, pool, RunEnd::Memory),
+        Err(WordsFault::Words) => refuse(alloc, out, pool, outs, RunEnd::Words),
+        Err(WordsFault::NoMemory) => refuse(alloc, out, pool, outs, RunEnd::Memory),
     }
 }
 
@@ -119,7 +130,8 @@ fn run_words<S: Source, H: Source, O: Sink, P: Pool>(
 ///
 /// The work is done in this order, and the first cause that stands against it ends the run: the words, with which the pool and the lists must agree (36);
 /// the held text and then SYSIN are read (24, 40); their grammars (44); the journal is opened (20, 16); each statement runs (16, 32), and then its lines
-/// are written (28). Built are PRINT, RELEASE and CONSOLIDATE, and the making of a journal; where another command or a sample volume is asked for, nothing is done (48).
+/// are written (28). Built are PRINT, RELEASE, CONSOLIDATE and COPY, and the making of a journal; where another command or a sample volume is asked for, nothing is done
+/// (48).
 pub fn batch<S: Source, H: Source, O: Sink, P: Pool>(
     alloc: Global,
     words: &[Word],
@@ -135,7 +147,8 @@ pub fn batch<S: Source, H: Source, O: Sink, P: Pool>(
 
     // The status is that of an end, and each end has its cause, its steps and its lines.
     ensures ended { (end : EndOf) × (result.status ≡ status_of end) × HasCode end
-        × EndsRun P.Pool (given words.now (P.shape pool).units (map (λ out. out.name) outs.items) (map (λ one. one.name) ins.items) today
+        × EndsRun P.Pool (given words.now (P.shape pool).units (map (λ out. out.name) outs.items) (map (λ one. one.name) ins.items)
+        (record { before = files_of ⟦<OutDd as Seen>⟧.seen ⟦<InDd as SeenIn>⟧.seen outs.items ins.items; after = files_of ⟦<OutDd as Seen>⟧.seen ⟦<InDd as SeenIn>⟧.seen result.outs.items result.ins.items }) today
         (source_seen S.Source sysin.old sysin.new) (source_seen H.Source held.old held.new) (sink_seen O.Sink out.old out.new)) pool
         (record { pool = result.pool; steps = result.steps.items; pending = result.pending; end = end }) }
 
@@ -151,6 +164,7 @@ pub fn batch<S: Source, H: Source, O: Sink, P: Pool>(
     ensures outs { result.outs.items ≡ outs.items }
     ensures ins { result.ins.items ≡ ins.items }
 {
-    let left = run_words(alloc, words, sysin, held, out, pool, &outs, &ins, today);
-    hand_back(left, outs, ins)
+    let mut ins = ins;
+    let left = run_words(alloc, words, sysin, held, out, pool, outs, &mut ins, today);
+    hand_back(left, ins)
 }

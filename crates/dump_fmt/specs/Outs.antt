@@ -1,5 +1,5 @@
 -- Outputs, and what is done to them.
-use Rattle.std.specs.Prelude.{◌≡◌, ◌≢◌, ◌⊎◌, ℕ, ◌≤◌, List, length, Option, Some, AllPairs, slice_get}
+use Rattle.std.specs.Prelude.{◌≡◌, ◌≢◌, ◌⊎◌, ℕ, ◌≤◌, List, length, map, Option, Some, AllPairs, slice_get}
 use Rattle.std.specs.List.{Contains}
 use Rattle.dd_names.specs.declared.dd.DdName.{DdName}
 use Rattle.dasd_pool.specs.Count.{Rose}
@@ -13,6 +13,25 @@ pub record OutSeen : Type 0 where
   pub state : OutState
   pub held : Option (List ℕ)
   pub faults : ℕ
+
+-- what contracts see of an input: its name, what its reel holds where that tells, and its reel's count of faults
+pub record InSeen : Type 0 where
+  pub name : DdName
+  pub held : Option (List ℕ)
+  pub faults : ℕ
+
+-- the outputs and inputs of a run, each in its order
+pub record Files : Type 0 where
+  pub outs : List OutSeen
+  pub ins : List InSeen
+
+-- what they were before something, and what they are after it
+pub record FilesSeen : Type 0 where
+  pub before : Files
+  pub after : Files
+
+abbrev pub files_of : {X Y : Type 0} → (X → OutSeen) → (Y → InSeen) → List X → List Y → Files
+files_of out_seen in_seen outs ins = record { outs = map out_seen outs; ins = map in_seen ins }
 
 -- ---- one output
 

@@ -11,7 +11,7 @@ mod writer;
 
 pub use dd_names::DdName;
 pub use fault::DumpFault;
-pub use outs::{InDd, OutDd, OutState, Seen};
+pub use outs::{InDd, OutDd, OutState, Seen, SeenIn};
 pub use piece::{DumpHead, Piece};
 pub use progress::Progress;
 pub use writer::{DumpStop, DumpWriter};

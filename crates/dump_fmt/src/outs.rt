@@ -1,6 +1,6 @@
 //! The outputs and inputs of dumps.
 
-ghost use Rattle.dump_fmt.specs.Outs.{OutSeen};
+ghost use Rattle.dump_fmt.specs.Outs.{OutSeen, InSeen};
 
 use dasd_pool::{Medium, Reel};
 use dd_names::DdName;
@@ -40,4 +40,13 @@ pub trait Seen {
 
 impl Seen for OutDd {
     ghost seen = { λ out. record { name = out.name; state = out.state; held = (Medium-box out.medium).held out.medium.value; faults = (Medium-box out.medium).faults out.medium.value } };
+}
+
+/// What contracts see of an input.
+pub trait SeenIn {
+    ghost seen: { Self → InSeen };
+}
+
+impl SeenIn for InDd {
+    ghost seen = { λ one. record { name = one.name; held = (Reel-box one.reel).held one.reel.value; faults = (Reel-box one.reel).faults one.reel.value } };
 }

@@ -3,6 +3,8 @@ use Rattle.std.proofs.Common.{◌≡◌, ◌⊎◌, inl, inr, List, [], ◌∷�
 use Rattle.std.specs.Prelude.{Result, IfOk, IfErr}
 use Rattle.by_rules.specs.declared.day.Day.{Day}
 use Rattle.dasd_pool.specs.declared.pool.Pool.{Ghosts}
+use Rattle.dump_fmt.specs.declared.outs.OutDd.{OutDd}
+use Rattle.dump_fmt.specs.Outs.{OutSeen, InSeen, Files}
 use Rattle.enq_table.specs.declared.hold.Hold.{Hold}
 use Rattle.sysin_lang.specs.declared.command.Command.{Command}
 use Rattle.move_core.specs.declared.steps.Step.{Step}
@@ -17,30 +19,30 @@ use Rattle.job_lines.specs.declared.message.Message.TheVariants as messages
 use Rattle.job_lines.specs.Severity.{greatest_code}
 use Rattle.job_ops.specs.declared.outcome.Outcome.{Outcome}
 use Rattle.job_ops.specs.declared.outcome.Outcome.TheVariants as outcomes
-use Rattle.job_ops.specs.Ends.{KeepsFacts, Ends, EndsStatement, IsCutOutcome, IsDoneOutcome, LeavesSession, IsUnchanged}
-use Rattle.job_ops.specs.Meaning.{MeansWhole, IsCutCommand, verb_of}
+use Rattle.job_ops.specs.Ends.{KeepsFacts, Ends, EndsStatement, HasOuts, IsCutOutcome, IsDoneOutcome, LeavesSession, IsUnchanged}
+use Rattle.job_ops.specs.Meaning.{MeansOnVolumes, MeansWhole, IsCutOnVolumes, verb_of}
 use Rattle.job_ops.specs.Setting.{setting_of}
 
-module _ {P : Type 0} (pools : Ghosts P) (session : SessionView P) where
+module _ {P B : Type 0} {Own : B → Type 0} (pools : Ghosts P) (seen : OutDd B Own → OutSeen) (files : Files) (ins : List InSeen) (given : List (OutDd B Own)) (session : SessionView P) where
   module _ (next : SessionView P) (command : Command) (held : List Hold) (today : Day) (before after : List Step) (said : List Message)
-      (ends : Ends pools (MeansWhole (setting_of pools session held today) command) (IsCutCommand (setting_of pools session held today) command) session before after [] said (Ok next)) where
-    pub ends_done : (outcome : Outcome P) → IsDoneOutcome next after said outcome → EndsStatement pools session command held today before outcome
-    ends_done (outcomes.Done kept report steps) is = (
+      (ends : Ends pools (MeansWhole (MeansOnVolumes (setting_of pools session held today) command) command) (IsCutOnVolumes (setting_of pools session held today) command) session before after [] said (Ok next)) where
+    pub ends_done : (outcome : Outcome P B Own) → IsDoneOutcome next given after said outcome → EndsStatement pools seen files ins session command held today before outcome
+    ends_done (outcomes.Done kept outs report steps) is = (
       ends.added,
       is.1 ∙ ends.steps_are,
       subst (λ (s : SessionView P). KeepsFacts pools session s) (sym is.0) ends.facts,
       subst (λ (s : SessionView P). IsRun pools.tells (shown pools session.pool) (shown pools s.pool) (Unit {0}) ends.added None) (sym is.0) ends.run,
       λ told units settled. record {
-        means = subst (λ (l : List Message). MeansWhole (setting_of pools session held today) command units ends.added l) (sym (is.2 ∙ ends.messages_are)) (ends.ended told units settled);
+        means = subst (λ (l : List Message). MeansWhole (MeansOnVolumes (setting_of pools session held today) command) command units ends.added l) (sym (is.2 ∙ ends.messages_are)) (ends.ended told units settled);
         code_is = is.3 ∙ ap (λ (l : List Message). greatest_code l) (sym is.2);
       },
       is.3 ∙ ap (λ (l : List Message). greatest_code l) (sym is.2),
     )
-    ends_done (outcomes.Halted broken report steps) is = absurd is
-    ends_done (outcomes.Short kept report steps) is = absurd is
+    ends_done (outcomes.Halted broken outs report steps) is = absurd is
+    ends_done (outcomes.Short kept outs report steps) is = absurd is
 
   module _ (cut : Cut P) (command : Command) (held : List Hold) (today : Day) (before after : List Step) (said : List Message)
-      (ends : Ends pools (MeansWhole (setting_of pools session held today) command) (IsCutCommand (setting_of pools session held today) command) session before after [] said (Err cut))
+      (ends : Ends pools (MeansWhole (MeansOnVolumes (setting_of pools session held today) command) command) (IsCutOnVolumes (setting_of pools session held today) command) session before after [] said (Err cut))
       (begins : ((said ≡ []) × IsShort cut) ⊎ (take 1 said ≡ messages.Started (verb_of command) ∷ [])) where
     says : (told : List Message) → told ≡ take 1 said → (told ≡ []) ⊎ (told ≡ messages.Started (verb_of command) ∷ [])
     says told is = elim begins [
@@ -55,12 +57,12 @@ module _ {P : Type 0} (pools : Ghosts P) (session : SessionView P) where
     ]
 
     EndsAs : Cut P → Type 0
-    EndsAs c = Ends pools (MeansWhole (setting_of pools session held today) command) (IsCutCommand (setting_of pools session held today) command) session before after [] said (Err c)
+    EndsAs c = Ends pools (MeansWhole (MeansOnVolumes (setting_of pools session held today) command) command) (IsCutOnVolumes (setting_of pools session held today) command) session before after [] said (Err c)
 
-    pub ends_cut : (outcome : Outcome P) → IsCutOutcome cut after said outcome → EndsStatement pools session command held today before outcome
+    pub ends_cut : (outcome : Outcome P B Own) → IsCutOutcome cut given after said outcome → EndsStatement pools seen files ins session command held today before outcome
     unfolding EndsAs
-    ends_cut (outcomes.Done kept report steps) is = absurd is
-    ends_cut (outcomes.Halted broken report steps) is =
+    ends_cut (outcomes.Done kept outs report steps) is = absurd is
+    ends_cut (outcomes.Halted broken outs report steps) is =
         let was : EndsAs (cuts.Halted broken) = subst EndsAs is.0 ends in (
           was.added,
           is.1 ∙ was.steps_are,
@@ -69,23 +71,35 @@ module _ {P : Type 0} (pools : Ghosts P) (session : SessionView P) where
           was.run,
           was.cut,
         )
-    ends_cut (outcomes.Short kept report steps) is =
+    ends_cut (outcomes.Short kept outs report steps) is =
         let was : EndsAs (cuts.Short kept) = subst EndsAs is.0 ends in
         (was.added, is.1 ∙ was.steps_are, was.facts, says report.messages is.2, was.run, was.cut)
 
 -- ---- what only reads
 
-pub unchanged_done : {P : Type 0} (session next : SessionView P) (steps : List Step) (said : List Message) → next ≡ session → (outcome : Outcome P) → IsDoneOutcome next steps said outcome
-    → IsUnchanged session outcome
-unchanged_done session next steps said same (outcomes.Done kept report all) is = is.0 ∙ same
-unchanged_done session next steps said same (outcomes.Halted broken report all) is = absurd is
-unchanged_done session next steps said same (outcomes.Short kept report all) is = absurd is
+pub unchanged_done : {P B : Type 0} {Own : B → Type 0} (session next : SessionView P) (given : List (OutDd B Own)) (steps : List Step) (said : List Message) → next ≡ session
+    → (outcome : Outcome P B Own) → IsDoneOutcome next given steps said outcome → IsUnchanged session outcome
+unchanged_done session next given steps said same (outcomes.Done kept outs report all) is = is.0 ∙ same
+unchanged_done session next given steps said same (outcomes.Halted broken outs report all) is = absurd is
+unchanged_done session next given steps said same (outcomes.Short kept outs report all) is = absurd is
 
-pub unchanged_cut : {P : Type 0} (session : SessionView P) (cut : Cut P) (steps : List Step) (said : List Message) → LeavesSession session (Err cut) → (outcome : Outcome P)
-    → IsCutOutcome cut steps said outcome → IsUnchanged session outcome
-unchanged_cut session cut steps said leaves (outcomes.Done kept report all) is = absurd is
-unchanged_cut {P} session cut steps said leaves (outcomes.Halted broken report all) is = subst (λ (c : Cut P). LeavesSession session (Err c)) is.0 leaves
-unchanged_cut {P} session cut steps said leaves (outcomes.Short kept report all) is = subst (λ (c : Cut P). LeavesSession session (Err c)) is.0 leaves
+pub unchanged_cut : {P B : Type 0} {Own : B → Type 0} (session : SessionView P) (cut : Cut P) (given : List (OutDd B Own)) (steps : List Step) (said : List Message)
+    → LeavesSession session (Err cut) → (outcome : Outcome P B Own) → IsCutOutcome cut given steps said outcome → IsUnchanged session outcome
+unchanged_cut session cut given steps said leaves (outcomes.Done kept outs report all) is = absurd is
+unchanged_cut {P} session cut given steps said leaves (outcomes.Halted broken outs report all) is = subst (λ (c : Cut P). LeavesSession session (Err c)) is.0 leaves
+unchanged_cut {P} session cut given steps said leaves (outcomes.Short kept outs report all) is = subst (λ (c : Cut P). LeavesSession session (Err c)) is.0 leaves
+
+pub outs_done : {P B : Type 0} {Own : B → Type 0} (next : SessionView P) (given : List (OutDd B Own)) (steps : List Step) (said : List Message)
+    → (outcome : Outcome P B Own) → IsDoneOutcome next given steps said outcome → HasOuts given outcome
+outs_done next given steps said (outcomes.Done kept outs report all) is = is.4
+outs_done next given steps said (outcomes.Halted broken outs report all) is = absurd is
+outs_done next given steps said (outcomes.Short kept outs report all) is = absurd is
+
+pub outs_cut : {P B : Type 0} {Own : B → Type 0} (cut : Cut P) (given : List (OutDd B Own)) (steps : List Step) (said : List Message)
+    → (outcome : Outcome P B Own) → IsCutOutcome cut given steps said outcome → HasOuts given outcome
+outs_cut cut given steps said (outcomes.Done kept outs report all) is = absurd is
+outs_cut cut given steps said (outcomes.Halted broken outs report all) is = is.3
+outs_cut cut given steps said (outcomes.Short kept outs report all) is = is.3
 
 pub short_leaves : {P : Type 0} (session : SessionView P) (cut : Cut P) → cut ≡ cuts.Short session → LeavesSession session (Err cut)
 short_leaves {P} session cut is = subst (λ (c : Cut P). LeavesSession session (Err c)) (sym is) refl

@@ -24,7 +24,7 @@ use Rattle.job_steps.specs.declared.cut.Cut.TheVariants as cuts
 use Rattle.job_ops.specs.Consolidate.{ConsolidatesSet}
 use Rattle.job_ops.specs.Ends.{Ends}
 use Rattle.job_ops.specs.Copy.{CopiesSet, CopiesSets, IsCutCopy, request_of}
-use Rattle.job_ops.specs.Meaning.{Means, MeansWhole, IsCutCommand, verb_of, wish_of}
+use Rattle.job_ops.specs.Meaning.{MeansOnVolumes, MeansWhole, IsCutOnVolumes, verb_of, wish_of}
 use Rattle.job_ops.specs.Release.{ReleasesSet}
 use Rattle.job_ops.specs.Sets.{OverSets, IsCutOverSets}
 use Rattle.job_copies.specs.declared.wish.Wish.{Wish}
@@ -37,7 +37,7 @@ use Rattle.job_ops.proofs.SameSessions.{no_change, ends_told, told_grows}
 -- ---- what may be cut
 
 -- a command may be cut before it did anything
-cut_before : (setting : Setting) (command : Command) (units : List UnitModel) → IsCutCommand setting command units [] None
+cut_before : (setting : Setting) (command : Command) (units : List UnitModel) → IsCutOnVolumes setting command units [] None
 cut_before setting (commands.PrintVtoc unit) units = (refl, refl)
 cut_before setting (commands.Release filter unit) units = inl (refl, refl)
 cut_before setting (commands.Consolidate filter unit) units = inl (refl, refl)
@@ -74,7 +74,7 @@ copies_cut setting filter serial to wish rename units steps said (inr (inr (from
 
 -- so may a command
 cut_behind : (setting : Setting) (command : Command) (units : List UnitModel) (steps : List Step) (said : List Message)
-    → Means setting command units steps said → IsCutCommand setting command units steps None
+    → MeansOnVolumes setting command units steps said → IsCutOnVolumes setting command units steps None
 cut_behind setting (commands.PrintVtoc unit) units steps said means = (means.0, refl)
 cut_behind setting (commands.Release filter unit) units steps said means = sets_cut (ReleasesSet setting.held) setting filter unit units steps said means
 cut_behind setting (commands.Consolidate filter unit) units steps said means = sets_cut (ConsolidatesSet setting.held) setting filter unit units steps said means
@@ -92,12 +92,12 @@ module _ {P : Type 0} (pools : Ghosts P) (command : Command) (held : List Hold) 
   -- what the command does ends so
   abbrev pub EndsWithin : SessionView P → List Step → List Step → List Message → List Message → Result (SessionView P) (Cut P) → Type 0
   EndsWithin from before after first last result =
-      Ends pools (Means (setting_of pools from held today) command) (IsCutCommand (setting_of pools from held today) command) from before after first last result
+      Ends pools (MeansOnVolumes (setting_of pools from held today) command) (IsCutOnVolumes (setting_of pools from held today) command) from before after first last result
 
   -- the whole statement does
   abbrev pub EndsWholly : List Step → List Step → List Message → Result (SessionView P) (Cut P) → Type 0
   EndsWholly before after last result =
-      Ends pools (MeansWhole (setting_of pools session held today) command) (IsCutCommand (setting_of pools session held today) command) session before after [] last result
+      Ends pools (MeansWhole (MeansOnVolumes (setting_of pools session held today) command) command) (IsCutOnVolumes (setting_of pools session held today) command) session before after [] last result
 
   -- it couldn't say that it started
   pub not_started : (steps : List Step) (last : List Message) (cut : Cut P) → cut ≡ cuts.Short session → last ≡ [] → EndsWholly steps steps last (Err cut)

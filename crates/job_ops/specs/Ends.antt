@@ -1,8 +1,10 @@
 -- How a part of a statement ends, and how a statement does.
-use Rattle.std.specs.Prelude.{◌≡◌, ◌⊎◌, List, [], ◌∷◌, ◌++◌, take, Option, None, Result, Ok, Err, IfOk, IfErr}
+use Rattle.std.specs.Prelude.{◌≡◌, ◌⊎◌, List, [], ◌∷◌, ◌++◌, map, take, Option, None, Result, Ok, Err, IfOk, IfErr}
 use Rattle.by_rules.specs.declared.day.Day.{Day}
 use Rattle.dasd_pool.specs.Count.{Rose}
 use Rattle.dasd_pool.specs.declared.pool.Pool.{Ghosts}
+use Rattle.dump_fmt.specs.declared.outs.OutDd.{OutDd}
+use Rattle.dump_fmt.specs.Outs.{OutSeen, InSeen, Files, FilesSeen}
 use Rattle.enq_table.specs.declared.hold.Hold.{Hold}
 use Rattle.sysin_lang.specs.declared.command.Command.{Command}
 use Rattle.sysin_lang.specs.declared.command.Command.TheVariants as commands
@@ -67,10 +69,10 @@ LeavesSession session (Err (cuts.Short kept)) = kept ≡ session
 LeavesSession session (Err (cuts.Halted broken)) = ⊥
 
 -- a statement does
-abbrev pub IsUnchanged : {P : Type 0} → SessionView P → Outcome P → Type 0
-IsUnchanged session (outcomes.Done next report steps) = next ≡ session
-IsUnchanged session (outcomes.Halted broken report steps) = ⊥
-IsUnchanged session (outcomes.Short kept report steps) = kept ≡ session
+abbrev pub IsUnchanged : {P B : Type 0} {Own : B → Type 0} → SessionView P → Outcome P B Own → Type 0
+IsUnchanged session (outcomes.Done next outs report steps) = next ≡ session
+IsUnchanged session (outcomes.Halted broken outs report steps) = ⊥
+IsUnchanged session (outcomes.Short kept outs report steps) = kept ≡ session
 
 -- ---- a statement
 
@@ -78,29 +80,42 @@ IsUnchanged session (outcomes.Short kept report steps) = kept ≡ session
 abbrev pub SaysStarted : Command → Report → Type 0
 SaysStarted command report = report.messages ≡ messages.Started (verb_of command) ∷ []
 
--- How a statement ended. The steps are those of the run before it and those that it added.
-abbrev pub EndsStatement : {P : Type 0} → Ghosts P → SessionView P → Command → List Hold → Day → List Step → Outcome P → Type 0
-EndsStatement pools session command held today before (outcomes.Done next report steps) =
+-- the outputs that come back are these
+abbrev pub HasOuts : {P B : Type 0} {Own : B → Type 0} → List (OutDd B Own) → Outcome P B Own → Type 0
+HasOuts given (outcomes.Done next outs report steps) = outs.items ≡ given
+HasOuts given (outcomes.Halted broken outs report steps) = outs.items ≡ given
+HasOuts given (outcomes.Short kept outs report steps) = outs.items ≡ given
+
+-- the outputs and inputs that a statement found, and those that it left
+abbrev pub left_files : {B : Type 0} {Own : B → Type 0} → (OutDd B Own → OutSeen) → Files → List InSeen → List (OutDd B Own) → FilesSeen
+left_files seen before ins outs = record { before = before; after = record { outs = map seen outs; ins = ins } }
+
+-- How a statement ended that found these outputs and inputs, and left these inputs. The steps are those of the run before it and those that it added.
+abbrev pub EndsStatement : {P B : Type 0} {Own : B → Type 0} → Ghosts P → (OutDd B Own → OutSeen) → Files → List InSeen
+    → SessionView P → Command → List Hold → Day → List Step → Outcome P B Own → Type 0
+EndsStatement pools seen files ins session command held today before (outcomes.Done next outs report steps) =
     (added : List Step) × (steps.items ≡ before ++ added) × KeepsFacts pools session next
     × IsRun pools.tells (shown pools session.pool) (shown pools next.pool) (Unit {0}) added None
-    × ForUnits pools session (λ units. MeansStatement (setting_of pools session held today) command units added report)
+    × ForUnits pools session (λ units. MeansStatement (setting_of pools session held today) command (left_files seen files ins outs.items) units added report)
     × (report.code ≡ greatest_code report.messages)
-EndsStatement pools session command held today before (outcomes.Halted broken report steps) =
+EndsStatement pools seen files ins session command held today before (outcomes.Halted broken outs report steps) =
     (added : List Step) × (steps.items ≡ before ++ added) × Rose (pools.faults session.pool) (pools.faults broken.pool) × SaysStarted command report
     × IsRun pools.tells (shown pools session.pool) (shown pools broken.pool) ⊥ added broken.pending
-    × ForUnits pools session (λ units. IsCutCommand (setting_of pools session held today) command units added broken.pending)
-EndsStatement pools session command held today before (outcomes.Short kept report steps) =
+    × ForUnits pools session (λ units. IsCutCommand (setting_of pools session held today) command (left_files seen files ins outs.items) units added broken.pending)
+EndsStatement pools seen files ins session command held today before (outcomes.Short kept outs report steps) =
     (added : List Step) × (steps.items ≡ before ++ added) × KeepsFacts pools session kept × ((report.messages ≡ []) ⊎ SaysStarted command report)
     × IsRun pools.tells (shown pools session.pool) (shown pools kept.pool) (Unit {0}) added None
-    × ForUnits pools session (λ units. IsCutCommand (setting_of pools session held today) command units added None)
+    × ForUnits pools session (λ units. IsCutCommand (setting_of pools session held today) command (left_files seen files ins outs.items) units added None)
 
--- a statement that was cut ended so, with these steps and the first of its messages
-abbrev pub IsCutOutcome : {P : Type 0} → Cut P → List Step → List Message → Outcome P → Type 0
-IsCutOutcome cut steps messages (outcomes.Done next report done) = ⊥
-IsCutOutcome cut steps messages (outcomes.Halted broken report done) = (cut ≡ cuts.Halted broken) × (done.items ≡ steps) × (report.messages ≡ take 1 messages)
-IsCutOutcome cut steps messages (outcomes.Short kept report done) = (cut ≡ cuts.Short kept) × (done.items ≡ steps) × (report.messages ≡ take 1 messages)
+-- a statement that was cut ended so, with these outputs and steps and the first of its messages
+abbrev pub IsCutOutcome : {P B : Type 0} {Own : B → Type 0} → Cut P → List (OutDd B Own) → List Step → List Message → Outcome P B Own → Type 0
+IsCutOutcome cut given steps messages (outcomes.Done next outs report done) = ⊥
+IsCutOutcome cut given steps messages (outcomes.Halted broken outs report done) =
+    (cut ≡ cuts.Halted broken) × (done.items ≡ steps) × (report.messages ≡ take 1 messages) × (outs.items ≡ given)
+IsCutOutcome cut given steps messages (outcomes.Short kept outs report done) =
+    (cut ≡ cuts.Short kept) × (done.items ≡ steps) × (report.messages ≡ take 1 messages) × (outs.items ≡ given)
 
-abbrev pub IsDoneOutcome : {P : Type 0} → SessionView P → List Step → List Message → Outcome P → Type 0
-IsDoneOutcome session steps messages (outcomes.Done next report done) =
-    (next ≡ session) × (done.items ≡ steps) × (report.messages ≡ messages) × (report.code ≡ greatest_code messages)
-IsDoneOutcome session steps messages _ = ⊥
+abbrev pub IsDoneOutcome : {P B : Type 0} {Own : B → Type 0} → SessionView P → List (OutDd B Own) → List Step → List Message → Outcome P B Own → Type 0
+IsDoneOutcome session given steps messages (outcomes.Done next outs report done) =
+    (next ≡ session) × (done.items ≡ steps) × (report.messages ≡ messages) × (report.code ≡ greatest_code messages) × (outs.items ≡ given)
+IsDoneOutcome session given steps messages _ = ⊥

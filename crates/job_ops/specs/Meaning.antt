@@ -4,6 +4,7 @@ use Rattle.sysin_words.specs.declared.lead.Verb.{Verb}
 use Rattle.sysin_lang.specs.declared.command.Command.{Command}
 use Rattle.sysin_lang.specs.declared.command.Command.TheVariants as commands
 use Rattle.sysin_forms.specs.Form.{form_of, verb_of_form}
+use Rattle.dump_fmt.specs.Outs.{FilesSeen}
 use Rattle.dsn_filter.specs.declared.dsn.Dsn.{Dsn}
 use Rattle.enq_table.specs.declared.hold.Hold.{Hold}
 use Rattle.volume_model.specs.Unit.{UnitModel}
@@ -41,33 +42,50 @@ abbrev pub TurnOf : Task → List Hold → ℕ → Dsn → Action
 TurnOf tasks.Release held = ReleasesSet held
 TurnOf tasks.Consolidate held = ConsolidatesSet held
 
--- what a command does and says between the line that it started and the line that it ended
-abbrev pub Means : Setting → Command → List UnitModel → List Step → List Message → Type 0
-Means setting (commands.PrintVtoc serial) units steps said = Prints setting serial units steps said
-Means setting (commands.Release filter serial) units steps said = OverSets (ReleasesSet setting.held) setting filter serial units steps said
-Means setting (commands.Consolidate filter serial) units steps said = OverSets (ConsolidatesSet setting.held) setting filter serial units steps said
-Means setting (commands.Copy filter serial to delete purge replace rename tolerate) units steps said =
+-- what a command that calls no output or input does and says between the line that it started and the line that it ended
+abbrev pub MeansOnVolumes : Setting → Command → Action
+MeansOnVolumes setting (commands.PrintVtoc serial) units steps said = Prints setting serial units steps said
+MeansOnVolumes setting (commands.Release filter serial) units steps said = OverSets (ReleasesSet setting.held) setting filter serial units steps said
+MeansOnVolumes setting (commands.Consolidate filter serial) units steps said = OverSets (ConsolidatesSet setting.held) setting filter serial units steps said
+MeansOnVolumes setting (commands.Copy filter serial to delete purge replace rename tolerate) units steps said =
     CopiesSets setting filter serial to (wish_of delete purge replace tolerate) rename units steps said
-Means setting _ units steps said = ⊥
+MeansOnVolumes setting _ units steps said = ⊥
 
 -- what it had done where it was cut
-abbrev pub IsCutCommand : Setting → Command → List UnitModel → List Step → Option Step → Type 0
-IsCutCommand setting (commands.Release filter serial) units steps pending = IsCutOverSets (ReleasesSet setting.held) setting filter serial units steps pending
-IsCutCommand setting (commands.Consolidate filter serial) units steps pending = IsCutOverSets (ConsolidatesSet setting.held) setting filter serial units steps pending
-IsCutCommand setting (commands.Copy filter serial to delete purge replace rename tolerate) units steps pending =
+abbrev pub IsCutOnVolumes : Setting → Command → List UnitModel → List Step → Option Step → Type 0
+IsCutOnVolumes setting (commands.Release filter serial) units steps pending = IsCutOverSets (ReleasesSet setting.held) setting filter serial units steps pending
+IsCutOnVolumes setting (commands.Consolidate filter serial) units steps pending = IsCutOverSets (ConsolidatesSet setting.held) setting filter serial units steps pending
+IsCutOnVolumes setting (commands.Copy filter serial to delete purge replace rename tolerate) units steps pending =
     IsCutCopy setting filter serial to (wish_of delete purge replace tolerate) rename units steps pending
-IsCutCommand setting _ units steps pending = (steps ≡ []) × (pending ≡ None)
+IsCutOnVolumes setting _ units steps pending = (steps ≡ []) × (pending ≡ None)
+
+-- ---- with the outputs and inputs of the run
+
+-- a command calls no output and no input
+abbrev pub CallsNoFile : Command → Type 0
+CallsNoFile (commands.DumpDataset filter unit outs reset delete purge tolerate) = ⊥
+CallsNoFile (commands.DumpFull unit outs) = ⊥
+CallsNoFile (commands.RestoreDataset filter input to purge replace rename) = ⊥
+CallsNoFile (commands.RestoreFull input to purge) = ⊥
+CallsNoFile _ = Unit {0}
+
+-- What any command does and says, on the units and with the outputs and inputs. A command that dumps or restores will have a case of its own.
+abbrev pub Means : Setting → Command → FilesSeen → Action
+Means setting command files = MeansOnVolumes setting command
+
+abbrev pub IsCutCommand : Setting → Command → FilesSeen → List UnitModel → List Step → Option Step → Type 0
+IsCutCommand setting command files = IsCutOnVolumes setting command
 
 abbrev pub verb_of : Command → Verb
 verb_of command = verb_of_form (form_of command)
 
--- the same, with the line that it started before, and behind it the line that it ended, with the code of its gravest message
-abbrev pub MeansWhole : Setting → Command → Action
-MeansWhole setting command units steps whole =
-    (said : List Message) × Means setting command units steps said
+-- what a command means, with the line that it started before, and behind it the line that it ended, with the code of its gravest message
+abbrev pub MeansWhole : Action → Command → Action
+MeansWhole Does command units steps whole =
+    (said : List Message) × Does units steps said
     × (whole ≡ messages.Started (verb_of command) ∷ (said ++ (messages.Ended (verb_of command) (greatest_code said) ∷ [])))
 
 -- the report of a whole statement
-pub record MeansStatement (setting : Setting) (command : Command) (units : List UnitModel) (steps : List Step) (report : Report) : Type 0 where
-  pub means : MeansWhole setting command units steps report.messages
+pub record MeansStatement (setting : Setting) (command : Command) (files : FilesSeen) (units : List UnitModel) (steps : List Step) (report : Report) : Type 0 where
+  pub means : MeansWhole (Means setting command files) command units steps report.messages
   pub code_is : report.code ≡ greatest_code report.messages

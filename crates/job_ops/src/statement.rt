@@ -1,11 +1,12 @@
 //! A statement over a session.
 
-ghost use Rattle.std.specs.Prelude.{◌≡◌, ◌↔◌, ◌⊎◌, ◌∷◌, [], take, IsTrue, IfErr};
+ghost use Rattle.std.specs.Prelude.{◌≡◌, ◌↔◌, ◌⊎◌, ◌∷◌, [], map, take, IsTrue, IfErr};
 ghost use Rattle.by_rules.specs.Day.{IsToday};
 ghost use Rattle.job_lines.specs.Severity.{greatest_code as greatest_code_of};
 ghost use Rattle.job_steps.specs.Carried.{IsShort};
-ghost use Rattle.job_ops.specs.Ends.{Ends, EndsStatement, IsCutOutcome, IsDoneOutcome, LeavesSession, IsUnchanged, OnlyReads};
-ghost use Rattle.job_ops.specs.Meaning.{IsBuilt, Means, MeansWhole, IsCutCommand, verb_of as verb_in};
+ghost use Rattle.dump_fmt.specs.Outs.{files_of};
+ghost use Rattle.job_ops.specs.Ends.{Ends, EndsStatement, HasOuts, IsCutOutcome, IsDoneOutcome, LeavesSession, IsUnchanged, OnlyReads};
+ghost use Rattle.job_ops.specs.Meaning.{CallsNoFile, IsBuilt, MeansOnVolumes, MeansWhole, IsCutOnVolumes, verb_of as verb_in};
 ghost use Rattle.job_ops.specs.Setting.{setting_of};
 
 use crate::copies::{CopyJob, copy};
@@ -18,6 +19,7 @@ use crate::task::Task;
 use by_rules::Day;
 use ckd_image::Listed;
 use dasd_pool::Pool;
+use dump_fmt::{InDd, OutDd, Seen, SeenIn};
 use enq_table::Held;
 use job_copies::{Wish, is_rename};
 use job_lines::Message;
@@ -76,7 +78,7 @@ fn perform<P: Pool>(
 ) -> Result<Session<P>, Cut<P>>
     requires built { IsBuilt command.now }
     requires today { IsToday today }
-    ensures ends { Ends P.Pool (Means (setting_of P.Pool session held.now today) command.now) (IsCutCommand (setting_of P.Pool session held.now today) command.now) session
+    ensures ends { Ends P.Pool (MeansOnVolumes (setting_of P.Pool session held.now today) command.now) (IsCutOnVolumes (setting_of P.Pool session held.now today) command.now) session
         log.old.steps.items log.new.steps.items log.old.messages.items log.new.messages.items result }
     ensures reads { OnlyReads command.now → LeavesSession session result }
 {
@@ -160,19 +162,21 @@ fn cut_report(messages: Vec<Message>) -> Report
 }
 
 /// How a statement ended that was cut.
-fn cut_short<P: Pool>(cut: Cut<P>, log: Log) -> Outcome<P>
-    ensures { IsCutOutcome cut log.steps.items log.messages.items result }
+fn cut_short<P: Pool>(cut: Cut<P>, outs: Vec<OutDd>, log: Log) -> Outcome<P>
+    ensures { IsCutOutcome cut outs.items log.steps.items log.messages.items result }
 {
     let Log { steps, messages } = log;
     let report = cut_report(messages);
     match cut {
         Cut::Halted(broken) => Outcome::Halted {
             broken,
+            outs,
             report,
             steps,
         },
         Cut::Short(session) => Outcome::Short {
             session,
+            outs,
             report,
             steps,
         },
@@ -191,7 +195,7 @@ fn whole<P: Pool>(
     requires built { IsBuilt command.now }
     requires today { IsToday today }
     requires start { log.old.messages.items ≡ [] }
-    ensures ends { Ends P.Pool (MeansWhole (setting_of P.Pool session held.now today) command.now) (IsCutCommand (setting_of P.Pool session held.now today) command.now) session
+    ensures ends { Ends P.Pool (MeansWhole (MeansOnVolumes (setting_of P.Pool session held.now today) command.now) command.now) (IsCutOnVolumes (setting_of P.Pool session held.now today) command.now) session
         log.old.steps.items log.new.steps.items [] log.new.messages.items result }
     ensures begins { IfErr result (λ cut. ((log.new.messages.items ≡ []) × IsShort cut) ⊎ (take 1 log.new.messages.items ≡ Message.Started (verb_in command.now) ∷ [])) }
     ensures reads { OnlyReads command.now → LeavesSession session result }
@@ -204,13 +208,14 @@ fn whole<P: Pool>(
 }
 
 /// How a statement ended that was done.
-fn done<P: Pool>(session: Session<P>, log: Log) -> Outcome<P>
-    ensures { IsDoneOutcome session log.steps.items log.messages.items result }
+fn done<P: Pool>(session: Session<P>, outs: Vec<OutDd>, log: Log) -> Outcome<P>
+    ensures { IsDoneOutcome session outs.items log.steps.items log.messages.items result }
 {
     let Log { steps, messages } = log;
     let code = greatest_code(&messages);
     Outcome::Done {
         session,
+        outs,
         report: Report {
             messages: Listed::from_vec(messages),
             code,
@@ -219,18 +224,25 @@ fn done<P: Pool>(session: Session<P>, log: Log) -> Outcome<P>
     }
 }
 
-/// Runs a statement over the volumes of a session. `steps` are those of the run so far.
+/// Runs a statement over the volumes of a session, with the outputs and inputs of the run. `steps` are those of the run so far.
 pub fn run_statement<P: Pool>(
     alloc: Global,
     session: Session<P>,
     statement: &Statement,
     held: &Held,
+    outs: Vec<OutDd>,
+    ins: &mut Vec<InDd>,
     today: Day,
     steps: Vec<Step>,
 ) -> Outcome<P>
     requires built { IsBuilt statement.now.command }
     requires today { IsToday today }
-    ensures ends { EndsStatement P.Pool session statement.now.command held.now today steps.items result }
+    ensures ends { EndsStatement P.Pool ⟦<OutDd as Seen>⟧.seen (files_of ⟦<OutDd as Seen>⟧.seen ⟦<InDd as SeenIn>⟧.seen outs.items ins.old.items)
+        (map ⟦<InDd as SeenIn>⟧.seen ins.new.items) session statement.now.command held.now today steps.items result }
+
+    // Outputs and inputs of which a command has no need are the very same behind it.
+    ensures outs { CallsNoFile statement.now.command → HasOuts outs.items result }
+    ensures ins { CallsNoFile statement.now.command → ins.new.items ≡ ins.old.items }
 
     // A command that changes nothing leaves the session as it was.
     ensures reads { OnlyReads statement.now.command → IsUnchanged session result }
@@ -240,7 +252,7 @@ pub fn run_statement<P: Pool>(
         messages: Vec::new(alloc),
     };
     match whole(alloc, session, &statement.command, held, today, &mut log) {
-        Ok(session) => done(session, log),
-        Err(cut) => cut_short(cut, log),
+        Ok(session) => done(session, outs, log),
+        Err(cut) => cut_short(cut, outs, log),
     }
 }

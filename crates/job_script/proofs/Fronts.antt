@@ -7,6 +7,8 @@ use Rattle.by_rules.specs.declared.day.Day.{Day}
 use Rattle.dasd_pool.specs.Count.{Rose}
 use Rattle.dasd_pool.specs.Stream.{Appends, AppendsSome}
 use Rattle.dasd_pool.specs.declared.pool.Pool.{Ghosts}
+use Rattle.dump_fmt.specs.declared.outs.OutDd.{OutDd}
+use Rattle.dump_fmt.specs.Outs.{OutSeen, InSeen, Files, FilesSeen}
 use Rattle.enq_table.specs.declared.hold.Hold.{Hold}
 use Rattle.volume_model.specs.Unit.{UnitModel}
 use Rattle.move_core.specs.declared.steps.Step.{Step}
@@ -29,10 +31,10 @@ use Rattle.job_script.specs.declared.left.Left.{Left}
 use Rattle.job_script.specs.declared.run.Between.{Between}
 use Rattle.job_script.specs.Built.{AreBuilt}
 use Rattle.job_script.specs.Ends.{After, after_of, SinkSeen, Prints, LeavesAfter, EndsScript}
-use Rattle.job_script.specs.One.{GoesOn, EndsOne, IsStoppedIn}
-use Rattle.job_script.specs.Runs.{Ran, HasGravest, IsListing, steps_of, lines_of, lines_in, answers_of, started_line, printed_text, Follow, RunOn, HasRun, IsNext, IsFront}
+use Rattle.job_script.specs.One.{GoesOn, EndsOne, IsStoppedIn, seen_files}
+use Rattle.job_script.specs.Runs.{Ran, HasGravest, IsListing, steps_of, lines_of, lines_in, answers_of, started_line, printed_text, Follow, RunOn, HandOn, HasRun, IsNext, IsFront}
 use Rattle.job_script.proofs.Earlier.{took_none, took_then}
-use Rattle.job_script.proofs.Rans.{steps_join, lines_join, steps_one, lines_one, follow_join, leaves_more}
+use Rattle.job_script.proofs.Rans.{steps_join, lines_join, steps_one, lines_one, follow_join, hand_join, leaves_more}
 use Rattle.job_script.proofs.Plans.{built_then}
 use Rattle.job_script.proofs.Ones.{after_parts, sink_no_pool, sink_no_whole, whole_no_pool, whole_no_sink}
 
@@ -56,7 +58,7 @@ SettledAfter pools first now setting ran units =
 
 -- A run that began on a session, and whose statements so far all ended. What may run yet, and the codes, are given.
 pub record RanSoFar {P : Type 0} (pools : Ghosts P) (first now : SessionView P) (held : List Hold) (today : Day) (plan left : Plan) (codes : Codes) (steps : List Step)
-    (taken_first taken_now : Option (List ℕ)) (faults_first faults_now : ℕ) : Type 0 where
+    (files_first files_now : Files) (taken_first taken_now : Option (List ℕ)) (faults_first faults_now : ℕ) : Type 0 where
   pub ran : List Ran
   pub gravest : All HasGravest ran
   pub leaves : Leaves plan zero_codes (answers_of ran) left codes
@@ -67,6 +69,7 @@ pub record RanSoFar {P : Type 0} (pools : Ghosts P) (first now : SessionView P) 
   pub facts : KeepsFacts pools first now
   pub run : IsRun pools.tells (shown pools first.pool) (shown pools now.pool) (Unit {0}) (steps_of ran) None
   pub quiet : All IsListing ran → now.pool ≡ first.pool
+  pub handed : HandOn files_first ran files_now
   pub units : ForUnits pools first (SettledAfter pools first now (setting_of pools first held today) ran)
 
 facts_same : {P : Type 0} (pools : Ghosts P) {old new : SessionView P} → KeepsFacts pools old new → facts_of pools new ≡ facts_of pools old
@@ -77,14 +80,14 @@ setting_same : {P : Type 0} (pools : Ghosts P) {old new : SessionView P} (held :
 setting_same {P} pools {old} {new} held today keeps = λ i. record { facts = facts_same pools keeps i; today = today; held = held }
 
 -- a statement that ended
-abbrev pub ran_of : Statement → List Step → Report → Ran
-ran_of statement steps report = record { statement = statement; steps = steps; report = report }
+abbrev pub ran_of : Statement → List Step → Report → FilesSeen → Ran
+ran_of statement steps report files = record { statement = statement; steps = steps; report = report; files = files }
 
 -- nothing ran yet
 pub ran_none : {P : Type 0} (pools : Ghosts P) (first : SessionView P) (held : List Hold) (today : Day) (plan left : Plan) (codes : Codes) (steps : List Step)
-    (taken : Option (List ℕ)) (faults : ℕ) → AreBuilt plan → left ≡ plan → codes ≡ zero_codes → steps ≡ []
-    → RanSoFar pools first first held today plan left codes steps taken taken faults faults
-ran_none {P} pools first held today plan left codes steps taken faults built same zero none = record {
+    (files : Files) (taken : Option (List ℕ)) (faults : ℕ) → AreBuilt plan → left ≡ plan → codes ≡ zero_codes → steps ≡ []
+    → RanSoFar pools first first held today plan left codes steps files files taken taken faults faults
+ran_none {P} pools first held today plan left codes steps files taken faults built same zero none = record {
   ran = [];
   gravest = All-nil HasGravest;
   leaves = (same, zero);
@@ -95,32 +98,35 @@ ran_none {P} pools first held today plan left codes steps taken faults built sam
   facts = record { shape = refl; names = refl; room = refl };
   run = run_idle (tt {0});
   quiet = λ listed. refl;
+  handed = refl;
   units = λ told units settled. (units, refl, settled);
 }
 
 -- the same of codes and a place under other names
 pub ran_as : {P : Type 0} {pools : Ghosts P} {first now : SessionView P} {held : List Hold} {today : Day} {plan left other : Plan} {codes others : Codes} {steps : List Step}
-    {taken_first taken_now : Option (List ℕ)} {faults_first faults_now : ℕ} → other ≡ left → others ≡ codes
-    → RanSoFar pools first now held today plan left codes steps taken_first taken_now faults_first faults_now
-    → RanSoFar pools first now held today plan other others steps taken_first taken_now faults_first faults_now
-ran_as {P} {pools} {first} {now} {held} {today} {plan} {left} {other} {codes} {others} {steps} {taken_first} {taken_now} {faults_first} {faults_now} same zero so_far =
-    subst (λ (c : Codes). RanSoFar pools first now held today plan other c steps taken_first taken_now faults_first faults_now) (sym zero)
-    (subst (λ (p : Plan). RanSoFar pools first now held today plan p codes steps taken_first taken_now faults_first faults_now) (sym same) so_far)
+    {files_first files_now : Files} {taken_first taken_now : Option (List ℕ)} {faults_first faults_now : ℕ} → other ≡ left → others ≡ codes
+    → RanSoFar pools first now held today plan left codes steps files_first files_now taken_first taken_now faults_first faults_now
+    → RanSoFar pools first now held today plan other others steps files_first files_now taken_first taken_now faults_first faults_now
+ran_as {P} {pools} {first} {now} {held} {today} {plan} {left} {other} {codes} {others} {steps} {files_first} {files_now} {taken_first} {taken_now} {faults_first} {faults_now} same zero so_far =
+    subst (λ (c : Codes). RanSoFar pools first now held today plan other c steps files_first files_now taken_first taken_now faults_first faults_now) (sym zero)
+    (subst (λ (p : Plan). RanSoFar pools first now held today plan p codes steps files_first files_now taken_first taken_now faults_first faults_now) (sym same) so_far)
 
-module _ {P : Type 0} (pools : Ghosts P) (held : List Hold) (today : Day) {first : SessionView P} (now : Between P) {plan left : Plan} {codes : Codes}
-    {taken_first taken_now : Option (List ℕ)} {faults_first faults_now : ℕ}
-    (so_far : RanSoFar pools first now.session held today plan left codes now.steps.items taken_first taken_now faults_first faults_now) where
+module _ {P B : Type 0} {Own : B → Type 0} (pools : Ghosts P) (seen : OutDd B Own → OutSeen) (ins_now : List InSeen) (held : List Hold) (today : Day) {first : SessionView P} (now : Between P B Own)
+    {plan left : Plan} {codes : Codes} {files_first : Files} {taken_first taken_now : Option (List ℕ)} {faults_first faults_now : ℕ}
+    (so_far : RanSoFar pools first now.session held today plan left codes now.steps.items files_first (seen_files seen now.outs.items ins_now) taken_first taken_now faults_first faults_now) where
   -- ---- a statement more
 
-  module _ {statement : Statement} {rest : Plan} {then' : Codes} (next_is : next_of left codes ≡ Command statement rest then') {taken_new : Option (List ℕ)} {faults_new : ℕ} where
-    pub ran_more : {next : Between P} → GoesOn pools now statement held today taken_now taken_new faults_now faults_new next
-        → RanSoFar pools first next.session held today plan rest (answered next.code then') next.steps.items taken_first taken_new faults_first faults_new
+  module _ {statement : Statement} {rest : Plan} {then' : Codes} (next_is : next_of left codes ≡ Command statement rest then') {ins_new : List InSeen} {taken_new : Option (List ℕ)}
+      {faults_new : ℕ} where
+    pub ran_more : {next : Between P B Own} → GoesOn pools seen ins_now ins_new now statement held today taken_now taken_new faults_now faults_new next
+        → RanSoFar pools first next.session held today plan rest (answered next.code then') next.steps.items files_first (seen_files seen next.outs.items ins_new) taken_first taken_new
+        faults_first faults_new
     ran_more {next} goes = record {
-      ran = so_far.ran ++ (ran_of statement goes.added goes.said ∷ []);
-      gravest = All-append HasGravest so_far.ran (ran_of statement goes.added goes.said ∷ []) so_far.gravest
-          (All-cons HasGravest (ran_of statement goes.added goes.said) [] goes.gravest (All-nil HasGravest));
-      leaves = subst (λ (code : ℕ). Leaves plan zero_codes (answers_of (so_far.ran ++ (ran_of statement goes.added goes.said ∷ []))) rest (answered code then')) (sym goes.code_is)
-          (leaves_more plan left rest codes then' zero_codes statement so_far.ran (ran_of statement goes.added goes.said) so_far.leaves refl next_is);
+      ran = so_far.ran ++ (ran_of statement goes.added goes.said goes.files ∷ []);
+      gravest = All-append HasGravest so_far.ran (ran_of statement goes.added goes.said goes.files ∷ []) so_far.gravest
+          (All-cons HasGravest (ran_of statement goes.added goes.said goes.files) [] goes.gravest (All-nil HasGravest));
+      leaves = subst (λ (code : ℕ). Leaves plan zero_codes (answers_of (so_far.ran ++ (ran_of statement goes.added goes.said goes.files ∷ []))) rest (answered code then')) (sym goes.code_is)
+          (leaves_more plan left rest codes then' zero_codes statement so_far.ran (ran_of statement goes.added goes.said goes.files) so_far.leaves refl next_is);
       built = (built_then left codes so_far.built next_is).1;
       steps_are = goes.steps_are ∙ ap (λ (l : List Step). l ++ goes.added) so_far.steps_are ∙ steps_all;
       taken = subst (λ (l : List ℕ). Appends taken_first taken_new l) lines_all
@@ -133,31 +139,33 @@ module _ {P : Type 0} (pools : Ghosts P) (held : List Hold) (today : Day) {first
       };
       run = subst (λ (l : List Step). IsRun pools.tells (shown pools first.pool) (shown pools next.session.pool) (Unit {0}) l None) steps_all (run_then so_far.run (tt {0}) goes.run);
       quiet = λ listed.
-          goes.quiet (All-head IsListing (ran_of statement goes.added goes.said) [] (all_back IsListing so_far.ran (ran_of statement goes.added goes.said ∷ []) listed))
-          ∙ so_far.quiet (all_front IsListing so_far.ran (ran_of statement goes.added goes.said ∷ []) listed);
+          goes.quiet (All-head IsListing (ran_of statement goes.added goes.said goes.files) [] (all_back IsListing so_far.ran (ran_of statement goes.added goes.said goes.files ∷ []) listed))
+          ∙ so_far.quiet (all_front IsListing so_far.ran (ran_of statement goes.added goes.said goes.files ∷ []) listed);
+      handed = hand_join so_far.ran (ran_of statement goes.added goes.said goes.files ∷ []) files_first (seen_files seen now.outs.items ins_now) (seen_files seen next.outs.items ins_new)
+          so_far.handed (goes.found, goes.left);
       units = units_more;
     }
       where
-        steps_all : steps_of so_far.ran ++ goes.added ≡ steps_of (so_far.ran ++ (ran_of statement goes.added goes.said ∷ []))
-        steps_all = ap (λ (l : List Step). steps_of so_far.ran ++ l) (sym (steps_one (ran_of statement goes.added goes.said))) ∙ sym (steps_join so_far.ran (ran_of statement goes.added goes.said ∷ []))
+        steps_all : steps_of so_far.ran ++ goes.added ≡ steps_of (so_far.ran ++ (ran_of statement goes.added goes.said goes.files ∷ []))
+        steps_all = ap (λ (l : List Step). steps_of so_far.ran ++ l) (sym (steps_one (ran_of statement goes.added goes.said goes.files))) ∙ sym (steps_join so_far.ran (ran_of statement goes.added goes.said goes.files ∷ []))
 
-        lines_all : lines_of so_far.ran ++ lines_in statement.number goes.said.messages ≡ lines_of (so_far.ran ++ (ran_of statement goes.added goes.said ∷ []))
-        lines_all = ap (λ (l : List ℕ). lines_of so_far.ran ++ l) (sym (lines_one (ran_of statement goes.added goes.said))) ∙ sym (lines_join so_far.ran (ran_of statement goes.added goes.said ∷ []))
+        lines_all : lines_of so_far.ran ++ lines_in statement.number goes.said.messages ≡ lines_of (so_far.ran ++ (ran_of statement goes.added goes.said goes.files ∷ []))
+        lines_all = ap (λ (l : List ℕ). lines_of so_far.ran ++ l) (sym (lines_one (ran_of statement goes.added goes.said goes.files))) ∙ sym (lines_join so_far.ran (ran_of statement goes.added goes.said goes.files ∷ []))
 
-        units_more : ForUnits pools first (SettledAfter pools first next.session (setting_of pools first held today) (so_far.ran ++ (ran_of statement goes.added goes.said ∷ [])))
+        units_more : ForUnits pools first (SettledAfter pools first next.session (setting_of pools first held today) (so_far.ran ++ (ran_of statement goes.added goes.said goes.files ∷ [])))
         units_more told units settled =
             let was = so_far.units told units settled in
             let same = facts_same pools so_far.facts in
             let kept = (goes.run.keeps told (facts_of pools first) (sym so_far.facts.shape) was.0 was.2).settled (tt {0}) in
             let means = goes.means told was.0 (subst (λ (f : Facts). IsSettled f (pools.disk now.session.pool).state was.0) (sym same) was.2) in
-            let here = subst (λ (s : Setting). Follow s (ran_of statement goes.added goes.said ∷ []) was.0 kept.units) (setting_same pools held today so_far.facts)
+            let here = subst (λ (s : Setting). Follow s (ran_of statement goes.added goes.said goes.files ∷ []) was.0 kept.units) (setting_same pools held today so_far.facts)
             (means, (kept.units, subst (λ (f : Facts). Reaches f was.0 goes.added kept.units) (sym same) kept.reached, refl)) in
-            (kept.units, follow_join (setting_of pools first held today) so_far.ran (ran_of statement goes.added goes.said ∷ []) units was.0 kept.units was.1 here, kept.settled)
+            (kept.units, follow_join (setting_of pools first held today) so_far.ran (ran_of statement goes.added goes.said goes.files ∷ []) units was.0 kept.units was.1 here, kept.settled)
 
   -- ---- what is left behind it
 
-  module _ {taken_new : Option (List ℕ)} {faults_new : ℕ} {ran : List Ran} {under : Option Statement} {wanted : RunEnd} {after : After P}
-      (leaves : LeavesAfter pools now.session held today now.steps.items
+  module _ {files_new : Files} {taken_new : Option (List ℕ)} {faults_new : ℕ} {ran : List Ran} {under : Option Statement} {wanted : RunEnd} {after : After P}
+      (leaves : LeavesAfter pools now.session held today now.steps.items (record { before = seen_files seen now.outs.items ins_now; after = files_new })
       (record { before = taken_now; after = taken_new; faults_before = faults_now; faults_after = faults_new }) ran under wanted after) where
     abbrev whole_out : SinkSeen
     whole_out = record { before = taken_first; after = taken_new; faults_before = faults_first; faults_after = faults_new }
@@ -191,14 +199,14 @@ module _ {P : Type 0} (pools : Ghosts P) (held : List Hold) (today : Day) {first
       later = omega (arith, so_far.later, leaves.printed.later);
     }
 
-    units_all : ForUnits pools first (RunOn (setting_of pools first held today) (so_far.ran ++ ran) under leaves.added after.pending)
+    units_all : ForUnits pools first (RunOn (setting_of pools first held today) (so_far.ran ++ ran) under leaves.cut leaves.added after.pending)
     units_all told units settled =
         let was = so_far.units told units settled in
         let on = leaves.means told was.0 (subst (λ (f : Facts). IsSettled f (pools.disk now.session.pool).state was.0) (sym (facts_same pools so_far.facts)) was.2) in
-        let same = subst (λ (s : Setting). RunOn s ran under leaves.added after.pending was.0) (setting_same pools held today so_far.facts) on in
+        let same = subst (λ (s : Setting). RunOn s ran under leaves.cut leaves.added after.pending was.0) (setting_same pools held today so_far.facts) on in
         (same.0, follow_join (setting_of pools first held today) so_far.ran ran units was.0 same.0 was.1 same.1, same.2)
 
-    pub leaves_all : LeavesAfter pools first held today [] whole_out (so_far.ran ++ ran) under wanted after
+    pub leaves_all : LeavesAfter pools first held today [] (record { before = files_first; after = files_new }) whole_out (so_far.ran ++ ran) under wanted after
     leaves_all = record {
       added = leaves.added;
       codes = All-append HasGravest so_far.ran ran so_far.gravest leaves.codes;
@@ -209,6 +217,12 @@ module _ {P : Type 0} (pools : Ghosts P) (held : List Hold) (today : Day) {first
       run = subst (λ (l : List Step). IsRun pools.tells (shown pools first.pool) (shown pools after.pool) (after.end ≢ ends.Pool) l after.pending) steps_all
           (run_then so_far.run (tt {0}) leaves.run);
       quiet = λ listed. leaves.quiet (all_back IsListing so_far.ran ran listed.0, listed.1) ∙ so_far.quiet (all_front IsListing so_far.ran ran listed.0);
+      cut = leaves.cut;
+      handed = record {
+        found = hand_join so_far.ran ran files_first (seen_files seen now.outs.items ins_now) leaves.cut.before so_far.handed leaves.handed.found;
+        left = leaves.handed.left;
+        same = leaves.handed.same;
+      };
       means = units_all;
     }
 
@@ -240,9 +254,11 @@ module _ {P : Type 0} (pools : Ghosts P) (held : List Hold) (today : Day) {first
       ]
     ]
 
-    pub ends_stopped : {taken_new : Option (List ℕ)} {faults_new : ℕ} (left_behind : Left P) → EndsOne pools now statement held today taken_now taken_new faults_now faults_new (Err left_behind)
-        → EndsScript pools first plan held today (record { before = taken_first; after = taken_new; faults_before = faults_first; faults_after = faults_new }) (after_of left_behind)
-    ends_stopped {taken_new} {faults_new} left_behind stop = record {
+    pub ends_stopped : {ins_new : List InSeen} {taken_new : Option (List ℕ)} {faults_new : ℕ} (left_behind : Left P B Own)
+        → EndsOne pools seen ins_now ins_new now statement held today taken_now taken_new faults_now faults_new (Err left_behind)
+        → EndsScript pools first plan held today (record { before = files_first; after = seen_files seen left_behind.outs.items ins_new })
+        (record { before = taken_first; after = taken_new; faults_before = faults_first; faults_after = faults_new }) (after_of left_behind)
+    ends_stopped {ins_new} {taken_new} {faults_new} left_behind stop = record {
       ran = so_far.ran ++ stop.0;
       under = stop.1;
       wanted = stop.2;
@@ -259,7 +275,10 @@ module _ {P : Type 0} (pools : Ghosts P) (held : List Hold) (today : Day) {first
     abbrev now_out : SinkSeen
     now_out = record { before = taken_now; after = taken_new; faults_before = faults_now; faults_after = faults_new }
 
-    whole_run : LeavesAfter pools now.session held today now.steps.items now_out [] None (ends.Whole code)
+    abbrev now_files : Files
+    now_files = seen_files seen now.outs.items ins_now
+
+    whole_run : LeavesAfter pools now.session held today now.steps.items (record { before = now_files; after = now_files }) now_out [] None (ends.Whole code)
         (record { pool = now.session.pool; steps = now.steps.items; pending = None; end = result })
     whole_run = record {
       added = [];
@@ -294,14 +313,20 @@ module _ {P : Type 0} (pools : Ghosts P) (held : List Hold) (today : Day) {first
         | inr sink ↦ sink_no_pool sink.0
       ]);
       quiet = λ listed. refl;
+      cut = record { before = now_files; after = now_files };
+      handed = record { found = refl; left = refl; same = refl };
       means = λ told units settled. (units, refl, (refl, refl));
     }
 
-    pub ends_whole : (left_behind : Left P) → left_behind.pool ≡ now.session.pool → left_behind.steps.items ≡ now.steps.items → left_behind.pending ≡ None
+    pub ends_whole : (left_behind : Left P B Own) → left_behind.pool ≡ now.session.pool → left_behind.outs.items ≡ now.outs.items → left_behind.steps.items ≡ now.steps.items → left_behind.pending ≡ None
         → left_behind.end ≡ result
-        → EndsScript pools first plan held today (record { before = taken_first; after = taken_new; faults_before = faults_first; faults_after = faults_new }) (after_of left_behind)
-    ends_whole left_behind pool steps pending end =
-        subst (λ (a : After P). EndsScript pools first plan held today (record { before = taken_first; after = taken_new; faults_before = faults_first; faults_after = faults_new }) a)
+        → EndsScript pools first plan held today (record { before = files_first; after = seen_files seen left_behind.outs.items ins_now })
+        (record { before = taken_first; after = taken_new; faults_before = faults_first; faults_after = faults_new }) (after_of left_behind)
+    ends_whole left_behind pool outs steps pending end =
+        subst (λ (f : Files). EndsScript pools first plan held today (record { before = files_first; after = f })
+        (record { before = taken_first; after = taken_new; faults_before = faults_first; faults_after = faults_new }) (after_of left_behind)) (λ i. seen_files seen (sym outs i) ins_now)
+        (subst (λ (a : After P). EndsScript pools first plan held today (record { before = files_first; after = now_files })
+        (record { before = taken_first; after = taken_new; faults_before = faults_first; faults_after = faults_new }) a)
         (after_parts left_behind pool steps pending end) (record {
           ran = so_far.ran ++ [];
           under = None;
@@ -311,4 +336,4 @@ module _ {P : Type 0} (pools : Ghosts P) (held : List Hold) (today : Day) {first
             (then', (left, codes, subst (λ (r : List Ran). Leaves plan zero_codes (answers_of r) left codes) (sym (append-nil so_far.ran)) so_far.leaves, end_is), code_is),
           );
           leaves = leaves_all whole_run;
-        })
+        }))

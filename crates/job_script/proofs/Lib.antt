@@ -4,4 +4,5 @@ pub mod Plans
 pub mod Printing
 pub mod Rans
 pub mod Stacks
+pub mod Calls
 pub mod Earlier

@@ -7,6 +7,8 @@ use Rattle.by_rules.specs.declared.day.Day.{Day}
 use Rattle.dasd_pool.specs.Count.{Rose}
 use Rattle.dasd_pool.specs.Stream.{Appends, AppendsSome}
 use Rattle.dasd_pool.specs.declared.pool.Pool.{Ghosts}
+use Rattle.dump_fmt.specs.declared.outs.OutDd.{OutDd}
+use Rattle.dump_fmt.specs.Outs.{OutSeen, InSeen, FilesSeen}
 use Rattle.enq_table.specs.declared.hold.Hold.{Hold}
 use Rattle.move_core.specs.declared.steps.Step.{Step}
 use Rattle.move_core.specs.Facts.{shown}
@@ -26,7 +28,7 @@ use Rattle.job_ops.specs.Setting.{facts_of, setting_of}
 use Rattle.job_script.specs.declared.left.Left.{Left}
 use Rattle.job_script.specs.declared.run.Between.{Between}
 use Rattle.job_script.specs.Ends.{After, after_of, SinkSeen, Prints, LeavesAfter}
-use Rattle.job_script.specs.One.{EndsReport, EndsOne}
+use Rattle.job_script.specs.One.{EndsReport, EndsOne, KeepsOuts, seen_files}
 use Rattle.job_script.proofs.Earlier.{took_none}
 use Rattle.job_script.specs.Runs.{Ran, HasGravest, IsListing, steps_of, started_line, lines_in, lines_of, printed_text, RunOn}
 
@@ -68,41 +70,49 @@ whole_no_sink {end} {code} is other = absurd (omega (arith, ap (λ (e : RunEnd).
 
 -- ---- what is left, by its parts
 
-pub after_parts : {P : Type 0} (left : Left P) {pool : P} {steps : List Step} {pending : Option Step} {end : RunEnd} → left.pool ≡ pool → left.steps.items ≡ steps
+pub after_parts : {P B : Type 0} {Own : B → Type 0} (left : Left P B Own) {pool : P} {steps : List Step} {pending : Option Step} {end : RunEnd} → left.pool ≡ pool → left.steps.items ≡ steps
     → left.pending ≡ pending → left.end ≡ end → record { pool = pool; steps = steps; pending = pending; end = end } ≡ after_of left
-after_parts {P} left {pool} {steps} {pending} {end} p s q e = λ i. record { pool = sym p i; steps = sym s i; pending = sym q i; end = sym e i }
+after_parts left p s q e = λ i. record { pool = sym p i; steps = sym s i; pending = sym q i; end = sym e i }
 
 -- ---- units
 
 -- a whole statement, by itself
-pub means_one : {P : Type 0} (pools : Ghosts P) (session next : SessionView P) {held : List Hold} {today : Day} (one : Ran)
+pub means_one : {P : Type 0} (pools : Ghosts P) (session next : SessionView P) {held : List Hold} {today : Day} (one : Ran) (cut : FilesSeen)
     → IsRun pools.tells (shown pools session.pool) (shown pools next.pool) (Unit {0}) one.steps None
-    → ForUnits pools session (λ units. MeansStatement (setting_of pools session held today) one.statement.command units one.steps one.report)
-    → ForUnits pools session (RunOn (setting_of pools session held today) (one ∷ []) None [] None)
-means_one {P} pools session next {held} {today} one run means told units settled =
+    → ForUnits pools session (λ units. MeansStatement (setting_of pools session held today) one.statement.command one.files units one.steps one.report)
+    → ForUnits pools session (RunOn (setting_of pools session held today) (one ∷ []) None cut [] None)
+means_one {P} pools session next {held} {today} one cut run means told units settled =
     let kept = (run.keeps told (facts_of pools session) refl units settled).settled (tt {0}) in
     (kept.units, (means told units settled, (kept.units, kept.reached, refl)), (refl, refl))
 
-module _ {P : Type 0} (pools : Ghosts P) (before : Between P) (statement : Statement) (held : List Hold) (today : Day) (taken_before taken_after : Option (List ℕ))
-    (faults_before faults_after : ℕ) where
+module _ {P B : Type 0} {Own : B → Type 0} (pools : Ghosts P) (seen : OutDd B Own → OutSeen) (ins_before ins_after : List InSeen) (before : Between P B Own) (statement : Statement)
+    (held : List Hold) (today : Day) (taken_before taken_after : Option (List ℕ)) (faults_before faults_after : ℕ) where
   abbrev out : SinkSeen
   out = record { before = taken_before; after = taken_after; faults_before = faults_before; faults_after = faults_after }
 
-  abbrev Ends : Result (Between P) (Left P) → Type 0
-  Ends result = EndsOne pools before statement held today taken_before taken_after faults_before faults_after result
+  -- the outputs and inputs as the statement finds them, and as these outputs leave them
+  abbrev pub files_with : List (OutDd B Own) → FilesSeen
+  files_with outs = record { before = seen_files seen before.outs.items ins_before; after = seen_files seen outs ins_after }
 
-  abbrev Leaves : List Ran → Option Statement → RunEnd → After P → Type 0
-  Leaves ran under wanted left = LeavesAfter pools before.session held today before.steps.items out ran under wanted left
+  abbrev Ends : Result (Between P B Own) (Left P B Own) → Type 0
+  Ends result = EndsOne pools seen ins_before ins_after before statement held today taken_before taken_after faults_before faults_after result
+
+  abbrev Leaves : List (OutDd B Own) → List Ran → Option Statement → RunEnd → After P → Type 0
+  Leaves outs ran under wanted left = LeavesAfter pools before.session held today before.steps.items (files_with outs) out ran under wanted left
+
+  -- the same of outputs under another name
+  same_after : {outs others : List (OutDd B Own)} → outs ≡ others → seen_files seen outs ins_after ≡ seen_files seen others ins_after
+  same_after same = λ i. seen_files seen (same i) ins_after
 
   -- there was no memory to begin
-  pub not_begun : (left : Left P) → left.pool ≡ before.session.pool → left.steps.items ≡ before.steps.items → left.pending ≡ None → left.end ≡ ends.Memory
-      → taken_after ≡ taken_before → faults_after ≡ faults_before → Ends (Err left)
-  not_begun left pool steps pending end taken faults = (
+  pub not_begun : (left : Left P B Own) → left.pool ≡ before.session.pool → left.outs.items ≡ before.outs.items → ins_after ≡ ins_before → left.steps.items ≡ before.steps.items
+      → left.pending ≡ None → left.end ≡ ends.Memory → taken_after ≡ taken_before → faults_after ≡ faults_before → Ends (Err left)
+  not_begun left pool outs ins steps pending end taken faults = (
     [],
     None,
     ends.Memory,
     inr (inr (refl, refl, refl)),
-    subst (λ (a : After P). Leaves [] None ends.Memory a) (after_parts left pool steps pending end) (record {
+    subst (λ (a : After P). Leaves left.outs.items [] None ends.Memory a) (after_parts left pool steps pending end) (record {
       added = [];
       codes = All-nil HasGravest;
       steps_are = sym (append-nil before.steps.items);
@@ -117,6 +127,8 @@ module _ {P : Type 0} (pools : Ghosts P) (before : Between P) (statement : State
       earlier = ([], nothing);
       run = run_idle (memory_no_pool refl);
       quiet = λ listed. refl;
+      cut = files_with left.outs.items;
+      handed = record { found = refl; left = refl; same = λ i. seen_files seen (outs i) (ins i) };
       means = λ told units settled. (units, refl, (refl, refl));
     }),
   )
@@ -126,12 +138,12 @@ module _ {P : Type 0} (pools : Ghosts P) (before : Between P) (statement : State
 
   -- ---- it ended, and its lines were written or not
 
-  module _ (session : SessionView P) (said : Report) (steps added : List Step) (steps_are : steps ≡ before.steps.items ++ added) (facts : KeepsFacts pools before.session session)
+  module _ (session : SessionView P) (outs : List (OutDd B Own)) (said : Report) (steps added : List Step) (steps_are : steps ≡ before.steps.items ++ added) (facts : KeepsFacts pools before.session session)
       (run : IsRun pools.tells (shown pools before.session.pool) (shown pools session.pool) (Unit {0}) added None)
-      (means : ForUnits pools before.session (λ units. MeansStatement (setting_of pools before.session held today) statement.command units added said))
+      (means : ForUnits pools before.session (λ units. MeansStatement (setting_of pools before.session held today) statement.command (files_with outs) units added said))
       (gravest : said.code ≡ greatest_code said.messages) (quiet : OnlyReads statement.command → session.pool ≡ before.session.pool) where
     abbrev one : Ran
-    one = record { statement = statement; steps = added; report = said }
+    one = record { statement = statement; steps = added; report = said; files = files_with outs }
 
     text_is : (wanted : RunEnd) → last_line wanted ≡ [] → lines_in statement.number said.messages ≡ printed_text (one ∷ []) None wanted
     text_is wanted none =
@@ -146,9 +158,9 @@ module _ {P : Type 0} (pools : Ghosts P) (before : Between P) (statement : State
         (sym (append-nil (steps_of (one ∷ [])) ∙ append-nil added))
         (run_less (λ p. tt {0}) (λ not. absurd (not apart)) run)
 
-    stopped_in : (end : RunEnd) → end ≢ ends.Pool → last_line end ≡ [] → Prints out end (lines_in statement.number said.messages) → Leaves (one ∷ []) None end
-        (record { pool = session.pool; steps = steps; pending = None; end = end })
-    stopped_in end apart none prints = record {
+    stopped_in : (left : List (OutDd B Own)) (end : RunEnd) → left ≡ outs → end ≢ ends.Pool → last_line end ≡ [] → Prints out end (lines_in statement.number said.messages)
+        → Leaves left (one ∷ []) None end (record { pool = session.pool; steps = steps; pending = None; end = end })
+    stopped_in left end same apart none prints = record {
       added = [];
       codes = All-cons HasGravest one [] gravest (All-nil HasGravest);
       steps_are = steps_all;
@@ -157,20 +169,22 @@ module _ {P : Type 0} (pools : Ghosts P) (before : Between P) (statement : State
       earlier = took_none out (lines_in statement.number said.messages) prints.some;
       run = ended_all end apart;
       quiet = λ listed. quiet (All-head IsListing one [] listed.0);
-      means = means_one pools before.session session one run means;
+      cut = record { before = seen_files seen outs ins_after; after = seen_files seen outs ins_after };
+      handed = record { found = (refl, refl); left = same_after (sym same); same = refl };
+      means = means_one pools before.session session one (record { before = seen_files seen outs ins_after; after = seen_files seen outs ins_after }) run means;
     }
 
-    by_stop : (left : Left P) → left.pool ≡ session.pool → left.steps.items ≡ steps → left.pending ≡ None
+    by_stop : (left : Left P B Own) → left.outs.items ≡ outs → left.pool ≡ session.pool → left.steps.items ≡ steps → left.pending ≡ None
         → AppendsSome taken_before taken_after (lines_in statement.number said.messages) → faults_before ≤ faults_after
         → ((left.end ≡ ends.Sink) × Rose faults_before faults_after) ⊎ (left.end ≡ ends.Memory) → Ends (Err left)
-    by_stop left pool at pending some later why = elim why [
+    by_stop left same pool at pending some later why = elim why [
       | inl sink ↦ (
         one ∷ [],
         None,
         ends.Sink,
         inl ((one, refl, refl), refl, inl refl),
-        subst (λ (a : After P). Leaves (one ∷ []) None ends.Sink a) (after_parts left pool at pending sink.0)
-            (stopped_in ends.Sink (sink_no_pool refl) refl (record {
+        subst (λ (a : After P). Leaves left.outs.items (one ∷ []) None ends.Sink a) (after_parts left pool at pending sink.0)
+            (stopped_in left.outs.items ends.Sink same (sink_no_pool refl) refl (record {
               some = some;
               all = inr (inl sink.1);
               whole = λ code is. absurd (sink_no_whole refl is);
@@ -183,8 +197,8 @@ module _ {P : Type 0} (pools : Ghosts P) (before : Between P) (statement : State
         None,
         ends.Memory,
         inl ((one, refl, refl), refl, inr refl),
-        subst (λ (a : After P). Leaves (one ∷ []) None ends.Memory a) (after_parts left pool at pending memory)
-            (stopped_in ends.Memory (memory_no_pool refl) refl (record {
+        subst (λ (a : After P). Leaves left.outs.items (one ∷ []) None ends.Memory a) (after_parts left pool at pending memory)
+            (stopped_in left.outs.items ends.Memory same (memory_no_pool refl) refl (record {
               some = some;
               all = inr (inr refl);
               whole = λ code is. absurd (memory_no_whole refl is);
@@ -194,7 +208,7 @@ module _ {P : Type 0} (pools : Ghosts P) (before : Between P) (statement : State
       )
     ]
 
-    pub reported : (result : Result (Between P) (Left P)) → EndsReport taken_before taken_after faults_before faults_after statement said session steps result → Ends result
+    pub reported : (result : Result (Between P B Own) (Left P B Own)) → EndsReport taken_before taken_after faults_before faults_after statement said session outs steps result → Ends result
     reported (Ok next) told = record {
       added = added;
       said = said;
@@ -206,28 +220,36 @@ module _ {P : Type 0} (pools : Ghosts P) (before : Between P) (statement : State
       facts = subst (λ (s : SessionView P). KeepsFacts pools before.session s) (sym told.0) facts;
       run = subst (λ (s : SessionView P). IsRun pools.tells (shown pools before.session.pool) (shown pools s.pool) (Unit {0}) added None) (sym told.0) run;
       quiet = λ reads. ap (λ (s : SessionView P). s.pool) told.0 ∙ quiet reads;
+      files = files_with outs;
+      found = refl;
+      left = same_after told.5;
       means = means;
     }
-    reported (Err left) told = by_stop left told.0 told.1 told.2 told.3 told.4 told.5
+    reported (Err left) told = by_stop left told.6 told.0 told.1 told.2 told.3 told.4 told.5
+
+    pub reported_outs : (result : Result (Between P B Own) (Left P B Own)) → outs ≡ before.outs.items
+        → EndsReport taken_before taken_after faults_before faults_after statement said session outs steps result → KeepsOuts before.outs.items result
+    reported_outs (Ok next) same told = told.5 ∙ same
+    reported_outs (Err left) same told = told.6 ∙ same
 
   -- ---- it was cut
 
-  module _ (added : List Step) (pending : Option Step)
-      (means : ForUnits pools before.session (λ units. IsCutCommand (setting_of pools before.session held today) statement.command units added pending)) where
-    cut_on : ForUnits pools before.session (RunOn (setting_of pools before.session held today) [] (Some statement) added pending)
+  module _ (outs : List (OutDd B Own)) (added : List Step) (pending : Option Step)
+      (means : ForUnits pools before.session (λ units. IsCutCommand (setting_of pools before.session held today) statement.command (files_with outs) units added pending)) where
+    cut_on : ForUnits pools before.session (RunOn (setting_of pools before.session held today) [] (Some statement) (files_with outs) added pending)
     cut_on told units settled = (units, refl, means told units settled)
 
     -- by a pool that failed
-    pub halted_in : (left : Left P) (pool : P) (started : List ℕ) → started ≡ started_line (Some statement) → left.pool ≡ pool → left.steps.items ≡ before.steps.items ++ added
+    pub halted_in : (left : Left P B Own) (pool : P) (started : List ℕ) → left.outs.items ≡ outs → started ≡ started_line (Some statement) → left.pool ≡ pool → left.steps.items ≡ before.steps.items ++ added
         → left.pending ≡ pending → left.end ≡ ends.Pool → IsRun pools.tells (shown pools before.session.pool) (shown pools pool) ⊥ added pending
         → Tells taken_before taken_after faults_before faults_after (started ++ last_line ends.Pool) → faults_before ≤ faults_after
         → (OnlyReads statement.command → ⊥) → Ends (Err left)
-    halted_in left pool started line at steps under end run tells later changes = (
+    halted_in left pool started same line at steps under end run tells later changes = (
       [],
       Some statement,
       ends.Pool,
       inr (inl (refl, refl, inl refl)),
-      subst (λ (a : After P). Leaves [] (Some statement) ends.Pool a) (after_parts left at steps under end) (record {
+      subst (λ (a : After P). Leaves left.outs.items [] (Some statement) ends.Pool a) (after_parts left at steps under end) (record {
         added = added;
         codes = All-nil HasGravest;
         steps_are = refl;
@@ -245,22 +267,24 @@ module _ {P : Type 0} (pools : Ghosts P) (before : Between P) (statement : State
         earlier = took_none out (started ++ last_line ends.Pool) tells.some;
         run = run_less (λ apart. apart refl) (λ apart. run.cause (λ never. never)) run;
         quiet = λ listed. absurd (changes listed.1);
+        cut = files_with outs;
+        handed = record { found = refl; left = same_after (sym same); same = tt };
         means = cut_on;
       }),
     )
 
   -- by want of memory
-  pub short_in : (left : Left P) (session : SessionView P) (added : List Step) (started : List ℕ) → started ≡ started_line (Some statement) → left.pool ≡ session.pool
+  pub short_in : (left : Left P B Own) (outs : List (OutDd B Own)) (session : SessionView P) (added : List Step) (started : List ℕ) → left.outs.items ≡ outs → started ≡ started_line (Some statement) → left.pool ≡ session.pool
       → left.steps.items ≡ before.steps.items ++ added → left.pending ≡ None → left.end ≡ ends.Memory
       → IsRun pools.tells (shown pools before.session.pool) (shown pools session.pool) (Unit {0}) added None
-      → ForUnits pools before.session (λ units. IsCutCommand (setting_of pools before.session held today) statement.command units added None)
+      → ForUnits pools before.session (λ units. IsCutCommand (setting_of pools before.session held today) statement.command (files_with outs) units added None)
       → AppendsSome taken_before taken_after started → faults_before ≤ faults_after → (OnlyReads statement.command → session.pool ≡ before.session.pool) → Ends (Err left)
-  short_in left session added started line at steps under end run means some later quiet = (
+  short_in left outs session added started same line at steps under end run means some later quiet = (
     [],
     Some statement,
     ends.Memory,
     inr (inl (refl, refl, inr refl)),
-    subst (λ (a : After P). Leaves [] (Some statement) ends.Memory a) (after_parts left at steps under end) (record {
+    subst (λ (a : After P). Leaves left.outs.items [] (Some statement) ends.Memory a) (after_parts left at steps under end) (record {
       added = added;
       codes = All-nil HasGravest;
       steps_are = refl;
@@ -275,6 +299,8 @@ module _ {P : Type 0} (pools : Ghosts P) (before : Between P) (statement : State
       earlier = took_none out started some;
       run = run_less (λ apart. tt {0}) (λ not. absurd (not (memory_no_pool refl))) run;
       quiet = λ listed. quiet listed.1;
-      means = cut_on added None means;
+      cut = files_with outs;
+      handed = record { found = refl; left = same_after (sym same); same = tt };
+      means = cut_on outs added None means;
     }),
   )

@@ -6,7 +6,8 @@ use Rattle.volume_model.specs.Unit.{UnitModel}
 use Rattle.sysin_lang.specs.declared.command.Statement.{Statement}
 use Rattle.sysin_lang.specs.Flow.{Codes, Plan, Command, next_of, answered, Leaves}
 use Rattle.job_ops.specs.Setting.{Setting}
-use Rattle.job_script.specs.Runs.{Ran, steps_of, lines_of, lines_in, answers_of, Follow}
+use Rattle.dump_fmt.specs.Outs.{Files}
+use Rattle.job_script.specs.Runs.{Ran, steps_of, lines_of, lines_in, answers_of, Follow, HandOn}
 
 pub steps_join : (ran more : List Ran) → steps_of (ran ++ more) ≡ steps_of ran ++ steps_of more
 steps_join ran more = flat_map-append (λ (one : Ran). one.steps) ran more
@@ -25,6 +26,10 @@ pub follow_join : (setting : Setting) (ran more : List Ran) (units between after
 follow_join setting [] more units between after first second = subst (λ (u : List UnitModel). Follow setting more u after) first second
 follow_join setting (one ∷ ran) more units between after first second =
     (first.0, (first.1.0, first.1.1, follow_join setting ran more first.1.0 between after first.1.2 second))
+
+pub hand_join : (ran more : List Ran) (first between last : Files) → HandOn first ran between → HandOn between more last → HandOn first (ran ++ more) last
+hand_join [] more first between last same second = subst (λ (f : Files). HandOn f more last) same second
+hand_join (one ∷ ran) more first between last handed second = (handed.0, hand_join ran more one.files.after between last handed.1 second)
 
 pub leaves_join : (plan : Plan) (codes : Codes) (ran more : List (Statement × ℕ)) (between : Plan) (then' : Codes) (left : Plan) (after : Codes) → Leaves plan codes ran between then'
     → Leaves between then' more left after → Leaves plan codes (ran ++ more) left after

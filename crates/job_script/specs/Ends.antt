@@ -12,11 +12,12 @@ use Rattle.sysin_lang.specs.declared.command.Statement.{Statement}
 use Rattle.sysin_lang.specs.Flow.{Plan}
 use Rattle.job_ops.specs.unit_session.Sessions.{SessionView}
 use Rattle.job_ops.specs.Ends.{ForUnits}
+use Rattle.dump_fmt.specs.Outs.{FilesSeen}
 use Rattle.job_ops.specs.Setting.{setting_of}
 use Rattle.run_lines.specs.declared.ending.RunEnd.{RunEnd}
 use Rattle.run_lines.specs.declared.ending.RunEnd.TheVariants as ends
 use Rattle.job_script.specs.declared.left.Left.{Left}
-use Rattle.job_script.specs.Runs.{Ran, HasGravest, OnlyListed, steps_of, lines_of, RunOn, HasRun, printed_text}
+use Rattle.job_script.specs.Runs.{Ran, HandsOn, HasGravest, OnlyListed, steps_of, lines_of, RunOn, HasRun, printed_text}
 
 -- what a run leaves
 pub record After (P : Type 0) : Type 0 where
@@ -25,7 +26,7 @@ pub record After (P : Type 0) : Type 0 where
   pub pending : Option Step
   pub end : RunEnd
 
-abbrev pub after_of : {P : Type 0} → Left P → After P
+abbrev pub after_of : {P B : Type 0} {Own : B → Type 0} → Left P B Own → After P
 after_of left = record { pool = left.pool; steps = left.steps.items; pending = left.pending; end = left.end }
 
 -- what a sink took, where it tells, and its count of faults, before and after
@@ -58,7 +59,7 @@ ended_before ran None = take (length ran - 1) ran
 
 -- What a run leaves that began on a session, after statements that ended and one that was cut, if one was: none of them began before the lines of all before it were
 -- taken. The steps of the run before are given.
-pub record LeavesAfter {P : Type 0} (pools : Ghosts P) (session : SessionView P) (held : List Hold) (today : Day) (before : List Step) (out : SinkSeen)
+pub record LeavesAfter {P : Type 0} (pools : Ghosts P) (session : SessionView P) (held : List Hold) (today : Day) (before : List Step) (files : FilesSeen) (out : SinkSeen)
     (ran : List Ran) (under : Option Statement) (wanted : RunEnd) (left : After P) : Type 0 where
   pub added : List Step
   pub codes : All HasGravest ran
@@ -68,12 +69,14 @@ pub record LeavesAfter {P : Type 0} (pools : Ghosts P) (session : SessionView P)
   pub earlier : Took out (lines_of (ended_before ran under))
   pub run : IsRun pools.tells (shown pools session.pool) (shown pools left.pool) (left.end ≢ ends.Pool) (steps_of ran ++ added) left.pending
   pub quiet : OnlyListed ran under → left.pool ≡ session.pool
-  pub means : ForUnits pools session (RunOn (setting_of pools session held today) ran under added left.pending)
+  pub cut : FilesSeen
+  pub handed : HandsOn files ran under cut
+  pub means : ForUnits pools session (RunOn (setting_of pools session held today) ran under cut added left.pending)
 
 -- A run of a script: its statements are those of its plan, by their codes.
-pub record EndsScript {P : Type 0} (pools : Ghosts P) (session : SessionView P) (plan : Plan) (held : List Hold) (today : Day) (out : SinkSeen) (left : After P) : Type 0 where
+pub record EndsScript {P : Type 0} (pools : Ghosts P) (session : SessionView P) (plan : Plan) (held : List Hold) (today : Day) (files : FilesSeen) (out : SinkSeen) (left : After P) : Type 0 where
   pub ran : List Ran
   pub under : Option Statement
   pub wanted : RunEnd
   pub statements : HasRun plan ran under wanted
-  pub leaves : LeavesAfter pools session held today [] out ran under wanted left
+  pub leaves : LeavesAfter pools session held today [] files out ran under wanted left

@@ -1,9 +1,11 @@
 -- How one statement of a run ends: words that link the parts of a run.
-use Rattle.std.specs.Prelude.{◌≡◌, ◌⊎◌, ℕ, ◌≤◌, List, [], ◌∷◌, ◌++◌, Option, Some, None, Result, Ok, Err}
+use Rattle.std.specs.Prelude.{◌≡◌, ◌⊎◌, ℕ, ◌≤◌, List, [], ◌∷◌, ◌++◌, map, Option, Some, None, Result, Ok, Err}
 use Rattle.by_rules.specs.declared.day.Day.{Day}
 use Rattle.dasd_pool.specs.Count.{Rose}
 use Rattle.dasd_pool.specs.Stream.{Appends, AppendsSome}
 use Rattle.dasd_pool.specs.declared.pool.Pool.{Ghosts}
+use Rattle.dump_fmt.specs.declared.outs.OutDd.{OutDd}
+use Rattle.dump_fmt.specs.Outs.{OutSeen, InSeen, Files, FilesSeen}
 use Rattle.enq_table.specs.declared.hold.Hold.{Hold}
 use Rattle.move_core.specs.declared.steps.Step.{Step}
 use Rattle.move_core.specs.Facts.{shown}
@@ -22,19 +24,24 @@ use Rattle.job_script.specs.declared.run.Between.{Between}
 use Rattle.job_script.specs.Ends.{LeavesAfter, after_of}
 use Rattle.job_script.specs.Runs.{Ran, lines_in}
 
+-- the outputs and inputs of a run, as contracts see them
+abbrev pub seen_files : {B : Type 0} {Own : B → Type 0} → (OutDd B Own → OutSeen) → List (OutDd B Own) → List InSeen → Files
+seen_files seen outs ins = record { outs = map seen outs; ins = ins }
+
 -- the lines of a statement that ended were all taken, and the run goes on; or it was stopped within them, by the sink or by want of memory
-abbrev pub EndsReport : {P : Type 0} → Option (List ℕ) → Option (List ℕ) → ℕ → ℕ → Statement → Report → SessionView P → List Step → Result (Between P) (Left P) → Type 0
-EndsReport before after faults_before faults_after statement said session steps (Ok between) =
+abbrev pub EndsReport : {P B : Type 0} {Own : B → Type 0} → Option (List ℕ) → Option (List ℕ) → ℕ → ℕ → Statement → Report → SessionView P → List (OutDd B Own) → List Step
+    → Result (Between P B Own) (Left P B Own) → Type 0
+EndsReport before after faults_before faults_after statement said session outs steps (Ok between) =
     (between.session ≡ session) × (between.steps.items ≡ steps) × (between.code ≡ said.code)
-    × Appends before after (lines_in statement.number said.messages) × (faults_before ≤ faults_after)
-EndsReport before after faults_before faults_after statement said session steps (Err left) =
+    × Appends before after (lines_in statement.number said.messages) × (faults_before ≤ faults_after) × (between.outs.items ≡ outs)
+EndsReport before after faults_before faults_after statement said session outs steps (Err left) =
     (left.pool ≡ session.pool) × (left.steps.items ≡ steps) × (left.pending ≡ None)
     × AppendsSome before after (lines_in statement.number said.messages) × (faults_before ≤ faults_after)
-    × (((left.end ≡ ends.Sink) × Rose faults_before faults_after) ⊎ (left.end ≡ ends.Memory))
+    × (((left.end ≡ ends.Sink) × Rose faults_before faults_after) ⊎ (left.end ≡ ends.Memory)) × (left.outs.items ≡ outs)
 
 -- The statement ended, with these steps and this report, and the run goes on.
-pub record GoesOn {P : Type 0} (pools : Ghosts P) (before : Between P) (statement : Statement) (held : List Hold) (today : Day) (taken_before taken_after : Option (List ℕ))
-    (faults_before faults_after : ℕ) (next : Between P) : Type 0 where
+pub record GoesOn {P B : Type 0} {Own : B → Type 0} (pools : Ghosts P) (seen : OutDd B Own → OutSeen) (ins_before ins_after : List InSeen) (before : Between P B Own) (statement : Statement)
+    (held : List Hold) (today : Day) (taken_before taken_after : Option (List ℕ)) (faults_before faults_after : ℕ) (next : Between P B Own) : Type 0 where
   pub added : List Step
   pub said : Report
   pub steps_are : next.steps.items ≡ before.steps.items ++ added
@@ -45,7 +52,10 @@ pub record GoesOn {P : Type 0} (pools : Ghosts P) (before : Between P) (statemen
   pub facts : KeepsFacts pools before.session next.session
   pub run : IsRun pools.tells (shown pools before.session.pool) (shown pools next.session.pool) (Unit {0}) added None
   pub quiet : OnlyReads statement.command → next.session.pool ≡ before.session.pool
-  pub means : ForUnits pools before.session (λ units. MeansStatement (setting_of pools before.session held today) statement.command units added said)
+  pub files : FilesSeen
+  pub found : files.before ≡ seen_files seen before.outs.items ins_before
+  pub left : seen_files seen next.outs.items ins_after ≡ files.after
+  pub means : ForUnits pools before.session (λ units. MeansStatement (setting_of pools before.session held today) statement.command files units added said)
 
 -- what a run is to be stopped by within a statement: the statement ended, or it was cut, or it didn't begin
 abbrev pub IsStoppedIn : Statement → List Ran → Option Statement → RunEnd → Type 0
@@ -55,10 +65,17 @@ IsStoppedIn statement ran under wanted =
     ⊎ ((ran ≡ []) × (under ≡ None) × (wanted ≡ ends.Memory)))
 
 -- how a statement of a run ended
-abbrev pub EndsOne : {P : Type 0} → Ghosts P → Between P → Statement → List Hold → Day → Option (List ℕ) → Option (List ℕ) → ℕ → ℕ → Result (Between P) (Left P) → Type 0
-EndsOne pools before statement held today taken_before taken_after faults_before faults_after (Ok next) =
-    GoesOn pools before statement held today taken_before taken_after faults_before faults_after next
-EndsOne pools before statement held today taken_before taken_after faults_before faults_after (Err left) =
+abbrev pub EndsOne : {P B : Type 0} {Own : B → Type 0} → Ghosts P → (OutDd B Own → OutSeen) → List InSeen → List InSeen → Between P B Own → Statement → List Hold → Day
+    → Option (List ℕ) → Option (List ℕ) → ℕ → ℕ → Result (Between P B Own) (Left P B Own) → Type 0
+EndsOne pools seen ins_before ins_after before statement held today taken_before taken_after faults_before faults_after (Ok next) =
+    GoesOn pools seen ins_before ins_after before statement held today taken_before taken_after faults_before faults_after next
+EndsOne pools seen ins_before ins_after before statement held today taken_before taken_after faults_before faults_after (Err left) =
     (ran : List Ran) × (under : Option Statement) × (wanted : RunEnd) × IsStoppedIn statement ran under wanted
     × LeavesAfter pools before.session held today before.steps.items
+    (record { before = seen_files seen before.outs.items ins_before; after = seen_files seen left.outs.items ins_after })
     (record { before = taken_before; after = taken_after; faults_before = faults_before; faults_after = faults_after }) ran under wanted (after_of left)
+
+-- the outputs of a run between two statements, or of one that was stopped, are these
+abbrev pub KeepsOuts : {P B : Type 0} {Own : B → Type 0} → List (OutDd B Own) → Result (Between P B Own) (Left P B Own) → Type 0
+KeepsOuts outs (Ok next) = next.outs.items ≡ outs
+KeepsOuts outs (Err left) = left.outs.items ≡ outs

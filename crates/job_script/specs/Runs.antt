@@ -1,7 +1,8 @@
 -- What a run of a script does to units, and what it prints.
-use Rattle.std.specs.Prelude.{◌≡◌, ℕ, List, [], ◌∷◌, ◌++◌, All, map, Option, Some, None, IfSome}
+use Rattle.std.specs.Prelude.{◌≡◌, ℕ, List, [], ◌∷◌, ◌++◌, All, map, Option, Some, None, IfSome, IfNone}
 use Rattle.std.specs.List.{flat_map}
 use Rattle.volume_model.specs.Unit.{UnitModel}
+use Rattle.dump_fmt.specs.Outs.{Files, FilesSeen}
 use Rattle.move_core.specs.declared.steps.Step.{Step}
 use Rattle.move_core.specs.Steps.{Reaches}
 use Rattle.sysin_lang.specs.declared.command.Statement.{Statement}
@@ -18,11 +19,12 @@ use Rattle.run_lines.specs.declared.ending.RunEnd.{RunEnd}
 use Rattle.run_lines.specs.declared.ending.RunEnd.TheVariants as ends
 use Rattle.run_lines.specs.Endings.{last_line}
 
--- A statement that ended: its steps, and what it said.
+-- A statement that ended: its steps, what it said, and the outputs and inputs as it found and left them.
 pub record Ran : Type 0 where
   pub statement : Statement
   pub steps : List Step
   pub report : Report
+  pub files : FilesSeen
 
 -- its code is that of its gravest message
 abbrev pub HasGravest : Ran → Type 0
@@ -45,17 +47,30 @@ steps_of ran = flat_map (λ one. one.steps) ran
 abbrev pub Follow : Setting → List Ran → List UnitModel → List UnitModel → Type 0
 Follow setting [] units after = after ≡ units
 Follow setting (one ∷ more) units after =
-    MeansStatement setting one.statement.command units one.steps one.report
+    MeansStatement setting one.statement.command one.files units one.steps one.report
     × ((between : List UnitModel) × Reaches setting.facts units one.steps between × Follow setting more between after)
 
 -- the statement that was cut, if one was, had done these steps, and another may be under way
-abbrev pub IsUnderWay : Setting → Option Statement → List UnitModel → List Step → Option Step → Type 0
-IsUnderWay setting None units added pending = (added ≡ []) × (pending ≡ None)
-IsUnderWay setting (Some statement) units added pending = IsCutCommand setting statement.command units added pending
+abbrev pub IsUnderWay : Setting → Option Statement → FilesSeen → List UnitModel → List Step → Option Step → Type 0
+IsUnderWay setting None files units added pending = (added ≡ []) × (pending ≡ None)
+IsUnderWay setting (Some statement) files units added pending = IsCutCommand setting statement.command files units added pending
 
 -- on units: these statements ran, and then one was cut, if one was
-abbrev pub RunOn : Setting → List Ran → Option Statement → List Step → Option Step → List UnitModel → Type 0
-RunOn setting ran under added pending units = (after : List UnitModel) × Follow setting ran units after × IsUnderWay setting under after added pending
+abbrev pub RunOn : Setting → List Ran → Option Statement → FilesSeen → List Step → Option Step → List UnitModel → Type 0
+RunOn setting ran under files added pending units = (after : List UnitModel) × Follow setting ran units after × IsUnderWay setting under files after added pending
+
+-- ---- what became of outputs and inputs
+
+-- each statement finds them as the one before it left them
+abbrev pub HandOn : Files → List Ran → Files → Type 0
+HandOn first [] last = last ≡ first
+HandOn first (one ∷ more) last = (one.files.before ≡ first) × HandOn one.files.after more last
+
+-- So does the one that was cut, if one was, and the run leaves them as it left them.
+pub record HandsOn (run : FilesSeen) (ran : List Ran) (under : Option Statement) (cut : FilesSeen) : Type 0 where
+  pub found : HandOn run.before ran cut.before
+  pub left : cut.after ≡ run.after
+  pub same : IfNone under (cut.after ≡ cut.before)
 
 -- ---- which statements ran
 

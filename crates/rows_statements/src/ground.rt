@@ -131,6 +131,7 @@ fn left_by(alloc: Global, outcome: Outcome<MemoryPool>) -> Result<Left, RowsFaul
     Ok(match outcome {
         Outcome::Done {
             session,
+            outs: _outs,
             report,
             steps,
         } => Left {
@@ -141,6 +142,7 @@ fn left_by(alloc: Global, outcome: Outcome<MemoryPool>) -> Result<Left, RowsFaul
         },
         Outcome::Halted {
             broken,
+            outs: _outs,
             report,
             steps,
         } => Left {
@@ -151,6 +153,7 @@ fn left_by(alloc: Global, outcome: Outcome<MemoryPool>) -> Result<Left, RowsFaul
         },
         Outcome::Short {
             session,
+            outs: _outs,
             report,
             steps,
         } => Left {
@@ -188,9 +191,16 @@ pub fn run_row(alloc: Global, row: &Row) -> Result<Left, RowsFault> {
         command: command_of(alloc, row)?,
     };
     let today = Day { year: 2024, day: 1 };
-    let steps = Vec::new(alloc);
-    left_by(
+    let mut ins = Vec::new(alloc);
+    let ended = run_statement(
         alloc,
-        run_statement(alloc, session, &statement, &held, today, steps),
-    )
+        session,
+        &statement,
+        &held,
+        Vec::new(alloc),
+        &mut ins,
+        today,
+        Vec::new(alloc),
+    );
+    left_by(alloc, ended)
 }

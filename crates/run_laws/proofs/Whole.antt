@@ -177,7 +177,7 @@ module _ {P : Type 0} (pools : Ghosts P) (given : Given) (pool : P) (left : Afte
     by_wanted plan ran under taken (ends.Wrong input line column) is has = absurd has
     by_wanted plan ran under taken ends.NotBuilt is has = absurd has
 
-    ran : RunsText pools given.out pool (serials_of ready.volumes) ready.table given.today ready.plan left → Ended
+    ran : RunsText pools given.files given.out pool (serials_of ready.volumes) ready.table given.today ready.plan left → Ended
     ran text =
         let taken : left.end ≢ ends.Sink = λ is. none.out (text.printed.sink is) in
         elim text.end_is [

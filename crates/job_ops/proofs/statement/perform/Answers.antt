@@ -4,7 +4,7 @@ use Rattle.sysin_lang.specs.declared.command.Command.{Command}
 use Rattle.move_core.proofs.Running.{run_idle}
 use Rattle.job_steps.specs.declared.cut.Cut.TheVariants as cuts
 use Rattle.job_ops.specs.Ends.{Ends, OnlyReads}
-use Rattle.job_ops.specs.Meaning.{Means, IsCutCommand}
+use Rattle.job_ops.specs.Meaning.{MeansOnVolumes, IsCutOnVolumes}
 use Rattle.job_ops.specs.Setting.{setting_of}
 use Rattle.job_ops.proofs.statement.perform.Goals as goal
 
@@ -12,7 +12,7 @@ pub returns-in-Ok-clause-ends : goal.returns-in-Ok-clause-ends
 returns-in-Ok-clause-ends g c =
     let setting = setting_of g.P.Pool c.args.session c.args.held.now c.args.today in
     let told = c.in-Ok.ensures.listed in
-    subst (λ (command : Command). Ends g.P.Pool (Means setting command) (IsCutCommand setting command) c.args.session c.args.log.now.steps.items c.args.log.now.steps.items
+    subst (λ (command : Command). Ends g.P.Pool (MeansOnVolumes setting command) (IsCutOnVolumes setting command) c.args.session c.args.log.now.steps.items c.args.log.now.steps.items
     c.args.log.now.messages.items c.print.new.messages.items (Ok c.args.session)) (sym c.in-PrintVtoc.is) (record {
       added = [];
       said = told.0;
@@ -28,7 +28,7 @@ pub returns-in-Err-clause-ends : goal.returns-in-Err-clause-ends
 returns-in-Err-clause-ends g c =
     let setting = setting_of g.P.Pool c.args.session c.args.held.now c.args.today in
     let told = c.in-Err.ensures.grows in
-    subst (λ (command : Command). Ends g.P.Pool (Means setting command) (IsCutCommand setting command) c.args.session c.args.log.now.steps.items c.args.log.now.steps.items
+    subst (λ (command : Command). Ends g.P.Pool (MeansOnVolumes setting command) (IsCutOnVolumes setting command) c.args.session c.args.log.now.steps.items c.args.log.now.steps.items
     c.args.log.now.messages.items c.print.new.messages.items (Err (cuts.Short c.args.session))) (sym c.in-PrintVtoc.is) (record {
       added = [];
       said = told.0;
@@ -46,7 +46,7 @@ returns-in-Release-clause-reads g c = λ reads. absurd (subst OnlyReads c.in-Rel
 pub returns-in-Release-clause-ends : goal.returns-in-Release-clause-ends
 returns-in-Release-clause-ends g c =
     let setting = setting_of g.P.Pool c.args.session c.args.held.now c.args.today in
-    subst (λ (command : Command). Ends g.P.Pool (Means setting command) (IsCutCommand setting command) c.args.session c.args.log.now.steps.items c.go_through.new.log.steps.items
+    subst (λ (command : Command). Ends g.P.Pool (MeansOnVolumes setting command) (IsCutOnVolumes setting command) c.args.session c.args.log.now.steps.items c.go_through.new.log.steps.items
     c.args.log.now.messages.items c.go_through.new.log.messages.items c.go_through.result) (sym c.in-Release.is) c.go_through.ensures
 
 pub returns-in-Consolidate-clause-reads : goal.returns-in-Consolidate-clause-reads
@@ -55,11 +55,11 @@ returns-in-Consolidate-clause-reads g c = λ reads. absurd (subst OnlyReads c.in
 pub returns-in-Consolidate-clause-ends : goal.returns-in-Consolidate-clause-ends
 returns-in-Consolidate-clause-ends g c =
     let setting = setting_of g.P.Pool c.args.session c.args.held.now c.args.today in
-    subst (λ (command : Command). Ends g.P.Pool (Means setting command) (IsCutCommand setting command) c.args.session c.args.log.now.steps.items c.go_through-in-Consolidate.new.log.steps.items
+    subst (λ (command : Command). Ends g.P.Pool (MeansOnVolumes setting command) (IsCutOnVolumes setting command) c.args.session c.args.log.now.steps.items c.go_through-in-Consolidate.new.log.steps.items
     c.args.log.now.messages.items c.go_through-in-Consolidate.new.log.messages.items c.go_through-in-Consolidate.result) (sym c.in-Consolidate.is) c.go_through-in-Consolidate.ensures
 
 pub returns-in-Copy-clause-ends : goal.returns-in-Copy-clause-ends
 returns-in-Copy-clause-ends g c =
     let setting = setting_of g.P.Pool c.args.session c.args.held.now c.args.today in
-    subst (λ (command : Command). Ends g.P.Pool (Means setting command) (IsCutCommand setting command) c.args.session c.args.log.now.steps.items c.copy.new.log.steps.items
+    subst (λ (command : Command). Ends g.P.Pool (MeansOnVolumes setting command) (IsCutOnVolumes setting command) c.args.session c.args.log.now.steps.items c.copy.new.log.steps.items
     c.args.log.now.messages.items c.copy.new.log.messages.items c.copy.result) (sym c.in-Copy.is) c.copy.ensures

@@ -1,18 +1,24 @@
-use Rattle.job_ops.proofs.Endings.{ends_done, ends_cut, unchanged_done, unchanged_cut}
+use Rattle.job_ops.proofs.Endings.{ends_done, ends_cut, unchanged_done, unchanged_cut, outs_done, outs_cut}
 use Rattle.job_ops.proofs.statement.run_statement.Goals as goal
 
 pub returns-in-Ok-clause-ends : goal.returns-in-Ok-clause-ends
 returns-in-Ok-clause-ends g c =
-    ends_done g.P.Pool c.args.session c.in-Ok.session c.args.statement.now.command c.args.held.now c.args.today c.args.steps.items c.whole.new.log.steps.items
+    ends_done g.P.Pool _ _ _ c.args.outs.items c.args.session c.in-Ok.session c.args.statement.now.command c.args.held.now c.args.today c.args.steps.items c.whole.new.log.steps.items
     c.whole.new.log.messages.items c.in-Ok.ensures.ends c.done.result c.done.ensures
 
+pub returns-in-Ok-clause-outs : goal.returns-in-Ok-clause-outs
+returns-in-Ok-clause-outs g c = λ none. outs_done c.in-Ok.session c.args.outs.items _ _ c.done.result c.done.ensures
+
 pub returns-in-Ok-clause-reads : goal.returns-in-Ok-clause-reads
-returns-in-Ok-clause-reads g c = λ reads. unchanged_done c.args.session c.in-Ok.session _ _ (c.in-Ok.ensures.reads reads) c.done.result c.done.ensures
+returns-in-Ok-clause-reads g c = λ reads. unchanged_done c.args.session c.in-Ok.session c.args.outs.items _ _ (c.in-Ok.ensures.reads reads) c.done.result c.done.ensures
 
 pub returns-in-Err-clause-reads : goal.returns-in-Err-clause-reads
-returns-in-Err-clause-reads g c = λ reads. unchanged_cut c.args.session c.in-Err.cut _ _ (c.in-Err.ensures.reads reads) c.cut_short.result c.cut_short.ensures
+returns-in-Err-clause-reads g c = λ reads. unchanged_cut c.args.session c.in-Err.cut c.args.outs.items _ _ (c.in-Err.ensures.reads reads) c.cut_short.result c.cut_short.ensures
+
+pub returns-in-Err-clause-outs : goal.returns-in-Err-clause-outs
+returns-in-Err-clause-outs g c = λ none. outs_cut c.in-Err.cut c.args.outs.items _ _ c.cut_short.result c.cut_short.ensures
 
 pub returns-in-Err-clause-ends : goal.returns-in-Err-clause-ends
 returns-in-Err-clause-ends g c =
-    ends_cut g.P.Pool c.args.session c.in-Err.cut c.args.statement.now.command c.args.held.now c.args.today c.args.steps.items c.whole.new.log.steps.items
+    ends_cut g.P.Pool _ _ _ c.args.outs.items c.args.session c.in-Err.cut c.args.statement.now.command c.args.held.now c.args.today c.args.steps.items c.whole.new.log.steps.items
     c.whole.new.log.messages.items c.in-Err.ensures.ends c.in-Err.ensures.begins c.cut_short.result c.cut_short.ensures
