@@ -1,5 +1,6 @@
 use ckd_image::{Listed, NoMemory};
 use std::alloc::Global;
+use std::process::Abort;
 use std::test::*;
 use sysin_read::{Flow, Script, SysinFault, Why, read_sysin};
 
@@ -36,291 +37,260 @@ fn read(alloc: Global, text: &[u8]) -> Outcome {
     }
 }
 
+/// A text, and what becomes of it.
+type Case = (&'static [u8], Outcome);
+
+fn assert_outcomes(rt: &impl Abort, alloc: Global, cases: &[Case]) {
+    for &(text, want) in cases {
+        assert_eq!(rt; read(alloc, text), want, "{text:?}");
+    }
+}
+
+static IN_LINES: [Case; 8] = [
+    (b"", Outcome::Ran(0, 0)),
+    (b"\n\r\n  /* no more */\n", Outcome::Ran(0, 0)),
+    (b" PRINT VTOC INDDNAME(VOL001)", Outcome::Ran(1, 4)),
+    (b" print vtoc inddname(vol001)\r\n", Outcome::Ran(1, 4)),
+    (
+        b"PRINT VTOC,INDD(A)\nPRINT INDD(B)VTOC\n\nPRINT\tVTOC DDNAME(C)",
+        Outcome::Ran(123, 4),
+    ),
+    (
+        b"PRINT VTOC -\n INDD(A)\n PRINT - /* on */\n VTOC - \n INDD(B)",
+        Outcome::Ran(12, 4),
+    ),
+    (
+        b"PRINT VTOC INDD(A) -\n\nPRINT VTOC INDD(B) -",
+        Outcome::Ran(12, 4),
+    ),
+    (
+        b"PRINT/* the list */VTOC/**/INDD(A)/* of A */",
+        Outcome::Ran(1, 4),
+    ),
+];
+
 #[test]
 fn texts_are_statements_in_lines(rt: HostRuntime) {
-    let alloc = rt.alloc();
-    assert_eq!(rt; read(alloc, b""), Outcome::Ran(0, 0));
-    assert_eq!(rt; read(alloc, b"\n\r\n  /* no more */\n"), Outcome::Ran(0, 0));
-    assert_eq!(rt;
-        read(alloc, b" PRINT VTOC INDDNAME(VOL001)"),
-        Outcome::Ran(1, 4)
-    );
-    assert_eq!(rt;
-        read(alloc, b" print vtoc inddname(vol001)\r\n"),
-        Outcome::Ran(1, 4)
-    );
-    assert_eq!(rt;
-        read(
-            alloc,
-            b"PRINT VTOC,INDD(A)\nPRINT INDD(B)VTOC\n\nPRINT\tVTOC DDNAME(C)"
-        ),
-        Outcome::Ran(123, 4)
-    );
-    assert_eq!(rt;
-        read(
-            alloc,
-            b"PRINT VTOC -\n INDD(A)\n PRINT - /* on */\n VTOC - \n INDD(B)"
-        ),
-        Outcome::Ran(12, 4)
-    );
-    assert_eq!(rt;
-        read(alloc, b"PRINT VTOC INDD(A) -\n\nPRINT VTOC INDD(B) -"),
-        Outcome::Ran(12, 4)
-    );
-    assert_eq!(rt;
-        read(alloc, b"PRINT/* the list */VTOC/**/INDD(A)/* of A */"),
-        Outcome::Ran(1, 4)
-    );
+    assert_outcomes(&rt, rt.alloc(), &IN_LINES);
 }
+
+static ENDED_BY_A_LINE: [Case; 7] = [
+    (
+        b"SET MAXCC = 0 SET LASTCC = 0",
+        Outcome::Refused(1, 15, Why::Word),
+    ),
+    (
+        b"PRINT VTOC INDD(A) PRINT VTOC INDD(B)",
+        Outcome::Refused(1, 20, Why::Word),
+    ),
+    (
+        b"PRINT VTOC INDD(A) -\nPRINT VTOC INDD(B)",
+        Outcome::Refused(2, 1, Why::Word),
+    ),
+    (b"PRINT VTOC\nINDD(A)", Outcome::Refused(2, 1, Why::Missing)),
+    (b"SET MAXCC\n = 0", Outcome::Refused(2, 2, Why::Word)),
+    (
+        b"IF MAXCC = 0\nTHEN SET MAXCC = 4",
+        Outcome::Refused(2, 1, Why::Word),
+    ),
+    (
+        b"PRINT VTOC INDD(A) WAIT(\n1,1)",
+        Outcome::Refused(2, 1, Why::Word),
+    ),
+];
 
 #[test]
 fn a_line_ends_a_statement(rt: HostRuntime) {
-    let alloc = rt.alloc();
-    assert_eq!(rt;
-        read(alloc, b"SET MAXCC = 0 SET LASTCC = 0"),
-        Outcome::Refused(1, 15, Why::Word)
-    );
-    assert_eq!(rt;
-        read(alloc, b"PRINT VTOC INDD(A) PRINT VTOC INDD(B)"),
-        Outcome::Refused(1, 20, Why::Word)
-    );
-    assert_eq!(rt;
-        read(alloc, b"PRINT VTOC INDD(A) -\nPRINT VTOC INDD(B)"),
-        Outcome::Refused(2, 1, Why::Word)
-    );
-    assert_eq!(rt;
-        read(alloc, b"PRINT VTOC\nINDD(A)"),
-        Outcome::Refused(2, 1, Why::Missing)
-    );
-    assert_eq!(rt;
-        read(alloc, b"SET MAXCC\n = 0"),
-        Outcome::Refused(2, 2, Why::Word)
-    );
-    assert_eq!(rt;
-        read(alloc, b"IF MAXCC = 0\nTHEN SET MAXCC = 4"),
-        Outcome::Refused(2, 1, Why::Word)
-    );
-    assert_eq!(rt;
-        read(alloc, b"PRINT VTOC INDD(A) WAIT(\n1,1)"),
-        Outcome::Refused(2, 1, Why::Word)
-    );
+    assert_outcomes(&rt, rt.alloc(), &ENDED_BY_A_LINE);
 }
+
+static PAST_72: [Case; 2] = [
+    (
+        b" PRINT VTOC INDDNAME(VOL001)                                            SEQUENCE\n PRINT VTOC INDD(B)",
+        Outcome::Ran(12, 4),
+    ),
+    (
+        b"                                                              PRINT VTOC INDD(A)",
+        Outcome::Refused(1, 73, Why::Missing),
+    ),
+];
 
 #[test]
 fn columns_past_72_are_not_read(rt: HostRuntime) {
-    let alloc = rt.alloc();
-    let marked =
-        b" PRINT VTOC INDDNAME(VOL001)                                            SEQUENCE\n PRINT VTOC INDD(B)";
-    assert_eq!(rt; read(alloc, marked), Outcome::Ran(12, 4));
-    let cut = b"                                                              PRINT VTOC INDD(A)";
-    assert_eq!(rt; read(alloc, cut), Outcome::Refused(1, 73, Why::Missing));
+    assert_outcomes(&rt, rt.alloc(), &PAST_72);
 }
+
+static COMMENTS: [Case; 5] = [
+    (b"/* PRINT\nVTOC */", Outcome::Refused(1, 1, Why::Word)),
+    (
+        b"PRINT VTOC /*/ INDD(A)",
+        Outcome::Refused(1, 12, Why::Word),
+    ),
+    (b"PRINT VTOC\rINDD(A)", Outcome::Refused(1, 11, Why::Word)),
+    (b"-", Outcome::Refused(1, 1, Why::Word)),
+    (b"PRINT VTOC INDD(A) ;", Outcome::Refused(1, 20, Why::Word)),
+];
 
 #[test]
 fn comments_end_in_their_line(rt: HostRuntime) {
-    let alloc = rt.alloc();
-    assert_eq!(rt;
-        read(alloc, b"/* PRINT\nVTOC */"),
-        Outcome::Refused(1, 1, Why::Word)
-    );
-    assert_eq!(rt;
-        read(alloc, b"PRINT VTOC /*/ INDD(A)"),
-        Outcome::Refused(1, 12, Why::Word)
-    );
-    assert_eq!(rt;
-        read(alloc, b"PRINT VTOC\rINDD(A)"),
-        Outcome::Refused(1, 11, Why::Word)
-    );
-    assert_eq!(rt; read(alloc, b"-"), Outcome::Refused(1, 1, Why::Word));
-    assert_eq!(rt;
-        read(alloc, b"PRINT VTOC INDD(A) ;"),
-        Outcome::Refused(1, 20, Why::Word)
-    );
+    assert_outcomes(&rt, rt.alloc(), &COMMENTS);
 }
+
+static COMMAS: [Case; 5] = [
+    (b"PRINT,VTOC,INDD(A)", Outcome::Refused(1, 6, Why::Word)),
+    (b"PRINT VTOC,,INDD(A)", Outcome::Refused(1, 12, Why::Word)),
+    (
+        b"PRINT VTOC INDD(A),\n",
+        Outcome::Refused(1, 20, Why::Missing),
+    ),
+    (b"PRINT VTOC,\nPRINT", Outcome::Refused(2, 1, Why::Missing)),
+    (
+        b"PRINT VTOC INDD(A),\nPRINT",
+        Outcome::Refused(2, 1, Why::Word),
+    ),
+];
 
 #[test]
 fn commas_stand_between_operands(rt: HostRuntime) {
-    let alloc = rt.alloc();
-    assert_eq!(rt;
-        read(alloc, b"PRINT,VTOC,INDD(A)"),
-        Outcome::Refused(1, 6, Why::Word)
-    );
-    assert_eq!(rt;
-        read(alloc, b"PRINT VTOC,,INDD(A)"),
-        Outcome::Refused(1, 12, Why::Word)
-    );
-    assert_eq!(rt;
-        read(alloc, b"PRINT VTOC INDD(A),\n"),
-        Outcome::Refused(1, 20, Why::Missing)
-    );
-    assert_eq!(rt;
-        read(alloc, b"PRINT VTOC,\nPRINT"),
-        Outcome::Refused(2, 1, Why::Missing)
-    );
-    assert_eq!(rt;
-        read(alloc, b"PRINT VTOC INDD(A),\nPRINT"),
-        Outcome::Refused(2, 1, Why::Word)
-    );
+    assert_outcomes(&rt, rt.alloc(), &COMMAS);
 }
+
+static LACKING: [Case; 11] = [
+    (b" PRINT VTOC", Outcome::Refused(1, 12, Why::Missing)),
+    (
+        b" PRINT VTOC\n PRINT VTOC INDDNAME(VOL001)",
+        Outcome::Refused(2, 2, Why::Missing),
+    ),
+    (b"DO PRINT VTOC END", Outcome::Refused(1, 15, Why::Missing)),
+    (
+        b"IF MAXCC = 0 THEN PRINT VTOC ELSE SET MAXCC = 4",
+        Outcome::Refused(1, 30, Why::Missing),
+    ),
+    (
+        b"RELEASE INDD(A)\n\n\n  SET",
+        Outcome::Refused(4, 3, Why::Missing),
+    ),
+    (b"PRINT INDD(A", Outcome::Refused(1, 13, Why::Missing)),
+    (b"SET MAXCC >=", Outcome::Refused(1, 11, Why::Word)),
+    (b"SET MAXCC =", Outcome::Refused(1, 12, Why::Missing)),
+    (b"IF MAXCC >=", Outcome::Refused(1, 12, Why::Missing)),
+    (
+        b"IF MAXCC = 0 THEN\n",
+        Outcome::Refused(1, 18, Why::Missing),
+    ),
+    (b"DO\nDO\nEND", Outcome::Refused(3, 4, Why::Missing)),
+];
 
 #[test]
 fn a_command_that_lacks_an_operand_is_refused_behind_it(rt: HostRuntime) {
-    let alloc = rt.alloc();
-    assert_eq!(rt;
-        read(alloc, b" PRINT VTOC"),
-        Outcome::Refused(1, 12, Why::Missing)
-    );
-    assert_eq!(rt;
-        read(alloc, b" PRINT VTOC\n PRINT VTOC INDDNAME(VOL001)"),
-        Outcome::Refused(2, 2, Why::Missing)
-    );
-    assert_eq!(rt;
-        read(alloc, b"DO PRINT VTOC END"),
-        Outcome::Refused(1, 15, Why::Missing)
-    );
-    assert_eq!(rt;
-        read(alloc, b"IF MAXCC = 0 THEN PRINT VTOC ELSE SET MAXCC = 4"),
-        Outcome::Refused(1, 30, Why::Missing)
-    );
-    assert_eq!(rt;
-        read(alloc, b"RELEASE INDD(A)\n\n\n  SET"),
-        Outcome::Refused(4, 3, Why::Missing)
-    );
-    assert_eq!(rt;
-        read(alloc, b"PRINT INDD(A"),
-        Outcome::Refused(1, 13, Why::Missing)
-    );
-    assert_eq!(rt;
-        read(alloc, b"SET MAXCC >="),
-        Outcome::Refused(1, 11, Why::Word)
-    );
-    assert_eq!(rt;
-        read(alloc, b"SET MAXCC ="),
-        Outcome::Refused(1, 12, Why::Missing)
-    );
-    assert_eq!(rt;
-        read(alloc, b"IF MAXCC >="),
-        Outcome::Refused(1, 12, Why::Missing)
-    );
-    assert_eq!(rt;
-        read(alloc, b"IF MAXCC = 0 THEN\n"),
-        Outcome::Refused(1, 18, Why::Missing)
-    );
-    assert_eq!(rt;
-        read(alloc, b"DO\nDO\nEND"),
-        Outcome::Refused(3, 4, Why::Missing)
-    );
+    assert_outcomes(&rt, rt.alloc(), &LACKING);
 }
+
+static OPERANDS: [Case; 11] = [
+    (
+        b" PRINT VOTC INDDNAME(VOL001)",
+        Outcome::Refused(1, 8, Why::Word),
+    ),
+    (
+        b"PRINT VTOC INDD(A) DDNAME(A)",
+        Outcome::Refused(1, 20, Why::Twice),
+    ),
+    (
+        b"RELEASE INDD(A) DS() INC(A)",
+        Outcome::Refused(1, 22, Why::Twice),
+    ),
+    (
+        b"PRINT VTOC INDD(VOL00001)",
+        Outcome::Refused(1, 17, Why::Value),
+    ),
+    (b"PRINT VTOC INDD()", Outcome::Refused(1, 17, Why::Word)),
+    (b"SET MAXCC = 04", Outcome::Refused(1, 13, Why::Value)),
+    (b"SET CC = 4", Outcome::Refused(1, 5, Why::Word)),
+    (b"IF LASTCC = 5 THEN", Outcome::Refused(1, 13, Why::Value)),
+    (b"IF LASTCC IS 4 THEN", Outcome::Refused(1, 11, Why::Word)),
+    (b"LIST", Outcome::Refused(1, 1, Why::Word)),
+    (
+        b"RELEASE INC(A B) INDD(A)",
+        Outcome::Refused(1, 15, Why::Word),
+    ),
+];
 
 #[test]
 fn operands_and_values_are_refused(rt: HostRuntime) {
-    let alloc = rt.alloc();
-    assert_eq!(rt;
-        read(alloc, b" PRINT VOTC INDDNAME(VOL001)"),
-        Outcome::Refused(1, 8, Why::Word)
-    );
-    assert_eq!(rt;
-        read(alloc, b"PRINT VTOC INDD(A) DDNAME(A)"),
-        Outcome::Refused(1, 20, Why::Twice)
-    );
-    assert_eq!(rt;
-        read(alloc, b"RELEASE INDD(A) DS() INC(A)"),
-        Outcome::Refused(1, 22, Why::Twice)
-    );
-    assert_eq!(rt;
-        read(alloc, b"PRINT VTOC INDD(VOL00001)"),
-        Outcome::Refused(1, 17, Why::Value)
-    );
-    assert_eq!(rt;
-        read(alloc, b"PRINT VTOC INDD()"),
-        Outcome::Refused(1, 17, Why::Word)
-    );
-    assert_eq!(rt;
-        read(alloc, b"SET MAXCC = 04"),
-        Outcome::Refused(1, 13, Why::Value)
-    );
-    assert_eq!(rt;
-        read(alloc, b"SET CC = 4"),
-        Outcome::Refused(1, 5, Why::Word)
-    );
-    assert_eq!(rt;
-        read(alloc, b"IF LASTCC = 5 THEN"),
-        Outcome::Refused(1, 13, Why::Value)
-    );
-    assert_eq!(rt;
-        read(alloc, b"IF LASTCC IS 4 THEN"),
-        Outcome::Refused(1, 11, Why::Word)
-    );
-    assert_eq!(rt; read(alloc, b"LIST"), Outcome::Refused(1, 1, Why::Word));
-    assert_eq!(rt;
-        read(alloc, b"RELEASE INC(A B) INDD(A)"),
-        Outcome::Refused(1, 15, Why::Word)
-    );
+    assert_outcomes(&rt, rt.alloc(), &OPERANDS);
 }
+
+static CONDITIONS: [Case; 9] = [
+    (
+        b" RELEASE DATASET(INCLUDE(NO.SUCH)) DDNAME(VOL001)\n IF LASTCC = 4 THEN SET MAXCC = 0\n PRINT VTOC INDDNAME(VOL001)",
+        Outcome::Ran(12, 4),
+    ),
+    (
+        b"PRINT VTOC INDD(A)\nIF LASTCC EQ 4 THEN SET MAXCC = 0",
+        Outcome::Ran(1, 0),
+    ),
+    (
+        b"IF MAXCC GE 0 THEN IF MAXCC GT 0 THEN PRINT VTOC INDD(A)\nELSE PRINT VTOC INDD(B)",
+        Outcome::Ran(2, 4),
+    ),
+    (
+        b"IF MAXCC <> 0 THEN DO\nIF MAXCC > 0 THEN PRINT VTOC INDD(A) END\nELSE PRINT VTOC INDD(B)",
+        Outcome::Ran(2, 4),
+    ),
+    (
+        b"IF MAXCC LT 4 THEN IF MAXCC NE 0 THEN PRINT VTOC INDD(A) ELSE PRINT VTOC INDD(B) ELSE PRINT VTOC INDD(C)",
+        Outcome::Refused(1, 73, Why::Missing),
+    ),
+    (
+        b"IF MAXCC LT 4 THEN IF MAXCC NE 0 THEN PRINT VTOC INDD(A)\nELSE PRINT VTOC INDD(B)\nELSE PRINT VTOC INDD(C)",
+        Outcome::Ran(2, 4),
+    ),
+    (
+        b"IF MAXCC LT 4 THEN IF MAXCC NE 0\nTHEN",
+        Outcome::Refused(2, 1, Why::Word),
+    ),
+    (
+        b"IF MAXCC LE 0 THEN\n\nDO\nPRINT VTOC INDD(A)\nPRINT VTOC INDD(B)\nEND\nELSE\nDO END\nPRINT VTOC INDD(C)",
+        Outcome::Ran(123, 4),
+    ),
+    (
+        b"IF MAXCC < 0 THEN PRINT VTOC INDD(A) ELSE DO PRINT VTOC INDD(B)\nPRINT VTOC INDD(C) END",
+        Outcome::Ran(23, 4),
+    ),
+];
 
 #[test]
 fn conditions_choose(rt: HostRuntime) {
-    let alloc = rt.alloc();
-    let three =
-        b" RELEASE DATASET(INCLUDE(NO.SUCH)) DDNAME(VOL001)\n IF LASTCC = 4 THEN SET MAXCC = 0\n PRINT VTOC INDDNAME(VOL001)";
-    assert_eq!(rt; read(alloc, three), Outcome::Ran(12, 4));
-    let last = b"PRINT VTOC INDD(A)\nIF LASTCC EQ 4 THEN SET MAXCC = 0";
-    assert_eq!(rt; read(alloc, last), Outcome::Ran(1, 0));
-    let inner =
-        b"IF MAXCC GE 0 THEN IF MAXCC GT 0 THEN PRINT VTOC INDD(A)\nELSE PRINT VTOC INDD(B)";
-    assert_eq!(rt; read(alloc, inner), Outcome::Ran(2, 4));
-    let outer =
-        b"IF MAXCC <> 0 THEN DO\nIF MAXCC > 0 THEN PRINT VTOC INDD(A) END\nELSE PRINT VTOC INDD(B)";
-    assert_eq!(rt; read(alloc, outer), Outcome::Ran(2, 4));
-    let both =
-        b"IF MAXCC LT 4 THEN IF MAXCC NE 0 THEN PRINT VTOC INDD(A) ELSE PRINT VTOC INDD(B) ELSE PRINT VTOC INDD(C)";
-    assert_eq!(rt; read(alloc, both), Outcome::Refused(1, 73, Why::Missing));
-    let lines =
-        b"IF MAXCC LT 4 THEN IF MAXCC NE 0 THEN PRINT VTOC INDD(A)\nELSE PRINT VTOC INDD(B)\nELSE PRINT VTOC INDD(C)";
-    assert_eq!(rt; read(alloc, lines), Outcome::Ran(2, 4));
-    let two = b"IF MAXCC LT 4 THEN IF MAXCC NE 0\nTHEN";
-    assert_eq!(rt; read(alloc, two), Outcome::Refused(2, 1, Why::Word));
-    let parts =
-        b"IF MAXCC LE 0 THEN\n\nDO\nPRINT VTOC INDD(A)\nPRINT VTOC INDD(B)\nEND\nELSE\nDO END\nPRINT VTOC INDD(C)";
-    assert_eq!(rt; read(alloc, parts), Outcome::Ran(123, 4));
-    let parts =
-        b"IF MAXCC < 0 THEN PRINT VTOC INDD(A) ELSE DO PRINT VTOC INDD(B)\nPRINT VTOC INDD(C) END";
-    assert_eq!(rt; read(alloc, parts), Outcome::Ran(23, 4));
+    assert_outcomes(&rt, rt.alloc(), &CONDITIONS);
 }
+
+static WORDS: [Case; 9] = [
+    (b"ELSE", Outcome::Refused(1, 1, Why::Word)),
+    (b"END", Outcome::Refused(1, 1, Why::Word)),
+    (b"SET MAXCC = 0 ELSE", Outcome::Refused(1, 15, Why::Word)),
+    (b"SET MAXCC = 0\nEND", Outcome::Refused(2, 1, Why::Word)),
+    (
+        b"IF MAXCC = 0 THEN DO END ELSE DO END ELSE",
+        Outcome::Refused(1, 38, Why::Word),
+    ),
+    (
+        b"DO DO END SET MAXCC = 0",
+        Outcome::Refused(1, 11, Why::Word),
+    ),
+    (b"IF MAXCC = 0 THEN END", Outcome::Refused(1, 19, Why::Word)),
+    (
+        b"DO\nIF MAXCC = 0 THEN SET MAXCC = 4 END\nELSE",
+        Outcome::Refused(3, 1, Why::Word),
+    ),
+    (
+        b"PRINT VTOC INDD(END) -\n WAIT(1,ELSE)",
+        Outcome::Refused(2, 9, Why::Value),
+    ),
+];
 
 #[test]
 fn words_have_their_places(rt: HostRuntime) {
-    let alloc = rt.alloc();
-    assert_eq!(rt; read(alloc, b"ELSE"), Outcome::Refused(1, 1, Why::Word));
-    assert_eq!(rt; read(alloc, b"END"), Outcome::Refused(1, 1, Why::Word));
-    assert_eq!(rt;
-        read(alloc, b"SET MAXCC = 0 ELSE"),
-        Outcome::Refused(1, 15, Why::Word)
-    );
-    assert_eq!(rt;
-        read(alloc, b"SET MAXCC = 0\nEND"),
-        Outcome::Refused(2, 1, Why::Word)
-    );
-    assert_eq!(rt;
-        read(alloc, b"IF MAXCC = 0 THEN DO END ELSE DO END ELSE"),
-        Outcome::Refused(1, 38, Why::Word)
-    );
-    assert_eq!(rt;
-        read(alloc, b"DO DO END SET MAXCC = 0"),
-        Outcome::Refused(1, 11, Why::Word)
-    );
-    assert_eq!(rt;
-        read(alloc, b"IF MAXCC = 0 THEN END"),
-        Outcome::Refused(1, 19, Why::Word)
-    );
-    assert_eq!(rt;
-        read(alloc, b"DO\nIF MAXCC = 0 THEN SET MAXCC = 4 END\nELSE"),
-        Outcome::Refused(3, 1, Why::Word)
-    );
-    assert_eq!(rt;
-        read(alloc, b"PRINT VTOC INDD(END) -\n WAIT(1,ELSE)"),
-        Outcome::Refused(2, 9, Why::Value)
-    );
+    assert_outcomes(&rt, rt.alloc(), &WORDS);
 }
 
 /// A front, a part so many times, and a back.
@@ -358,98 +328,149 @@ fn read_repeated(
     Ok(read(alloc, text.as_slice()))
 }
 
-#[test]
-fn sixteen_stand_in_one_another(rt: HostRuntime) -> Result<(), NoMemory> {
-    let alloc = rt.alloc();
-    let part = b"IF MAXCC = 0 THEN\n";
-    assert_eq!(rt;
-        read_repeated(alloc, b"", part, 16, b"SET MAXCC = 8")?,
-        Outcome::Ran(0, 8)
-    );
-    assert_eq!(rt;
-        read_repeated(alloc, b"", part, 17, b"SET MAXCC = 8")?,
-        Outcome::Refused(17, 1, Why::Nesting)
-    );
-    assert_eq!(rt;
-        read_repeated(alloc, b"", part, 16, b"DO END")?,
-        Outcome::Refused(17, 1, Why::Nesting)
-    );
-    let chain = b"IF MAXCC > 0 THEN SET MAXCC = 12\nELSE\n";
-    assert_eq!(rt;
-        read_repeated(alloc, b"", chain, 16, b"SET MAXCC = 8")?,
-        Outcome::Ran(0, 8)
-    );
-    assert_eq!(rt;
-        read_repeated(alloc, b"", chain, 17, b"SET MAXCC = 8")?,
-        Outcome::Refused(33, 1, Why::Nesting)
-    );
-    let open = b"DO\n";
-    assert_eq!(rt;
-        read_repeated(alloc, b"", open, 16, b"PRINT VTOC\nIF")?,
-        Outcome::Refused(18, 1, Why::Nesting)
-    );
-    assert_eq!(rt;
-        read_repeated(alloc, b"", open, 16, b"SET MAXCC = 4\nSET")?,
-        Outcome::Refused(18, 4, Why::Missing)
-    );
-    assert_eq!(rt;
-        read_repeated(alloc, b"", b"DO END\n", 17, b"SET MAXCC = 8")?,
-        Outcome::Ran(0, 8)
-    );
+/// A front, a part, how often it stands, a back, and what becomes of the text.
+type Repeated = (&'static [u8], &'static [u8], u32, &'static [u8], Outcome);
+
+fn assert_repeated(rt: &impl Abort, alloc: Global, cases: &[Repeated]) -> Result<(), NoMemory> {
+    for &(front, part, times, back, want) in cases {
+        let outcome = read_repeated(alloc, front, part, times, back)?;
+        assert_eq!(rt; outcome, want, "{front:?} {part:?} {times} {back:?}");
+    }
     Ok(())
 }
 
+static NESTED: [Repeated; 8] = [
+    (
+        b"",
+        b"IF MAXCC = 0 THEN\n",
+        16,
+        b"SET MAXCC = 8",
+        Outcome::Ran(0, 8),
+    ),
+    (
+        b"",
+        b"IF MAXCC = 0 THEN\n",
+        17,
+        b"SET MAXCC = 8",
+        Outcome::Refused(17, 1, Why::Nesting),
+    ),
+    (
+        b"",
+        b"IF MAXCC = 0 THEN\n",
+        16,
+        b"DO END",
+        Outcome::Refused(17, 1, Why::Nesting),
+    ),
+    (
+        b"",
+        b"IF MAXCC > 0 THEN SET MAXCC = 12\nELSE\n",
+        16,
+        b"SET MAXCC = 8",
+        Outcome::Ran(0, 8),
+    ),
+    (
+        b"",
+        b"IF MAXCC > 0 THEN SET MAXCC = 12\nELSE\n",
+        17,
+        b"SET MAXCC = 8",
+        Outcome::Refused(33, 1, Why::Nesting),
+    ),
+    (
+        b"",
+        b"DO\n",
+        16,
+        b"PRINT VTOC\nIF",
+        Outcome::Refused(18, 1, Why::Nesting),
+    ),
+    (
+        b"",
+        b"DO\n",
+        16,
+        b"SET MAXCC = 4\nSET",
+        Outcome::Refused(18, 4, Why::Missing),
+    ),
+    (b"", b"DO END\n", 17, b"SET MAXCC = 8", Outcome::Ran(0, 8)),
+];
+
+#[test]
+fn sixteen_stand_in_one_another(rt: HostRuntime) -> Result<(), NoMemory> {
+    assert_repeated(&rt, rt.alloc(), &NESTED)
+}
+
+static MOST: [Repeated; 10] = [
+    (
+        b"RELEASE INDD(V) INC(A",
+        b" -\n,A",
+        254,
+        b")",
+        Outcome::Ran(1, 4),
+    ),
+    (
+        b"RELEASE INDD(V) INC(A",
+        b" -\n,A",
+        255,
+        b")",
+        Outcome::Refused(256, 2, Why::Count),
+    ),
+    (
+        b"RELEASE INDD(V) INC(A",
+        b" -\n,A",
+        254,
+        b",)",
+        Outcome::Refused(255, 4, Why::Word),
+    ),
+    (
+        b"RELEASE INDD(V) INC(A",
+        b" -\n,A",
+        254,
+        b",",
+        Outcome::Refused(255, 4, Why::Missing),
+    ),
+    (
+        b"DUMP FULL INDD(V) OUTDD(",
+        b"A,",
+        15,
+        b"A)",
+        Outcome::Ran(1, 4),
+    ),
+    (
+        b"DUMP FULL INDD(V) OUTDD(",
+        b"A,",
+        16,
+        b"A)",
+        Outcome::Refused(1, 57, Why::Count),
+    ),
+    (
+        b"IF MAXCC = 0 THEN DO\n",
+        b"PRINT VTOC INDD(V)\n",
+        999,
+        b"END ELSE SET MAXCC = 0",
+        Outcome::Ran(123_456_789, 4),
+    ),
+    (
+        b"",
+        b"PRINT VTOC INDD(V)\n",
+        1000,
+        b"",
+        Outcome::Refused(1000, 1, Why::Count),
+    ),
+    (
+        b"",
+        b"PRINT VTOC INDD(V)\n",
+        998,
+        b"PRINT VTOC\nPRINT",
+        Outcome::Refused(1000, 1, Why::Count),
+    ),
+    (
+        b"",
+        b"PRINT VTOC INDD(V)\n",
+        998,
+        b"PRINT VTOC\nSET",
+        Outcome::Refused(1000, 1, Why::Missing),
+    ),
+];
+
 #[test]
 fn lists_and_texts_have_a_most(rt: HostRuntime) -> Result<(), NoMemory> {
-    let alloc = rt.alloc();
-    let front = b"RELEASE INDD(V) INC(A";
-    assert_eq!(rt;
-        read_repeated(alloc, front, b" -\n,A", 254, b")")?,
-        Outcome::Ran(1, 4)
-    );
-    assert_eq!(rt;
-        read_repeated(alloc, front, b" -\n,A", 255, b")")?,
-        Outcome::Refused(256, 2, Why::Count)
-    );
-    assert_eq!(rt;
-        read_repeated(alloc, front, b" -\n,A", 254, b",)")?,
-        Outcome::Refused(255, 4, Why::Word)
-    );
-    assert_eq!(rt;
-        read_repeated(alloc, front, b" -\n,A", 254, b",")?,
-        Outcome::Refused(255, 4, Why::Missing)
-    );
-    let dump = b"DUMP FULL INDD(V) OUTDD(";
-    assert_eq!(rt;
-        read_repeated(alloc, dump, b"A,", 15, b"A)")?,
-        Outcome::Ran(1, 4)
-    );
-    assert_eq!(rt;
-        read_repeated(alloc, dump, b"A,", 16, b"A)")?,
-        Outcome::Refused(1, 57, Why::Count)
-    );
-    let line = b"PRINT VTOC INDD(V)\n";
-    assert_eq!(rt;
-        read_repeated(
-            alloc,
-            b"IF MAXCC = 0 THEN DO\n",
-            line,
-            999,
-            b"END ELSE SET MAXCC = 0"
-        )?,
-        Outcome::Ran(123_456_789, 4)
-    );
-    assert_eq!(rt;
-        read_repeated(alloc, b"", line, 1000, b"")?,
-        Outcome::Refused(1000, 1, Why::Count)
-    );
-    assert_eq!(rt;
-        read_repeated(alloc, b"", line, 998, b"PRINT VTOC\nPRINT")?,
-        Outcome::Refused(1000, 1, Why::Count)
-    );
-    assert_eq!(rt;
-        read_repeated(alloc, b"", line, 998, b"PRINT VTOC\nSET")?,
-        Outcome::Refused(1000, 1, Why::Missing)
-    );
-    Ok(())
+    assert_repeated(&rt, rt.alloc(), &MOST)
 }
