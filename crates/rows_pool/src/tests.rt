@@ -1,8 +1,11 @@
-ghost use Rattle.std.specs.Prelude.{◌≡◌, ◌<◌, IsTrue};
+ghost use Rattle.std.specs.Prelude.{◌≡◌, ◌<◌, ◌≤◌, IsTrue};
 
 use ckd_image::Bytes;
 use dasd_pool::*;
+use std::alloc::Global;
 use std::fs::{self, File};
+use std::path::PathBuf;
+use std::process::Abort;
 use std::test::*;
 use std::{env, io};
 
@@ -31,41 +34,50 @@ impl Tried {
         self.pool.sync()
     }
 
-    fn ends(&mut self, rt: &HostRuntime, block: u32) -> Result<[u8; 2], Fail> {
-        ends(rt, &mut self.pool, block)
+    fn ends(&mut self, alloc: Global, block: u32) -> Result<[u8; 2], Fail> {
+        ends(alloc, &mut self.pool, block)
     }
 
-    fn fill(
+    /// Fills a block with one byte and then with another.
+    fn fill_twice(
         &mut self,
-        rt: &HostRuntime,
+        alloc: Global,
         block: u32,
-        byte: u8,
-    ) -> Result<Result<(), PoolFault>, Fail> {
-        fill(rt, &mut self.pool, block, byte)
-    }
-
-    fn fill_in_order(&mut self, rt: &HostRuntime) -> Result<(), Fail> {
-        fill_in_order(rt, &mut self.pool)
+        bytes: [u8; 2],
+    ) -> Result<[Result<(), PoolFault>; 2], Fail> {
+        let first = fill(alloc, &mut self.pool, block, bytes[0])?;
+        Ok([first, fill(alloc, &mut self.pool, block, bytes[1])?])
     }
 
     /// What a stop after so many calls leaves.
-    fn stopped(&self, rt: &HostRuntime, calls: u64, tear: Tear) -> Result<Tried, Fail> {
-        let pool = self.pool.crash(rt.alloc(), calls, tear)?;
+    fn stopped(&self, alloc: Global, calls: u64, tear: Tear) -> Result<Tried, Fail> {
+        let pool = self.pool.crash(alloc, calls, tear)?;
         Ok(Tried { pool })
+    }
+
+    /// The first and the last byte of a block that such a stop leaves.
+    fn ends_left(&self, alloc: Global, calls: u64, block: u32) -> Result<[u8; 2], Fail> {
+        self.stopped(alloc, calls, Tear::New)?.ends(alloc, block)
     }
 }
 
 /// A pool of two blocks, each of them full of threes.
-fn two_blocks(rt: &HostRuntime, failing: &[u64], keep: u32) -> Result<Tried, Fail> {
-    let threes = vec![in rt.alloc(); 3u8; 2 * SIZE]?;
-    let mut units = Vec::new(rt.alloc());
+fn two_blocks(alloc: Global, failing: &[u64], keep: u32) -> Result<Tried, Fail> {
+    let threes = vec![in alloc; 3u8; 2 * SIZE]?;
+    let mut units = Vec::new(alloc);
     units.push(UnitText {
         head: head(),
-        blocks: Bytes::from_slice(rt.alloc(), &threes)?,
+        blocks: Bytes::from_slice(alloc, &threes)?,
     })?;
-    let failing = failing.to_vec(rt.alloc())?;
-    let pool = MemoryPool::new(rt.alloc(), units, failing, keep)?;
+    let pool = MemoryPool::new(alloc, units, failing.to_vec(alloc)?, keep)?;
     Ok(Tried { pool })
+}
+
+/// Such a pool after its blocks were filled in order.
+fn filled_in_order(alloc: Global) -> Result<Tried, Fail> {
+    let mut filled = two_blocks(alloc, &[], 10)?;
+    fill_in_order(alloc, &mut filled.pool)?;
+    Ok(filled)
 }
 
 /// Whether unit 0 has this block, of the size of a 3350.
@@ -76,8 +88,8 @@ fn has_block<P: Pool>(pool: &P, block: u32) -> bool
 }
 
 /// The first and the last byte of a block of unit 0.
-fn ends<P: Pool>(rt: &HostRuntime, pool: &mut P, block: u32) -> Result<[u8; 2], Fail> {
-    let mut bytes = vec![in rt.alloc(); 1u8; SIZE]?;
+fn ends<P: Pool>(alloc: Global, pool: &mut P, block: u32) -> Result<[u8; 2], Fail> {
+    let mut bytes = vec![in alloc; 1u8; SIZE]?;
     if !has_block(pool, block) {
         return Ok([1, 1]);
     }
@@ -87,12 +99,12 @@ fn ends<P: Pool>(rt: &HostRuntime, pool: &mut P, block: u32) -> Result<[u8; 2], 
 
 /// Writes a block of unit 0 with one byte everywhere.
 fn fill<P: Pool>(
-    rt: &HostRuntime,
+    alloc: Global,
     pool: &mut P,
     block: u32,
     byte: u8,
 ) -> Result<Result<(), PoolFault>, Fail> {
-    let bytes = vec![in rt.alloc(); byte; SIZE]?;
+    let bytes = vec![in alloc; byte; SIZE]?;
     if !has_block(pool, block) {
         return Ok(Ok(()));
     }
@@ -100,115 +112,173 @@ fn fill<P: Pool>(
 }
 
 /// Writes block 0 of unit 0 with sevens, and then block 1 with nines.
-fn fill_in_order<P: Pool>(rt: &HostRuntime, pool: &mut P) -> Result<(), Fail> {
-    let sevens = vec![in rt.alloc(); 7u8; SIZE]?;
-    let nines = vec![in rt.alloc(); 9u8; SIZE]?;
+fn fill_in_order<P: Pool>(alloc: Global, pool: &mut P) -> Result<(), Fail> {
+    let sevens = vec![in alloc; 7u8; SIZE]?;
+    let nines = vec![in alloc; 9u8; SIZE]?;
     if has_block(pool, 0) && has_block(pool, 1) {
         write_in_order(pool, 0, 0, &sevens, 1, &nines)?;
     }
     Ok(())
 }
 
+/// A stop after so many calls, how it tears, and the ends of both blocks that it leaves.
+type Stop = (u64, Tear, [u8; 2], [u8; 2]);
+
+static STOPS: [Stop; 11] = [
+    (0, Tear::New, [3, 3], [3, 3]),
+    (1, Tear::Old, [3, 3], [3, 3]),
+    (1, Tear::New, [7, 7], [3, 3]),
+    (1, Tear::Zero, [0, 0], [3, 3]),
+    (1, Tear::Half, [7, 3], [3, 3]),
+    (2, Tear::Old, [7, 7], [3, 3]),
+    (3, Tear::Old, [7, 7], [3, 3]),
+    (3, Tear::New, [7, 7], [9, 9]),
+    (3, Tear::Zero, [7, 7], [0, 0]),
+    (3, Tear::Half, [7, 7], [9, 3]),
+    (4, Tear::Old, [7, 7], [9, 9]),
+];
+
+fn assert_stop(
+    rt: &impl Abort,
+    alloc: Global,
+    pool: &Tried,
+    (calls, tear, first, second): Stop,
+) -> Result<(), Fail> {
+    let mut stopped = pool.stopped(alloc, calls, tear)?;
+    assert_eq!(rt; stopped.ends(alloc, 0)?, first, "{tear:?} after {calls}");
+    assert_eq!(rt; stopped.ends(alloc, 1)?, second, "{tear:?} after {calls}");
+    Ok(())
+}
+
 #[test]
 fn a_stop_tears_just_the_block_that_is_not_synced(rt: HostRuntime) -> Result<(), Fail> {
-    let mut pool = two_blocks(&rt, &[], 10)?;
-    pool.fill_in_order(&rt)?;
+    let pool = filled_in_order(rt.alloc())?;
     assert_eq!(rt; pool.calls(), 4);
-    let cases = [
-        (0, Tear::New, [3, 3], [3, 3]),
-        (1, Tear::Old, [3, 3], [3, 3]),
-        (1, Tear::New, [7, 7], [3, 3]),
-        (1, Tear::Zero, [0, 0], [3, 3]),
-        (1, Tear::Half, [7, 3], [3, 3]),
-        (2, Tear::Old, [7, 7], [3, 3]),
-        (3, Tear::Old, [7, 7], [3, 3]),
-        (3, Tear::New, [7, 7], [9, 9]),
-        (3, Tear::Zero, [7, 7], [0, 0]),
-        (3, Tear::Half, [7, 7], [9, 3]),
-        (4, Tear::Old, [7, 7], [9, 9]),
-    ];
-    for (calls, tear, first, second) in cases {
-        let mut stopped = pool.stopped(&rt, calls, tear)?;
-        assert_eq!(rt; stopped.ends(&rt, 0)?, first, "{tear:?} after {calls}");
-        assert_eq!(rt; stopped.ends(&rt, 1)?, second, "{tear:?} after {calls}");
+    for stop in &STOPS {
+        assert_stop(&rt, rt.alloc(), &pool, *stop)?;
     }
+    Ok(())
+}
+
+/// Asserts what comes of two fills of block 1, of which the second is to fail, and of two syncs, of which the first is.
+fn assert_two_faults(rt: &impl Abort, alloc: Global, pool: &mut Tried) -> Result<(), Fail> {
+    let filled = pool.fill_twice(alloc, 1, [7, 9])?;
+    assert_eq!(rt; filled, [Ok(()), Err(PoolFault)], "call 1");
+    assert_eq!(rt; pool.ends(alloc, 1)?, [7, 7], "the old bytes");
+    assert_eq!(rt; pool.sync(), Err(PoolFault), "call 3");
+    assert_eq!(rt; pool.sync(), Ok(()));
     Ok(())
 }
 
 #[test]
 fn a_pool_that_keeps_no_calls_fails_where_it_is_told(rt: HostRuntime) -> Result<(), Fail> {
-    let mut pool = two_blocks(&rt, &[1, 3], 0)?;
-    assert_eq!(rt; pool.fill(&rt, 1, 7)?, Ok(()));
-    assert_eq!(rt; pool.fill(&rt, 1, 9)?, Err(PoolFault), "call 1");
-    assert_eq!(rt; pool.ends(&rt, 1)?, [7, 7], "the old bytes");
-    assert_eq!(rt; pool.sync(), Err(PoolFault), "call 3");
-    assert_eq!(rt; pool.sync(), Ok(()));
+    let mut pool = two_blocks(rt.alloc(), &[1, 3], 0)?;
+    assert_two_faults(&rt, rt.alloc(), &mut pool)?;
     assert_eq!(rt; pool.calls(), 5);
-    let mut stopped = pool.stopped(&rt, 5, Tear::New)?;
-    assert_eq!(rt; stopped.ends(&rt, 1)?, [3, 3], "as at first");
+    assert_eq!(rt; pool.ends_left(rt.alloc(), 5, 1)?, [3, 3], "as at first");
     Ok(())
 }
 
 #[test]
 fn a_call_past_those_that_are_kept_changes_nothing(rt: HostRuntime) -> Result<(), Fail> {
-    let mut pool = two_blocks(&rt, &[], 1)?;
-    assert_eq!(rt; pool.fill(&rt, 0, 7)?, Ok(()));
-    assert_eq!(rt; pool.fill(&rt, 0, 9)?, Err(PoolFault));
+    let mut pool = two_blocks(rt.alloc(), &[], 1)?;
+    let filled = pool.fill_twice(rt.alloc(), 0, [7, 9])?;
+    assert_eq!(rt; filled, [Ok(()), Err(PoolFault)]);
     assert_eq!(rt; pool.sync(), Err(PoolFault));
     assert_eq!(rt; pool.calls(), 3);
-    let mut stopped = pool.stopped(&rt, 3, Tear::New)?;
-    assert_eq!(rt; stopped.ends(&rt, 0)?, [7, 7]);
+    assert_eq!(rt; pool.ends_left(rt.alloc(), 3, 0)?, [7, 7]);
     Ok(())
 }
 
 /// The path of a file for a test.
-fn scratch(rt: &HostRuntime, name: &str) -> io::Result<std::path::PathBuf> {
+fn scratch(rt: &HostRuntime, name: &str) -> io::Result<PathBuf> {
     Ok(env::temp_dir(rt)?.join(rt.alloc(), name)?)
+}
+
+/// Writes a file of a head and so many fives.
+fn write_unit(rt: &HostRuntime, path: &PathBuf, fives: usize) -> Result<(), Fail>
+    requires { fives ≤ 100000 }
+{
+    let mut text = Vec::new(rt.alloc());
+    text.extend_from_slice(&head())?;
+    text.resize(512 + fives, 5)?;
+    Ok(fs::write(rt, path, &text)?)
+}
+
+/// A pool of one file.
+fn pool_of(alloc: Global, file: File) -> io::Result<FilePool<File>> {
+    let mut pool = FilePool::new(alloc);
+    pool.add(file)?;
+    Ok(pool)
+}
+
+/// The head of the one unit of a pool.
+fn head_of<P: Pool>(pool: &P) -> Option<[u8; 512]> {
+    if pool.units() != 1 {
+        return None;
+    }
+    Some(pool.head(0))
+}
+
+/// The bytes of each block of the one unit of a pool, and how many blocks it has.
+fn blocks_of<P: Pool>(pool: &P) -> Option<(u32, u32)> {
+    if pool.units() != 1 {
+        return None;
+    }
+    Some((pool.block_size(0), pool.blocks(0)))
+}
+
+/// The ends of block 0 before it is filled with sixes and synced, and afterwards.
+fn refilled<P: Pool>(alloc: Global, pool: &mut P) -> Result<[[u8; 2]; 2], Fail> {
+    let before = ends(alloc, pool, 0)?;
+    fill(alloc, pool, 0, 6)??;
+    pool.sync()?;
+    Ok([before, ends(alloc, pool, 0)?])
+}
+
+/// How long a file is, its last byte of block 0, and the byte behind it.
+fn written(rt: &HostRuntime, path: &PathBuf) -> io::Result<(usize, Option<u8>, Option<u8>)> {
+    let bytes = fs::read(rt, path)?;
+    let last = bytes.get(512 + SIZE - 1).copied();
+    Ok((bytes.len(), last, bytes.get(512 + SIZE).copied()))
 }
 
 #[test]
 fn a_file_is_a_unit_with_a_head_and_whole_blocks(rt: HostRuntime) -> Result<(), Fail> {
     let path = scratch(&rt, "dasd_pool_unit")?;
-    let mut text = Vec::new(rt.alloc());
-    text.extend_from_slice(&head())?;
-    text.resize(512 + SIZE + SIZE - 1, 5)?;
-    fs::write(&rt, &path, &text)?;
-    let mut pool = FilePool::new(rt.alloc());
-    pool.add(File::options().read(true).write(true).open(&rt, &path)?)?;
-    assert_eq!(rt; pool.units(), 1);
-    if pool.units() == 1 {
-        assert_eq!(rt; pool.head(0), head());
-        assert_eq!(rt;
-            (pool.block_size(0), pool.blocks(0)),
-            (19_456, 1),
-            "a rest is no block"
-        );
-    }
-    assert_eq!(rt; ends(&rt, &mut pool, 0)?, [5, 5]);
-    assert_eq!(rt; fill(&rt, &mut pool, 0, 6)?, Ok(()));
-    pool.sync()?;
-    assert_eq!(rt; ends(&rt, &mut pool, 0)?, [6, 6]);
-    let written = fs::read(&rt, &path)?;
-    assert_eq!(rt; written.len(), text.len());
-    assert_eq!(rt;
-        (written.get(512 + SIZE - 1), written.get(512 + SIZE)),
-        (Some(&6), Some(&5))
-    );
+    write_unit(&rt, &path, SIZE + SIZE - 1)?;
+    let file = File::options().read(true).write(true).open(&rt, &path)?;
+    let mut pool = pool_of(rt.alloc(), file)?;
+    assert_eq!(rt; head_of(&pool), Some(head()));
+    assert_eq!(rt; blocks_of(&pool), Some((19_456, 1)), "a rest is no block");
+    assert_eq!(rt; refilled(rt.alloc(), &mut pool)?, [[5, 5], [6, 6]]);
+    let length = 512 + SIZE + SIZE - 1;
+    assert_eq!(rt; written(&rt, &path)?, (length, Some(6), Some(5)));
     fs::remove_file(&rt, &path)?;
     Ok(())
+}
+
+/// How many bytes a new file takes of two pieces.
+fn taken(rt: &HostRuntime, path: &PathBuf) -> Result<[usize; 2], Fail> {
+    let mut sink = FileSink::new(File::create(rt, path)?);
+    let first = sink.write(b"free")?;
+    Ok([first, sink.write(b"")?])
+}
+
+/// How many bytes two reads of a file give, and its first four.
+fn given(rt: &HostRuntime, path: &PathBuf) -> Result<([usize; 2], [u8; 4]), Fail> {
+    let mut source = FileSource::new(File::open(rt, path)?);
+    let mut buf = [0; 8];
+    let first = source.read(&mut buf)?;
+    let bytes = [buf[0], buf[1], buf[2], buf[3]];
+    Ok(([first, source.read(&mut buf)?], bytes))
 }
 
 #[test]
 fn a_file_takes_and_gives_bytes(rt: HostRuntime) -> Result<(), Fail> {
     let path = scratch(&rt, "dasd_pool_stream")?;
-    let mut sink = FileSink::new(File::create(&rt, &path)?);
-    assert_eq!(rt; sink.write(b"free")?, 4);
-    assert_eq!(rt; sink.write(b"")?, 0);
-    let mut source = FileSource::new(File::open(&rt, &path)?);
-    let mut buf = [0; 8];
-    assert_eq!(rt; source.read(&mut buf)?, 4);
-    assert_eq!(rt; &buf[..4], b"free".as_slice());
-    assert_eq!(rt; source.read(&mut buf)?, 0);
+    assert_eq!(rt; taken(&rt, &path)?, [4, 0]);
+    assert_eq!(rt; given(&rt, &path)?, ([4, 0], *b"free"));
     fs::remove_file(&rt, &path)?;
     Ok(())
 }
@@ -229,23 +299,41 @@ fn a_short_file_has_zeros_in_its_head(rt: HostRuntime) -> Result<(), Fail> {
     Ok(())
 }
 
+/// The unit whose file failed.
+fn failed_unit(pool: &FilePool<File>) -> Option<u32> {
+    Some(pool.failure()?.unit)
+}
+
+fn assert_refuses_a_block(
+    rt: &impl Abort,
+    alloc: Global,
+    pool: &mut FilePool<File>,
+) -> Result<(), Fail> {
+    assert_eq!(rt; failed_unit(pool), None);
+    assert_eq!(rt; fill(alloc, pool, 0, 6)?, Err(PoolFault));
+    assert_eq!(rt; failed_unit(pool), Some(0));
+    Ok(())
+}
+
+/// A write to a file that is open for reads.
+fn write_refused(rt: &HostRuntime, path: &PathBuf) -> io::Result<Result<usize, WriteFault>> {
+    Ok(FileSink::new(File::open(rt, path)?).write(b"free"))
+}
+
+/// A read of a file that is open for writes.
+fn read_refused(rt: &HostRuntime, path: &PathBuf) -> io::Result<Result<usize, ReadFault>> {
+    let mut buf = [0; 8];
+    Ok(FileSource::new(File::create(rt, path)?).read(&mut buf))
+}
+
 #[test]
 fn a_file_that_refuses_is_a_fault(rt: HostRuntime) -> Result<(), Fail> {
     let path = scratch(&rt, "dasd_pool_refuses")?;
-    let mut text = Vec::new(rt.alloc());
-    text.extend_from_slice(&head())?;
-    text.resize(512 + SIZE, 5)?;
-    fs::write(&rt, &path, &text)?;
-    let mut pool = FilePool::new(rt.alloc());
-    pool.add(File::open(&rt, &path)?)?;
-    assert!(rt; pool.failure().is_none());
-    assert_eq!(rt; fill(&rt, &mut pool, 0, 6)?, Err(PoolFault));
-    assert_eq!(rt; pool.failure().map(|failure| failure.unit), Some(0));
-    let mut sink = FileSink::new(File::open(&rt, &path)?);
-    assert_eq!(rt; sink.write(b"free"), Err(WriteFault));
-    let mut buf = [0; 8];
-    let mut source = FileSource::new(File::create(&rt, &path)?);
-    assert_eq!(rt; source.read(&mut buf), Err(ReadFault));
+    write_unit(&rt, &path, SIZE)?;
+    let mut pool = pool_of(rt.alloc(), File::open(&rt, &path)?)?;
+    assert_refuses_a_block(&rt, rt.alloc(), &mut pool)?;
+    assert_eq!(rt; write_refused(&rt, &path)?, Err(WriteFault));
+    assert_eq!(rt; read_refused(&rt, &path)?, Err(ReadFault));
     fs::remove_file(&rt, &path)?;
     Ok(())
 }
@@ -268,16 +356,26 @@ fn a_stream_in_memory_takes_and_gives_bytes(rt: HostRuntime) -> Result<(), Fail>
     Ok(())
 }
 
+/// Puts a piece. No clause says what the medium then holds: a test looks at its text.
+fn put<M: Medium>(medium: &mut M, piece: &[u8]) -> Result<(), MediumFault> {
+    medium.put(piece)
+}
+
+/// Finishes, of which no clause speaks either.
+fn finish<M: Medium>(medium: &mut M) -> Result<(), MediumFault> {
+    medium.finish()
+}
+
 #[test]
 fn a_medium_in_memory_takes_a_piece_or_nothing_of_it(rt: HostRuntime) -> Result<(), Fail> {
     let failing = [2, 5].to_vec(rt.alloc())?;
     let mut medium = MemoryMedium::new(rt.alloc(), 5, failing)?;
-    assert_eq!(rt; medium.put(b"fre"), Ok(()));
-    assert_eq!(rt; medium.put(b"eze"), Err(MediumFault), "no room");
-    assert_eq!(rt; medium.put(b"e"), Err(MediumFault), "told to fail");
-    assert_eq!(rt; medium.put(b"e"), Ok(()));
-    assert_eq!(rt; medium.finish(), Ok(()));
-    assert_eq!(rt; medium.finish(), Err(MediumFault), "told to fail");
+    assert_eq!(rt; put(&mut medium, b"fre"), Ok(()));
+    assert_eq!(rt; put(&mut medium, b"eze"), Err(MediumFault), "no room");
+    assert_eq!(rt; put(&mut medium, b"e"), Err(MediumFault), "told to fail");
+    assert_eq!(rt; put(&mut medium, b"e"), Ok(()));
+    assert_eq!(rt; finish(&mut medium), Ok(()));
+    assert_eq!(rt; finish(&mut medium), Err(MediumFault), "told to fail");
     assert_eq!(rt; medium.text(), b"free".as_slice());
     Ok(())
 }
@@ -299,24 +397,43 @@ fn a_reel_in_memory_is_read_again(rt: HostRuntime) -> Result<(), Fail> {
     Ok(())
 }
 
+/// Puts two pieces into a new file and finishes it.
+fn finished(rt: &HostRuntime, path: &PathBuf) -> Result<[Result<(), MediumFault>; 3], Fail> {
+    let folder = File::open(rt, env::temp_dir(rt)?)?;
+    let mut medium = FileMedium::new(File::create(rt, path)?, folder);
+    let first = medium.put(b"fre");
+    Ok([first, medium.put(b"e"), medium.finish()])
+}
+
+/// How many bytes two reads of a reel give, and its first four. Then the reel is rewound.
+fn reeled<R: Reel>(reel: &mut R) -> Result<([usize; 2], [u8; 4]), ReelFault> {
+    let mut buf = [0; 8];
+    let first = reel.read(&mut buf)?;
+    let bytes = [buf[0], buf[1], buf[2], buf[3]];
+    let second = reel.read(&mut buf)?;
+    reel.rewind()?;
+    Ok(([first, second], bytes))
+}
+
+/// A piece for a file that is open for reads.
+fn put_refused(rt: &HostRuntime, path: &PathBuf) -> io::Result<Result<(), MediumFault>> {
+    let mut medium = FileMedium::new(File::open(rt, path)?, File::open(rt, path)?);
+    Ok(medium.put(b"e"))
+}
+
 #[test]
 fn a_file_is_a_medium_and_then_a_reel(rt: HostRuntime) -> Result<(), Fail> {
     let path = scratch(&rt, "dasd_pool_reel")?;
-    let folder = File::open(&rt, env::temp_dir(&rt)?)?;
-    let mut medium = FileMedium::new(File::create(&rt, &path)?, folder);
-    assert_eq!(rt; medium.put(b"fre"), Ok(()));
-    assert_eq!(rt; medium.put(b"e"), Ok(()));
-    assert_eq!(rt; medium.finish(), Ok(()));
+    assert_eq!(rt; finished(&rt, &path)?, [Ok(()); 3]);
     let mut reel = FileReel::new(File::open(&rt, &path)?);
-    let mut buf = [0; 8];
     for _ in 0..2 {
-        assert_eq!(rt; reel.read(&mut buf), Ok(4));
-        assert_eq!(rt; &buf[..4], b"free".as_slice());
-        assert_eq!(rt; reel.read(&mut buf), Ok(0));
-        assert_eq!(rt; reel.rewind(), Ok(()));
+        assert_eq!(rt; reeled(&mut reel), Ok(([4, 0], *b"free")));
     }
-    let mut medium = FileMedium::new(File::open(&rt, &path)?, File::open(&rt, &path)?);
-    assert_eq!(rt; medium.put(b"e"), Err(MediumFault), "not to be written");
+    assert_eq!(rt;
+        put_refused(&rt, &path)?,
+        Err(MediumFault),
+        "not to be written"
+    );
     fs::remove_file(&rt, &path)?;
     Ok(())
 }
