@@ -3,6 +3,7 @@ use rows_base::{
     RowsFault, SECOND, SLOT, Step, Vtoc, WITH_SET, WORDS_OF_TWO, journal, volume,
 };
 use std::alloc::Global;
+use std::process::Abort;
 use std::test::*;
 
 /// Where the bytes of the first DSCBs begin among those of the unit.
@@ -169,23 +170,37 @@ ADR103I (000) MAXIMUM CODE 4
     ..NOT_HELD
 };
 
-const ROWS: [Row; 5] = [CONDITION, HELD, NOT_HELD, LISTED, REPAIRED];
+static ROWS: [Row; 5] = [CONDITION, HELD, NOT_HELD, LISTED, REPAIRED];
+
+/// Runs a row.
+fn run_of(alloc: Global, row: &Row) -> Result<Ran, RowsFault> {
+    let job = Job {
+        words: row.words,
+        held: row.held,
+        ..Job::of_text(row.text)
+    };
+    Machine::of(alloc, row.given, 0)?.run(alloc, job)
+}
+
+/// Whether a unit is this volume after a run.
+fn leaves(alloc: Global, ran: &mut Ran, unit: u32, after: Given) -> Result<bool, RowsFault> {
+    ran.machine.holds(alloc, unit, &volume(alloc, after)?)
+}
+
+fn assert_row(rt: &impl Abort, alloc: Global, row: &Row) -> Result<(), RowsFault> {
+    let mut ran = run_of(alloc, row)?;
+    assert_eq!(rt; ran.status, row.status);
+    assert_eq!(rt; ran.lines.as_str(), row.lines);
+    assert_eq!(rt; steps_of(alloc, &ran)?.as_slice(), row.steps);
+    assert!(rt; ran.pending.is_none());
+    assert!(rt; leaves(alloc, &mut ran, 0, row.after)?);
+    Ok(())
+}
 
 #[test]
 fn each_text_ends_with_its_lines_and_steps(rt: HostRuntime) -> Result<(), Fail> {
-    for row in ROWS {
-        let job = Job {
-            words: row.words,
-            held: row.held,
-            ..Job::of_text(row.text)
-        };
-        let mut ran = Machine::of(rt.alloc(), row.given, 0)?.run(rt.alloc(), job)?;
-        assert_eq!(rt; ran.status, row.status);
-        assert_eq!(rt; ran.lines.as_str(), row.lines);
-        assert_eq!(rt; steps_of(rt.alloc(), &ran)?.as_slice(), row.steps);
-        assert!(rt; ran.pending.is_none());
-        let after = volume(rt.alloc(), row.after)?;
-        assert!(rt; ran.machine.holds(rt.alloc(), 0, &after)?);
+    for row in &ROWS {
+        assert_row(&rt, rt.alloc(), row)?;
     }
     Ok(())
 }
@@ -292,7 +307,9 @@ ADR103I (000) MAXIMUM CODE 12
 ";
 
 /// The first of two volumes, a text, and how a run of it ends that changes nothing.
-const LISTINGS: [(Given, &[u8], u8, &str); 3] = [
+type Listing = (Given, &'static [u8], u8, &'static str);
+
+static LISTINGS: [Listing; 3] = [
     (GIVEN, PRINT_BOTH, 0, BOTH_LISTED),
     (DAMAGED, PRINT_BOTH, 12, ONE_OFFLINE),
     (
@@ -311,16 +328,28 @@ fn over_two(text: &[u8]) -> Job<'_> {
     }
 }
 
+/// Runs a text over a volume and VOL002.
+fn run_over_two(alloc: Global, first: Given, text: &[u8]) -> Result<Ran, RowsFault> {
+    Machine::of_two(alloc, [first, SECOND])?.run(alloc, over_two(text))
+}
+
+fn assert_listing(
+    rt: &impl Abort,
+    alloc: Global,
+    (first, text, status, lines): Listing,
+) -> Result<(), RowsFault> {
+    let mut ran = run_over_two(alloc, first, text)?;
+    assert_eq!(rt; ran.status, status);
+    assert_eq!(rt; ran.lines.as_str(), lines);
+    assert!(rt; ran.steps.is_empty() && ran.pending.is_none());
+    assert!(rt; leaves(alloc, &mut ran, 0, first)?);
+    Ok(())
+}
+
 #[test]
 fn each_of_two_units_is_listed_by_itself(rt: HostRuntime) -> Result<(), Fail> {
-    for (first, text, status, lines) in LISTINGS {
-        let machine = Machine::of_two(rt.alloc(), [first, SECOND])?;
-        let mut ran = machine.run(rt.alloc(), over_two(text))?;
-        assert_eq!(rt; ran.status, status);
-        assert_eq!(rt; ran.lines.as_str(), lines);
-        assert!(rt; ran.steps.is_empty() && ran.pending.is_none());
-        let before = volume(rt.alloc(), first)?;
-        assert!(rt; ran.machine.holds(rt.alloc(), 0, &before)?);
+    for listing in &LISTINGS {
+        assert_listing(&rt, rt.alloc(), *listing)?;
     }
     Ok(())
 }
@@ -337,23 +366,37 @@ const FORMAT_WORDS: [&str; 8] = [
     "64",
 ];
 
-#[test]
-fn a_journal_is_made_for_two_volumes(rt: HostRuntime) -> Result<(), Fail> {
-    let zeros = journal(rt.alloc(), 68, &[])?;
-    let machine = Machine::new(rt.alloc(), &[GIVEN, SECOND], zeros, &[], 0)?;
+/// Makes a journal for both volumes, over one of zeros.
+fn made_for_two(alloc: Global) -> Result<Ran, RowsFault> {
+    let zeros = journal(alloc, 68, &[])?;
     let job = Job {
         words: &FORMAT_WORDS,
         ..Job::of_text(b"")
     };
-    let mut made = machine.run(rt.alloc(), job)?;
+    Machine::new(alloc, &[GIVEN, SECOND], zeros, &[], 0)?.run(alloc, job)
+}
+
+fn assert_made(rt: &impl Abort, alloc: Global, made: &mut Ran) -> Result<(), RowsFault> {
     assert_eq!(rt; made.status, 0);
     assert_eq!(rt;
         made.lines.as_str(),
         "ADR104I (000) JOURNAL FORMATTED UNITS 2 ROOM 64\n"
     );
-    let registered = journal(rt.alloc(), 68, &REGISTERED_TWO)?;
-    assert!(rt; made.machine.holds(rt.alloc(), 2, &registered)?);
-    let (status, lines) = made.machine.ends(rt.alloc(), over_two(PRINT_BOTH))?;
+    let registered = journal(alloc, 68, &REGISTERED_TWO)?;
+    assert!(rt; made.machine.holds(alloc, 2, &registered)?);
+    Ok(())
+}
+
+/// Status and lines of a listing of both volumes on what a run left.
+fn listed_after(alloc: Global, ran: Ran) -> Result<(u8, String), RowsFault> {
+    ran.machine.ends(alloc, over_two(PRINT_BOTH))
+}
+
+#[test]
+fn a_journal_is_made_for_two_volumes(rt: HostRuntime) -> Result<(), Fail> {
+    let mut made = made_for_two(rt.alloc())?;
+    assert_made(&rt, rt.alloc(), &mut made)?;
+    let (status, lines) = listed_after(rt.alloc(), made)?;
     assert_eq!(rt; status, 0);
     assert_eq!(rt; lines.as_str(), BOTH_LISTED);
     Ok(())
@@ -410,7 +453,7 @@ type Both = (
     Given,
 );
 
-const BOTH: [Both; 5] = [
+static BOTH: [Both; 5] = [
     (
         &[],
         &[],
@@ -463,18 +506,25 @@ fn release_both(alloc: Global, calls: &[u64], failing_writes: &[u64]) -> Result<
     machine.run(alloc, job)
 }
 
+fn assert_both(
+    rt: &impl Abort,
+    alloc: Global,
+    (calls, writes, status, lines, steps, pending, second): Both,
+) -> Result<(), RowsFault> {
+    let mut ran = release_both(alloc, calls, writes)?;
+    assert_eq!(rt; ran.status, status);
+    assert_eq!(rt; ran.lines.as_str(), lines);
+    assert_eq!(rt; steps_of(alloc, &ran)?.as_slice(), steps);
+    assert_eq!(rt; pending_of(&ran), pending);
+    assert!(rt; leaves(alloc, &mut ran, 0, SHRUNK)?);
+    assert!(rt; leaves(alloc, &mut ran, 1, second)?);
+    Ok(())
+}
+
 #[test]
 fn a_run_that_stops_keeps_what_was_done(rt: HostRuntime) -> Result<(), Fail> {
-    for (calls, writes, status, lines, steps, pending, second) in BOTH {
-        let mut ran = release_both(rt.alloc(), calls, writes)?;
-        assert_eq!(rt; ran.status, status);
-        assert_eq!(rt; ran.lines.as_str(), lines);
-        assert_eq!(rt; steps_of(rt.alloc(), &ran)?.as_slice(), steps);
-        assert_eq!(rt; pending_of(&ran), pending);
-        let first = volume(rt.alloc(), SHRUNK)?;
-        let second = volume(rt.alloc(), second)?;
-        assert!(rt; ran.machine.holds(rt.alloc(), 0, &first)?);
-        assert!(rt; ran.machine.holds(rt.alloc(), 1, &second)?);
+    for both in &BOTH {
+        assert_both(&rt, rt.alloc(), *both)?;
     }
     Ok(())
 }
