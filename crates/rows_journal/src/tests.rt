@@ -65,7 +65,7 @@ fn machine_of(alloc: Global, given: Given, place: Place) -> Result<Machine, Rows
 const ZEROS: Place = Place::Journal(68, &[]);
 
 /// Volumes and what stands where the journal is to be, and how the making of one with room 64 ends.
-const MAKINGS: [(Given, Place, u8, &str); 5] = [
+static MAKINGS: [(Given, Place, u8, &str); 5] = [
     (GIVEN, ZEROS, 0, FORMATTED),
     (
         GIVEN,
@@ -107,7 +107,7 @@ fn is_unwritten(
 
 #[test]
 fn a_journal_is_made_or_refused_with_one_line(rt: HostRuntime) -> Result<(), Fail> {
-    for (given, place, status, line) in MAKINGS {
+    for &(given, place, status, line) in &MAKINGS {
         let machine = machine_of(rt.alloc(), given, place)?;
         let mut ran = format_on(rt.alloc(), machine, "64")?;
         assert_eq!(rt; ran.status, status);

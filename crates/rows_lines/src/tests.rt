@@ -54,7 +54,7 @@ fn filled(front: &[u8]) -> [u8; 44] {
 }
 
 /// The first and the last line of statements, by their numbers, commands and codes.
-const STATEMENTS: [(u32, Verb, u8, &str, &str); 7] = [
+static STATEMENTS: [(u32, Verb, u8, &str, &str); 7] = [
     (
         1,
         Verb::Print,
@@ -108,7 +108,7 @@ const STATEMENTS: [(u32, Verb, u8, &str, &str); 7] = [
 
 #[test]
 fn statements_start_and_end(rt: HostRuntime) -> Result<(), Fail> {
-    for (statement, verb, code, started, ended) in STATEMENTS {
+    for &(statement, verb, code, started, ended) in &STATEMENTS {
         let line = line_of(rt.alloc(), statement, &Message::Started(verb))?;
         assert_eq!(rt; line.as_str(), started);
         let line = line_of(rt.alloc(), statement, &Message::Ended(verb, code))?;
@@ -158,7 +158,7 @@ fn volumes_are_told(rt: HostRuntime) -> Result<(), Fail> {
 }
 
 /// Data sets: the statement, the name, the organization, then extents, tracks and last block.
-const SETS: [(u32, &[u8], u16, (usize, u32, u16, u8), &str); 12] = [
+static SETS: [(u32, &[u8], u16, (usize, u32, u16, u8), &str); 12] = [
     (
         1,
         A_B,
@@ -248,7 +248,13 @@ const SETS: [(u32, &[u8], u16, (usize, u32, u16, u8), &str); 12] = [
 
 #[test]
 fn data_sets_are_told(rt: HostRuntime) -> Result<(), Fail> {
-    for (statement, name, organization, (extents, tracks, last_track, last_record), want) in SETS {
+    for &(
+        statement,
+        name,
+        organization,
+        (extents, tracks, last_track, last_record),
+        want,
+    ) in &SETS {
         let set = SetSummary {
             name: filled(name),
             organization,
@@ -347,7 +353,7 @@ fn copies_are_told(rt: HostRuntime) -> Result<(), Fail> {
 }
 
 /// Why a data set isn't processed, and how grave that is.
-const REASONS: [(&[u8], Reason, Severity, &str); 11] = [
+static REASONS: [(&[u8], Reason, Severity, &str); 11] = [
     (
         A_B,
         Reason::Held,
@@ -418,7 +424,7 @@ const REASONS: [(&[u8], Reason, Severity, &str); 11] = [
 
 #[test]
 fn each_reason_has_its_number_and_words(rt: HostRuntime) -> Result<(), Fail> {
-    for (name, reason, severity, want) in REASONS {
+    for &(name, reason, severity, want) in &REASONS {
         let message = Message::NotProcessed(filled(name), reason, severity);
         let line = line_of(rt.alloc(), 1, &message)?;
         assert_eq!(rt; line.as_str(), want);
@@ -442,7 +448,7 @@ fn units_are_offline(rt: HostRuntime) -> Result<(), Fail> {
 }
 
 /// The words of the rules of a VTOC by their numbers.
-const RULES: [(u8, &str); 10] = [
+static RULES: [(u8, &str); 10] = [
     (1, "NO FORMAT 4"),
     (2, "GEOMETRY"),
     (3, "VTOC EXTENT"),
@@ -457,7 +463,7 @@ const RULES: [(u8, &str); 10] = [
 
 #[test]
 fn the_rule_that_a_vtoc_breaks_is_told(rt: HostRuntime) -> Result<(), Fail> {
-    for (rule, words) in RULES {
+    for &(rule, words) in &RULES {
         let message = Message::Offline(VOL001, Why::Vtoc(1, 4, rule));
         let line = line_of(rt.alloc(), 1, &message)?;
         let want = format!(in rt.alloc(); "ADR401T (001) UNIT VOL001 OFFLINE: VTOC 1 4 {words}\n")?;

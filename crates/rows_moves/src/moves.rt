@@ -2,10 +2,10 @@
 
 use crate::ground::{BEGINNING, begun, pool_of};
 use crate::plans::{Put, Wanted, carry_out, plan_for};
-use crate::seen::{B, C, D, Seen, both_seen, one, run, texts_stand, with};
-use crate::volumes::{SMALL, SPREAD, TARGET, UNREADABLE};
+use crate::seen::{B, C, D, Moved, Seen, both_seen, one, run, texts_stand, with};
+use crate::volumes::{SMALL, SPREAD, TARGET, TEN_TRACKS, UNREADABLE};
 use dasd_pool::{MemoryPool, Pool};
-use rows_bytes::{Given, RowsFault, WITH_SET, volume};
+use rows_bytes::{Given, RowsFault, volume};
 use std::alloc::Global;
 use std::test::*;
 use unit_session::{PlanFault, PlanStop, Session};
@@ -27,6 +27,35 @@ fn done(
     }
 }
 
+/// What is seen of both volumes, and whether texts of the first, as it was given, stand on a unit.
+type Looked = ([Option<Seen>; 2], bool);
+
+fn looked_at(
+    alloc: Global,
+    session: &mut Session<MemoryPool>,
+    given: Given,
+    unit: u32,
+    texts: &[Moved],
+) -> Result<Looked, RowsFault> {
+    let seen = both_seen(session);
+    let given = volume(alloc, given)?;
+    Ok((seen, texts_stand(alloc, session, unit, &given, texts)?))
+}
+
+/// The same once what is wanted is done.
+fn looked_after(
+    alloc: Global,
+    given: Given,
+    wanted: Wanted,
+    unit: u32,
+    texts: &[Moved],
+) -> Result<Option<Looked>, RowsFault> {
+    match done(alloc, given, wanted)? {
+        Some(mut session) => Ok(Some(looked_at(alloc, &mut session, given, unit, texts)?)),
+        None => Ok(None),
+    }
+}
+
 /// VOL002 as it was given.
 fn target_given() -> Option<Seen> {
     with([one(C, 2, 2, 2), None], [run(3, 12), None])
@@ -36,77 +65,63 @@ fn target_given() -> Option<Seen> {
 /// commit, of the VTOC's one track: its image, the directory, a sync; the gate opens, a sync; the track, a sync; the gate closes, a sync.
 const JOINING: u64 = 3 + (3 + 3) + 1 + (1 + 1 + 1) + (1 + 1) + (1 + 1) + (1 + 1);
 
+/// The pool once the three extents are joined.
+fn joined(alloc: Global) -> Result<Option<MemoryPool>, RowsFault> {
+    match done(alloc, SPREAD, Wanted::Join)? {
+        Some(session) => Ok(Some(session.into_pool())),
+        None => Ok(None),
+    }
+}
+
 #[test]
 fn three_extents_are_joined_in_nineteen_calls(rt: HostRuntime) -> Result<(), Fail> {
-    let Some(session) = done(rt.alloc(), SPREAD, Wanted::Join)? else {
-        assert!(rt; false, "A.B wasn't joined");
-        return Ok(());
-    };
-    let pool = session.into_pool();
+    let pool = joined(rt.alloc())?.expect(&rt, "A.B wasn't joined");
     assert_eq!(rt; pool.calls(), BEGINNING + JOINING);
-    let Some(mut session) = begun(rt.alloc(), pool) else {
-        assert!(rt; false, "no session");
-        return Ok(());
-    };
+    let mut session = begun(rt.alloc(), pool).expect(&rt, "no session");
     // The lowest three free tracks in a row begin at 7, and tracks 2, 4 and 6 are free.
     let first = with([one(B, 1, 7, 9), None], [run(2, 5), run(10, 5)]);
-    assert_eq!(rt; both_seen(&session), [first, target_given()]);
-    let given = volume(rt.alloc(), SPREAD)?;
     let texts = [(2, 7), (4, 8), (6, 9)];
-    assert!(rt; texts_stand(rt.alloc(), &mut session, 0, &given, &texts)?);
+    let (seen, stand) = looked_at(rt.alloc(), &mut session, SPREAD, 0, &texts)?;
+    assert_eq!(rt; seen, [first, target_given()]);
+    assert!(rt; stand);
     Ok(())
 }
 
 #[test]
 fn a_copy_stands_beside_its_origin(rt: HostRuntime) -> Result<(), Fail> {
-    let put = Put {
+    let copy = Wanted::Copy(Put {
         unit: 0,
         name: b"A.D",
         replaced: false,
-    };
-    let Some(mut session) = done(rt.alloc(), SMALL, Wanted::Copy(put))? else {
-        assert!(rt; false, "A.B wasn't copied");
-        return Ok(());
-    };
-    let first = with([one(B, 1, 2, 4), one(D, 1, 5, 7)], [run(8, 7), None]);
-    assert_eq!(rt; both_seen(&session), [first, target_given()]);
-    let given = volume(rt.alloc(), SMALL)?;
+    });
     let texts = [(2, 2), (3, 3), (4, 4), (2, 5), (3, 6), (4, 7)];
-    assert!(rt; texts_stand(rt.alloc(), &mut session, 0, &given, &texts)?);
+    let looked = looked_after(rt.alloc(), SMALL, copy, 0, &texts)?;
+    let (seen, stand) = looked.expect(&rt, "A.B wasn't copied");
+    let first = with([one(B, 1, 2, 4), one(D, 1, 5, 7)], [run(8, 7), None]);
+    assert_eq!(rt; seen, [first, target_given()]);
+    assert!(rt; stand);
     Ok(())
 }
 
 #[test]
 fn a_copy_stands_in_the_place_of_another(rt: HostRuntime) -> Result<(), Fail> {
-    let put = Put {
+    let copy = Wanted::Copy(Put {
         unit: 1,
         name: b"A.C",
         replaced: true,
-    };
-    let Some(mut session) = done(rt.alloc(), SMALL, Wanted::Copy(put))? else {
-        assert!(rt; false, "A.B wasn't copied");
-        return Ok(());
-    };
+    });
+    let looked = looked_after(rt.alloc(), SMALL, copy, 1, &[(2, 3), (3, 4), (4, 5)])?;
+    let (seen, stand) = looked.expect(&rt, "A.B wasn't copied");
     // Track 2 of VOL002, where A.C stood, is free.
     let first = with([one(B, 1, 2, 4), None], [run(5, 10), None]);
     let second = with([one(C, 2, 3, 5), None], [run(2, 1), run(6, 9)]);
-    assert_eq!(rt; both_seen(&session), [first, second]);
-    let given = volume(rt.alloc(), SMALL)?;
-    let texts = [(2, 3), (3, 4), (4, 5)];
-    assert!(rt; texts_stand(rt.alloc(), &mut session, 1, &given, &texts)?);
+    assert_eq!(rt; seen, [first, second]);
+    assert!(rt; stand);
     Ok(())
 }
 
 #[test]
 fn ten_tracks_are_carried(rt: HostRuntime) -> Result<(), Fail> {
-    let Some(mut session) = done(rt.alloc(), WITH_SET, Wanted::Carry)? else {
-        assert!(rt; false, "A.B wasn't carried");
-        return Ok(());
-    };
-    let first = with([None, None], [run(2, 13), None]);
-    let second = with([one(B, 2, 3, 12), one(C, 2, 2, 2)], [run(13, 2), None]);
-    assert_eq!(rt; both_seen(&session), [first, second]);
-    let given = volume(rt.alloc(), WITH_SET)?;
     let texts = [
         (2, 3),
         (3, 4),
@@ -119,7 +134,12 @@ fn ten_tracks_are_carried(rt: HostRuntime) -> Result<(), Fail> {
         (10, 11),
         (11, 12),
     ];
-    assert!(rt; texts_stand(rt.alloc(), &mut session, 1, &given, &texts)?);
+    let looked = looked_after(rt.alloc(), TEN_TRACKS, Wanted::Carry, 1, &texts)?;
+    let (seen, stand) = looked.expect(&rt, "A.B wasn't carried");
+    let first = with([None, None], [run(2, 13), None]);
+    let second = with([one(B, 2, 3, 12), one(C, 2, 2, 2)], [run(13, 2), None]);
+    assert_eq!(rt; seen, [first, second]);
+    assert!(rt; stand);
     Ok(())
 }
 
@@ -134,14 +154,9 @@ fn refused<P: Pool + Drop>(alloc: Global, session: Session<P>) -> Option<(Sessio
 
 #[test]
 fn a_track_without_a_text_refuses_a_plan(rt: HostRuntime) -> Result<(), Fail> {
-    let Some(session) = session_over(rt.alloc(), UNREADABLE)? else {
-        assert!(rt; false, "no session");
-        return Ok(());
-    };
-    let Some((session, fault)) = refused(rt.alloc(), session) else {
-        assert!(rt; false, "the plan wasn't refused");
-        return Ok(());
-    };
+    let session = session_over(rt.alloc(), UNREADABLE)?.expect(&rt, "no session");
+    let refused = refused(rt.alloc(), session);
+    let (session, fault) = refused.expect(&rt, "the plan wasn't refused");
     assert_eq!(rt; fault, PlanFault::Bad(0, 3));
     // Tracks 2 and 3 were looked at, and nothing was written.
     assert_eq!(rt; session.into_pool().calls(), BEGINNING + 2);

@@ -3,7 +3,7 @@
 use rows_bytes::{BASE, GIVEN, Given, SLOT, Vtoc, WITH_SET};
 
 /// VOL001 with A.B on tracks 2 to 4; tracks 5 to 14 are free.
-pub const SMALL: Given = Given {
+const THREE_TRACKS: Given = Given {
     vtoc: Vtoc {
         entries: &[(5, 10)],
         ..BASE
@@ -12,8 +12,13 @@ pub const SMALL: Given = Given {
     ..WITH_SET
 };
 
+pub static SMALL: Given = THREE_TRACKS;
+
+/// VOL001 with A.B on tracks 2 to 11; tracks 12 to 14 are free.
+pub static TEN_TRACKS: Given = WITH_SET;
+
 /// VOL001 with A.B on tracks 2, 4 and 6, each an extent of its own; tracks 3, 5, and 7 to 14 are free.
-pub const SPREAD: Given = Given {
+pub static SPREAD: Given = Given {
     vtoc: Vtoc {
         entries: &[(3, 1), (5, 1), (7, 8)],
         ..BASE
@@ -34,13 +39,13 @@ pub const SPREAD: Given = Given {
 };
 
 /// VOL001 with A.B on tracks 2 to 4, of which track 3 has a record with the address of another track.
-pub const UNREADABLE: Given = Given {
+pub static UNREADABLE: Given = Given {
     blocks: &[(SLOT + 439, 4), (3 * SLOT + 24, 9)],
-    ..SMALL
+    ..THREE_TRACKS
 };
 
 /// VOL002 with A.C on track 2; tracks 3 to 14 are free.
-pub const TARGET: Given = Given {
+pub static TARGET: Given = Given {
     vtoc: Vtoc {
         entries: &[(3, 12)],
         ..BASE

@@ -33,7 +33,7 @@ fn told(alloc: Global, words: &[Word]) -> Result<(char, usize, usize, usize, boo
 
 const REFUSED: (char, usize, usize, usize, bool, u32) = ('-', 0, 0, 0, false, 0);
 
-const RUNS: [(&str, (char, usize, usize, usize, bool, u32)); 17] = [
+static RUNS: [(&str, (char, usize, usize, usize, bool, u32)); 17] = [
     ("--unit A=a --journal j --sysin s", ('J', 1, 0, 0, false, 0)),
     ("--sysin s --journal j --unit A=a", ('J', 1, 0, 0, false, 0)),
     ("--unit=A=a --journal=j --sysin=s", ('J', 1, 0, 0, false, 0)),
@@ -88,14 +88,14 @@ const RUNS: [(&str, (char, usize, usize, usize, bool, u32)); 17] = [
 
 #[test]
 fn words_name_runs(rt: HostRuntime) -> Result<(), NoMemory> {
-    for (row, wanted) in RUNS {
+    for &(row, wanted) in &RUNS {
         let words = words_of(rt.alloc(), row)?;
         assert_eq!(rt; told(rt.alloc(), words.as_slice())?, wanted);
     }
     Ok(())
 }
 
-const NO_RUNS: [&str; 34] = [
+static NO_RUNS: [&str; 34] = [
     "",
     "--",
     "--help",
@@ -134,7 +134,7 @@ const NO_RUNS: [&str; 34] = [
 
 #[test]
 fn other_words_name_no_run(rt: HostRuntime) -> Result<(), NoMemory> {
-    for row in NO_RUNS {
+    for &row in &NO_RUNS {
         let words = words_of(rt.alloc(), row)?;
         assert_eq!(rt; told(rt.alloc(), words.as_slice())?, REFUSED);
     }

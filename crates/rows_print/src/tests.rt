@@ -75,7 +75,7 @@ ADR103I (000) MAXIMUM CODE 0
 ";
 
 /// Volumes that have more than the simplest form, and their listings.
-const OTHERS: [(Given, &str); 4] = [
+static OTHERS: [(Given, &str); 4] = [
     // with an index
     (
         Given {
@@ -143,7 +143,7 @@ const OTHERS: [(Given, &str); 4] = [
 
 #[test]
 fn a_volume_of_another_form_is_listed(rt: HostRuntime) -> Result<(), Fail> {
-    for (given, want) in OTHERS {
+    for &(given, want) in &OTHERS {
         let (status, lines) = ends(rt.alloc(), TEXT, given)?;
         assert_eq!(rt; status, 0);
         assert_eq!(rt; lines.as_str(), want);
@@ -152,7 +152,7 @@ fn a_volume_of_another_form_is_listed(rt: HostRuntime) -> Result<(), Fail> {
 }
 
 /// Volumes with a data set on tracks 2 to 11, and their listings.
-const SETS: [(Given, &str); 4] = [
+static SETS: [(Given, &str); 4] = [
     (
         Given {
             last: Some([0, 2, 3]),
@@ -221,7 +221,7 @@ const SETS: [(Given, &str); 4] = [
 
 #[test]
 fn a_volume_with_a_data_set_is_listed(rt: HostRuntime) -> Result<(), Fail> {
-    for (given, want) in SETS {
+    for &(given, want) in &SETS {
         let (status, lines) = ends(rt.alloc(), TEXT, given)?;
         assert_eq!(rt; status, 0);
         assert_eq!(rt; lines.as_str(), want);
@@ -230,7 +230,7 @@ fn a_volume_with_a_data_set_is_listed(rt: HostRuntime) -> Result<(), Fail> {
 }
 
 /// A VTOC, and how its volume is told.
-const VOLUMES: [(Vtoc, &str); 5] = [
+static VOLUMES: [(Vtoc, &str); 5] = [
     // as a utility makes it that writes 12 records
     (
         Vtoc {
@@ -277,7 +277,7 @@ const VOLUMES: [(Vtoc, &str); 5] = [
 
 #[test]
 fn each_volume_of_the_form_is_listed_with_its_free_space(rt: HostRuntime) -> Result<(), Fail> {
-    for (vtoc, want) in VOLUMES {
+    for &(vtoc, want) in &VOLUMES {
         let (status, lines) = ends(rt.alloc(), TEXT, Given { vtoc, ..GIVEN })?;
         assert_eq!(rt; status, 0);
         assert_eq!(rt; lines.lines().nth(1), Some(want));
@@ -364,7 +364,7 @@ fn other_vtocs_are_offline(rt: HostRuntime) -> Result<(), Fail> {
 }
 
 /// Entries that don't state the free tracks 2 to 14.
-const WRONG_ENTRIES: [&[(u8, u8)]; 5] = [
+static WRONG_ENTRIES: [&[(u8, u8)]; 5] = [
     &[(1, 14)], // the VTOC
     &[(3, 12)], // track 2 is neither used nor free
     &[(2, 14)], // a track past the end
@@ -374,7 +374,7 @@ const WRONG_ENTRIES: [&[(u8, u8)]; 5] = [
 
 #[test]
 fn a_volume_whose_free_tracks_are_stated_wrongly_is_offline(rt: HostRuntime) -> Result<(), Fail> {
-    for entries in WRONG_ENTRIES {
+    for &entries in &WRONG_ENTRIES {
         let given = Given {
             vtoc: Vtoc { entries, ..BASE },
             ..GIVEN

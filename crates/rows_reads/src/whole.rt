@@ -127,7 +127,7 @@ fn another_byte_of_data_is_another_digest(rt: HostRuntime) -> Result<(), Fail> {
 }
 
 /// Another byte at a place of the dump of one part: the offset and the number of the refusal.
-const LOGICAL: [(usize, u8, u64, u8); 22] = [
+static LOGICAL: [(usize, u8, u64, u8); 22] = [
     (0, 0x42, 0, 1),
     (8, 0x4d, 8, 2),
     (9, 0x91, 9, 3),
@@ -160,7 +160,7 @@ fn each_field_of_a_logical_dump_has_its_refusal(rt: HostRuntime) -> Result<(), F
 }
 
 /// The same of a full dump.
-const FULL: [(usize, u8, u64, u8); 10] = [
+static FULL: [(usize, u8, u64, u8); 10] = [
     (27, 0x02, 32, 9),
     (36, 0x01, 33, 8),
     (37, 0x01, 37, 7),

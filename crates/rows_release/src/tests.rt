@@ -1,5 +1,6 @@
 use rows_base::{Change, Dsn, Given, Job, Machine, Ran, RowsFault, SLOT, Step, WITH_SET, volume};
 use std::alloc::Global;
+use std::process::Abort;
 use std::test::*;
 
 const RELEASE: &[u8] = b" RELEASE DATASET(INCLUDE(A.B)) DDNAME(VOL001)\n";
@@ -86,7 +87,7 @@ const UNUSED: Given = Given {
 };
 
 /// The one run of free tracks began at 12 and had 3, and the extent ended at 11.
-const SHRUNK: [Shrunk; 2] = [
+static SHRUNK: [Shrunk; 2] = [
     (
         WITH_SET,
         SEVEN_RELEASED,
@@ -133,17 +134,42 @@ fn left(
     Ok((changed, is_after))
 }
 
+/// Runs a text over a volume.
+fn run_over(alloc: Global, given: Given, text: &[u8]) -> Result<Ran, RowsFault> {
+    Machine::of(alloc, given, 0)?.run(alloc, Job::of_text(text))
+}
+
+/// Asserts that one block of the volume changed, and that it is this volume now.
+fn assert_left(
+    rt: &impl Abort,
+    alloc: Global,
+    machine: &mut Machine,
+    before: Given,
+    after: Given,
+) -> Result<(), RowsFault> {
+    let (changed, is_after) = left(alloc, machine, before, after)?;
+    assert_eq!(rt; changed.as_slice(), [1].as_slice());
+    assert!(rt; is_after);
+    Ok(())
+}
+
+fn assert_shrunk(
+    rt: &impl Abort,
+    alloc: Global,
+    (given, lines, keep, after): Shrunk,
+) -> Result<(), RowsFault> {
+    let mut ran = run_over(alloc, given, RELEASE)?;
+    assert_eq!(rt; ran.status, 0);
+    assert_eq!(rt; ran.lines.as_str(), lines);
+    assert_eq!(rt; kept_by_run(&ran), Some(keep));
+    assert!(rt; ran.pending.is_none());
+    assert_left(rt, alloc, &mut ran.machine, given, after)
+}
+
 #[test]
 fn a_release_gives_back_the_unused_tracks(rt: HostRuntime) -> Result<(), Fail> {
-    for (given, lines, keep, after) in SHRUNK {
-        let mut ran = Machine::of(rt.alloc(), given, 0)?.run(rt.alloc(), Job::of_text(RELEASE))?;
-        assert_eq!(rt; ran.status, 0);
-        assert_eq!(rt; ran.lines.as_str(), lines);
-        assert_eq!(rt; kept_by_run(&ran), Some(keep));
-        assert!(rt; ran.pending.is_none());
-        let (changed, is_after) = left(rt.alloc(), &mut ran.machine, given, after)?;
-        assert_eq!(rt; changed.as_slice(), [1].as_slice());
-        assert!(rt; is_after);
+    for shrunk in &SHRUNK {
+        assert_shrunk(&rt, rt.alloc(), *shrunk)?;
     }
     Ok(())
 }
@@ -156,7 +182,7 @@ fn with(blocks: &'static [Change]) -> Given {
 /// A text and a volume, and how a run ends that changes nothing.
 type Unchanged = (&'static [u8], &'static [Change], u8, &'static str);
 
-const UNCHANGED: [Unchanged; 6] = [
+static UNCHANGED: [Unchanged; 6] = [
     // all tracks are used
     (
         RELEASE,
@@ -175,19 +201,25 @@ const UNCHANGED: [Unchanged; 6] = [
     (RELEASE, &[(6 * SLOT + 4, 7)], 8, BAD_TRACK),
 ];
 
+fn assert_unchanged(
+    rt: &impl Abort,
+    alloc: Global,
+    (text, blocks, status, want): Unchanged,
+) -> Result<(), RowsFault> {
+    let given = with(blocks);
+    let mut ran = run_over(alloc, given, text)?;
+    assert_eq!(rt; ran.status, status);
+    assert_eq!(rt; ran.lines.as_str(), want);
+    assert!(rt; ran.steps.is_empty());
+    assert!(rt; ran.pending.is_none());
+    assert!(rt; ran.machine.holds(alloc, 0, &volume(alloc, given)?)?);
+    Ok(())
+}
+
 #[test]
 fn other_releases_change_nothing(rt: HostRuntime) -> Result<(), Fail> {
-    for (text, blocks, status, want) in UNCHANGED {
-        let given = with(blocks);
-        let mut ran = Machine::of(rt.alloc(), given, 0)?.run(rt.alloc(), Job::of_text(text))?;
-        assert_eq!(rt; ran.status, status);
-        assert_eq!(rt; ran.lines.as_str(), want);
-        assert!(rt; ran.steps.is_empty());
-        assert!(rt; ran.pending.is_none());
-        assert!(rt;
-            ran.machine
-                .holds(rt.alloc(), 0, &volume(rt.alloc(), given)?)?
-        );
+    for unchanged in &UNCHANGED {
+        assert_unchanged(&rt, rt.alloc(), *unchanged)?;
     }
     Ok(())
 }
@@ -238,9 +270,7 @@ fn a_release_is_done_whose_lines_are_lost(rt: HostRuntime) -> Result<(), Fail> {
 fn a_release_whose_lines_are_lost_is_there_afterwards(rt: HostRuntime) -> Result<(), Fail> {
     let mut machine = released_in_silence(rt.alloc())?.machine;
     let [(before, _, _, after), _] = SHRUNK;
-    let (changed, is_after) = left(rt.alloc(), &mut machine, before, after)?;
-    assert_eq!(rt; changed.as_slice(), [1].as_slice());
-    assert!(rt; is_after);
+    assert_left(&rt, rt.alloc(), &mut machine, before, after)?;
     let (_, lines) = machine.ends(rt.alloc(), Job::of_text(b" PRINT VTOC INDDNAME(VOL001)"))?;
     assert_eq!(rt; lines.as_str(), AFTER);
     Ok(())

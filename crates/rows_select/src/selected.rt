@@ -7,6 +7,7 @@ use dasd_pool::Pool;
 use dsn_filter::{Dsn, NameFault, Pattern};
 use job_select::select;
 use std::alloc::Global;
+use std::process::Abort;
 use std::test::*;
 use sysin_lang::{Filter, Patterns};
 use unit_load::UnitState;
@@ -15,7 +16,7 @@ use unit_session::Session;
 const TODAY: Day = Day { year: 2024, day: 1 };
 
 /// B.X, A.C, A..B and A.B in this order, C that is partitioned and may be changed, and a name in small letters.
-const SETS: [Given<'_>; 6] = [
+static SETS: [Given<'_>; 6] = [
     Given {
         name: &[0xc2, 0x4b, 0xe7],
         bytes: &[(82, 0x40)],
@@ -56,7 +57,7 @@ struct Case {
     names: &'static [&'static [u8]],
 }
 
-const CASES: [Case; 12] = [
+static CASES: [Case; 12] = [
     Case {
         include: &[],
         exclude: &[],
@@ -168,25 +169,33 @@ fn names(alloc: Global, texts: &[&[u8]]) -> Result<Listed<Dsn>, NameFault> {
     Ok(names)
 }
 
+fn filter_of(alloc: Global, case: &Case) -> Result<Filter, NameFault> {
+    Ok(Filter {
+        include: patterns(alloc, case.include)?,
+        exclude: patterns(alloc, case.exclude)?,
+        by: criteria(alloc, case.by),
+    })
+}
+
+fn assert_takes<P: Pool>(
+    rt: &impl Abort,
+    alloc: Global,
+    session: &Session<P>,
+    case: &Case,
+) -> Result<(), NameFault> {
+    let filter = filter_of(alloc, case)?;
+    let found = taken(alloc, session, &filter).expect(rt, "nothing is selected");
+    let wanted = names(alloc, case.names)?;
+    assert_eq!(rt; found.as_slice(), wanted.as_slice());
+    Ok(())
+}
+
 #[test]
 fn a_filter_takes_the_names_that_pass_it_in_their_order(rt: HostRuntime) -> Result<(), Fail> {
     let pool = pool_of(rt.alloc(), &SETS)?;
-    let Ok(session) = begun(rt.alloc(), pool) else {
-        assert!(rt; false, "no session");
-        return Ok(());
-    };
+    let session = begun(rt.alloc(), pool).ok().expect(&rt, "no session");
     for case in &CASES {
-        let filter = Filter {
-            include: patterns(rt.alloc(), case.include)?,
-            exclude: patterns(rt.alloc(), case.exclude)?,
-            by: criteria(rt.alloc(), case.by),
-        };
-        let Some(found) = taken(rt.alloc(), &session, &filter) else {
-            assert!(rt; false, "nothing is selected");
-            return Ok(());
-        };
-        let wanted = names(rt.alloc(), case.names)?;
-        assert_eq!(rt; found.as_slice(), wanted.as_slice());
+        assert_takes(&rt, rt.alloc(), &session, case)?;
     }
     Ok(())
 }

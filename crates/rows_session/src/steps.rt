@@ -19,7 +19,7 @@ use unit_steps::Plan;
 use vtoc_core::Volume;
 
 /// A registration of both names with room for three blocks.
-const BOTH: [Change; 22] = [
+static BOTH: [Change; 22] = [
     (0, b'A'),
     (1, b'D'),
     (2, b'R'),
@@ -45,13 +45,13 @@ const BOTH: [Change; 22] = [
 ];
 
 /// VOL002, whose free space isn't stated: a change was interrupted.
-const MARKED: Given = Given {
+static MARKED: Given = Given {
     blocks: &[(234, 0xf2), (SLOT + 87, 4)],
     ..SECOND
 };
 
 /// VOL001 once A.B has its first three tracks alone: the one free run begins at 5 and has 10 tracks, and the extent of A.B ends at 4.
-const SHRUNK: Given = Given {
+static SHRUNK: Given = Given {
     blocks: &[(SLOT + 182, 5), (SLOT + 185, 10), (SLOT + 439, 4)],
     ..WITH_SET
 };
@@ -65,7 +65,7 @@ enum Wanted {
 }
 
 /// A.B is shrunk, then VOL002 is repaired, then A.B is deleted.
-const CHAIN: [Wanted; 3] = [Wanted::Shrink, Wanted::Repair, Wanted::Delete];
+static CHAIN: [Wanted; 3] = [Wanted::Shrink, Wanted::Repair, Wanted::Delete];
 
 /// The calls of a beginning: a sync, three blocks of the journal and both labels when it is opened, and label and VTOC of each unit.
 const BEGINNING: u64 = 10;
@@ -76,7 +76,7 @@ const STEP: u64 = 10;
 /// The one of them that opens the gate.
 const OPENING: u64 = 5;
 
-const TEARS: [Tear; 4] = [Tear::Old, Tear::New, Tear::Zero, Tear::Half];
+static TEARS: [Tear; 4] = [Tear::Old, Tear::New, Tear::Zero, Tear::Half];
 
 /// The plan of a step on a volume.
 fn plan_on(alloc: Global, wanted: Wanted, unit: u32, volume: &Volume, name: Dsn) -> Option<Plan>
@@ -168,7 +168,7 @@ fn carry_out<P: Pool + Drop>(
 /// Carries the chain out.
 fn carry_all<P: Pool + Drop>(alloc: Global, session: Session<P>) -> Carried<Session<P>> {
     let mut session = session;
-    for wanted in CHAIN {
+    for &wanted in &CHAIN {
         session = match carry_out(alloc, session, wanted) {
             Carried::Done(next) => next,
             Carried::Cut(pending) => return Carried::Cut(pending),
@@ -322,15 +322,20 @@ fn is_right(alloc: Global, pool: &MemoryPool, stop: Stop) -> Result<bool, RowsFa
     )
 }
 
+/// The pool once the whole chain is carried out.
+fn whole_chain(alloc: Global) -> Result<Option<MemoryPool>, RowsFault> {
+    match run_chain(alloc, &[])? {
+        Carried::Done(pool) => Ok(Some(pool)),
+        _ => Ok(None),
+    }
+}
+
 #[test]
 fn a_chain_is_after_a_prefix_of_its_steps_wherever_it_stops(rt: HostRuntime) -> Result<(), Fail> {
-    let Carried::Done(pool) = run_chain(rt.alloc(), &[])? else {
-        assert!(rt; false, "the chain wasn't carried out");
-        return Ok(());
-    };
+    let pool = whole_chain(rt.alloc())?.expect(&rt, "the chain wasn't carried out");
     assert_eq!(rt; pool.calls(), BEGINNING + 3 * STEP);
     for calls in BEGINNING..=BEGINNING + 3 * STEP {
-        for tear in TEARS {
+        for &tear in &TEARS {
             let stop = Stop { calls, tear };
             assert!(rt; is_right(rt.alloc(), &pool, stop)?, "{stop:?}");
         }

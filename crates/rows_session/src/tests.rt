@@ -3,6 +3,7 @@ use dasd_pool::{MemoryPool, Pool};
 use redo_core::*;
 use rows_bytes::{Given, RowsFault, SLOT, WITH_SET, volume};
 use std::alloc::Global;
+use std::process::Abort;
 use std::test::*;
 use unit_load::UnitState;
 use unit_session::Session;
@@ -11,7 +12,7 @@ use volume_model::Why;
 use vtoc_core::Volume;
 
 /// The volume with A.B, of whose label the key has another first byte.
-const BROKEN: Given = Given {
+static BROKEN: Given = Given {
     blocks: &[(221, 0)],
     ..WITH_SET
 };
@@ -109,27 +110,29 @@ fn started<P: Pool + Drop>(
     }
 }
 
-#[test]
-fn a_session_has_each_unit_as_it_was_loaded(rt: HostRuntime) -> Result<(), Fail> {
-    let pool = pool_with(rt.alloc(), WITH_SET, BROKEN, &[])?;
-    let Ok(mut session) = started(rt.alloc(), pool, &NAMES) else {
-        assert!(rt; false, "no session");
-        return Ok(());
-    };
+fn assert_units(rt: &impl Abort, session: &Session<MemoryPool>) {
     assert_eq!(rt; session.units(), 2);
     assert_eq!(rt; session.room(), 3);
     for unit in 0..2 {
-        assert_eq!(rt; name_of(&session, unit), Some(NAMES[unit as usize]));
-        assert_eq!(rt; tracks_of(&session, unit), 15);
+        assert_eq!(rt; name_of(session, unit), Some(NAMES[unit as usize]));
+        assert_eq!(rt; tracks_of(session, unit), 15);
     }
     let volume_1 = Seen::Online(NAMES[0], [0xc1, 0x4b, 0xc2, 0x40], [15, 1, 3, 50, 47, 1]);
-    assert_eq!(rt; unit_seen(&session, 0), volume_1);
-    assert_eq!(rt; unit_seen(&session, 1), Seen::Offline(Why::Label(2)));
-    assert_eq!(rt; unit_seen(&session, 2), Seen::Missing);
-    let given = volume(rt.alloc(), WITH_SET)?;
+    assert_eq!(rt; unit_seen(session, 0), volume_1);
+    assert_eq!(rt; unit_seen(session, 1), Seen::Offline(Why::Label(2)));
+    assert_eq!(rt; unit_seen(session, 2), Seen::Missing);
+}
+
+/// Asserts that the tracks of unit 0 are those of the volume with A.B.
+fn assert_slots(
+    rt: &impl Abort,
+    alloc: Global,
+    session: &mut Session<MemoryPool>,
+) -> Result<(), RowsFault> {
+    let given = volume(alloc, WITH_SET)?;
     let mut track = 0u32;
     for bytes in given.blocks.as_slice().chunks(SLOT) {
-        let slot = slot_of(rt.alloc(), &mut session, 0, track)?;
+        let slot = slot_of(alloc, session, 0, track)?;
         assert!(rt; slot.as_slice() == bytes, "track {track}");
         track = track.saturating_add(1);
     }
@@ -138,19 +141,36 @@ fn a_session_has_each_unit_as_it_was_loaded(rt: HostRuntime) -> Result<(), Fail>
 }
 
 #[test]
+fn a_session_has_each_unit_as_it_was_loaded(rt: HostRuntime) -> Result<(), Fail> {
+    let pool = pool_with(rt.alloc(), WITH_SET, BROKEN, &[])?;
+    let session = started(rt.alloc(), pool, &NAMES).ok();
+    let mut session = session.expect(&rt, "no session");
+    assert_units(&rt, &session);
+    assert_slots(&rt, rt.alloc(), &mut session)?;
+    Ok(())
+}
+
+/// Why no session begins on two volumes under these names, where these calls of the pool fail.
+fn refusal(
+    alloc: Global,
+    second: Given,
+    failing: &[u64],
+    names: &[Serial],
+) -> Result<Option<JournalFault>, RowsFault> {
+    let pool = pool_with(alloc, WITH_SET, second, failing)?;
+    Ok(started(alloc, pool, names).err())
+}
+
+#[test]
 fn a_session_begins_under_the_registered_names_alone(rt: HostRuntime) -> Result<(), Fail> {
     let names = [NAMES[1], NAMES[0]];
-    let pool = pool_with(rt.alloc(), WITH_SET, SECOND, &[])?;
-    let refused = started(rt.alloc(), pool, &names).err();
     assert_eq!(rt;
-        refused,
+        refusal(rt.alloc(), SECOND, &[], &names)?,
         Some(JournalFault::WrongUnit(0, NAMES[0], NAMES[1]))
     );
     let pool = pool_with(rt.alloc(), WITH_SET, SECOND, &[])?;
-    let Ok(session) = started(rt.alloc(), pool, &NAMES) else {
-        assert!(rt; false, "no session");
-        return Ok(());
-    };
+    let session = started(rt.alloc(), pool, &NAMES).ok();
+    let session = session.expect(&rt, "no session");
     let volume_2 = Seen::Online(NAMES[1], [0; 4], [15, 0, 13, 50, 48, 1]);
     assert_eq!(rt; unit_seen(&session, 1), volume_2);
     Ok(())
@@ -173,8 +193,7 @@ fn each_call_of_the_pool_that_fails_ends_the_beginning(rt: HostRuntime) -> Resul
     let (first, end) = calls_of(rt.alloc())?;
     assert!(rt; end.saturating_sub(first) > 3, "{first} {end}");
     for call in first..end {
-        let pool = pool_with(rt.alloc(), WITH_SET, BROKEN, &[call])?;
-        let refused = started(rt.alloc(), pool, &NAMES).err();
+        let refused = refusal(rt.alloc(), BROKEN, &[call], &NAMES)?;
         assert_eq!(rt; refused, Some(JournalFault::Pool), "call {call}");
     }
     Ok(())

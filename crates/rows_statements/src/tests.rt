@@ -2,6 +2,7 @@ use crate::ground::{End, Left, Row, Wanted, run_row};
 use dasd_pool::{MemoryPool, Pool};
 use rows_bytes::{BASE, Change, GIVEN, Given, RowsFault, SLOT, Vtoc, WITH_SET, volume};
 use std::alloc::Global;
+use std::process::Abort;
 use std::test::*;
 
 /// The release of all data sets.
@@ -77,10 +78,56 @@ fn read_slot(pool: &mut MemoryPool, track: u32, slot: &mut [u8]) -> Result<bool,
     Ok(true)
 }
 
+/// The volume with A.B, of which these bytes are changed.
+fn with(blocks: &'static [Change]) -> Given {
+    Given { blocks, ..WITH_SET }
+}
+
+/// A release on a volume.
+fn releasing(given: Given) -> Row {
+    Row { given, ..ROW }
+}
+
+/// How a statement is to end: what stands between its first and its last line, its code, and how many steps it does.
+#[derive(Clone, Copy, Debug)]
+struct Ended {
+    said: &'static str,
+    code: u8,
+    steps: usize,
+}
+
+fn assert_ended(
+    rt: &impl Abort,
+    alloc: Global,
+    left: &Left,
+    verb: &str,
+    ended: Ended,
+) -> Result<(), RowsFault> {
+    let want = lines(alloc, verb, ended.said, ended.code)?;
+    assert_eq!(rt; left.end, End::Done(ended.code));
+    assert_eq!(rt; left.lines.as_str(), want.as_str());
+    assert_eq!(rt; left.steps, ended.steps);
+    Ok(())
+}
+
+/// Asserts how a release ends, and that it leaves this volume.
+fn assert_leaves(
+    rt: &impl Abort,
+    alloc: Global,
+    row: &Row,
+    ended: Ended,
+    after: Given,
+) -> Result<(), RowsFault> {
+    let mut left = run_row(alloc, row)?;
+    assert_ended(rt, alloc, &left, "RELEASE", ended)?;
+    assert!(rt; holds(alloc, &mut left, after)?);
+    Ok(())
+}
+
 /// What a volume is before, what of it is changed, and what is asked for: the code, the lines, how many steps are done, and the volume behind them.
 type Released = (&'static [Change], u8, &'static str, usize, Given);
 
-const RELEASED: [Released; 3] = [
+static RELEASED: [Released; 3] = [
     (&[], 0, "ADR120I (001) A.B RELEASED 7\n", 1, CUT),
     (
         &NO_FORMAT_5,
@@ -100,14 +147,10 @@ const RELEASED: [Released; 3] = [
 
 #[test]
 fn unused_tracks_are_given_back(rt: HostRuntime) -> Result<(), Fail> {
-    for (blocks, code, said, steps, after) in RELEASED {
-        let given = Given { blocks, ..WITH_SET };
-        let mut left = run_row(rt.alloc(), &Row { given, ..ROW })?;
-        let want = lines(rt.alloc(), "RELEASE", said, code)?;
-        assert_eq!(rt; left.end, End::Done(code));
-        assert_eq!(rt; left.lines.as_str(), want.as_str());
-        assert_eq!(rt; left.steps, steps);
-        assert!(rt; holds(rt.alloc(), &mut left, after)?);
+    for &(blocks, code, said, steps, after) in &RELEASED {
+        let row = releasing(with(blocks));
+        let ended = Ended { said, code, steps };
+        assert_leaves(&rt, rt.alloc(), &row, ended, after)?;
     }
     Ok(())
 }
@@ -123,7 +166,7 @@ const PINNED: &str = "ADR305E (001) A.B NOT PROCESSED: PINNED\n";
 
 const BAD: &str = "ADR307E (001) A.B NOT PROCESSED: BAD TRACK\n";
 
-const KEPT: [Kept; 13] = [
+static KEPT: [Kept; 13] = [
     // all tracks are used
     (
         &[(THIRD + 99, 9)],
@@ -164,20 +207,13 @@ const KEPT: [Kept; 13] = [
 
 #[test]
 fn a_data_set_with_a_reason_stays(rt: HostRuntime) -> Result<(), Fail> {
-    for (blocks, wanted, held, code, said) in KEPT {
-        let given = Given { blocks, ..WITH_SET };
-        let row = Row {
-            given,
-            wanted,
-            held,
-            ..ROW
-        };
-        let mut left = run_row(rt.alloc(), &row)?;
-        let want = lines(rt.alloc(), "RELEASE", said, code)?;
-        assert_eq!(rt; left.end, End::Done(code));
-        assert_eq!(rt; left.lines.as_str(), want.as_str());
-        assert_eq!(rt; left.steps, 0);
-        assert!(rt; holds(rt.alloc(), &mut left, given)?);
+    for &(blocks, wanted, held, code, said) in &KEPT {
+        let mut row = releasing(with(blocks));
+        row.wanted = wanted;
+        row.held = held;
+        let steps = 0;
+        let ended = Ended { said, code, steps };
+        assert_leaves(&rt, rt.alloc(), &row, ended, row.given)?;
     }
     Ok(())
 }
@@ -195,24 +231,20 @@ const NO_FREE_RECORD: Given = Given {
 
 #[test]
 fn a_data_set_stays_where_the_vtoc_is_full(rt: HostRuntime) -> Result<(), Fail> {
-    let row = Row {
-        given: NO_FREE_RECORD,
-        ..ROW
+    let ended = Ended {
+        said: "ADR303E (001) A.B NOT PROCESSED: VTOC FULL\n",
+        code: 8,
+        steps: 0,
     };
-    let mut left = run_row(rt.alloc(), &row)?;
-    let said = "ADR303E (001) A.B NOT PROCESSED: VTOC FULL\n";
-    let want = lines(rt.alloc(), "RELEASE", said, 8)?;
-    assert_eq!(rt; left.lines.as_str(), want.as_str());
-    assert_eq!(rt; left.end, End::Done(8));
-    assert_eq!(rt; left.steps, 0);
-    assert!(rt; holds(rt.alloc(), &mut left, NO_FREE_RECORD)?);
+    let row = releasing(NO_FREE_RECORD);
+    assert_leaves(&rt, rt.alloc(), &row, ended, row.given)?;
     Ok(())
 }
 
 /// A listing: the volume, the serial that is named, the code and the lines.
 type Listed = (Given, u8, u8, &'static str);
 
-const LISTED: [Listed; 3] = [
+static LISTED: [Listed; 3] = [
     (
         GIVEN,
         0xf1,
@@ -231,20 +263,22 @@ ADR112I (001) EXTENT 1 KIND 01 FROM 2 LENGTH 10
     (WITH_SET, 0xf9, 12, "ADR408T (001) UNKNOWN NAME VOL009\n"),
 ];
 
+/// A listing of this volume under the serial with this last character.
+fn listing(given: Given, serial: u8) -> Row {
+    Row {
+        given,
+        wanted: Wanted::Print,
+        serial,
+        ..ROW
+    }
+}
+
 #[test]
 fn volumes_are_listed(rt: HostRuntime) -> Result<(), Fail> {
-    for (given, serial, code, said) in LISTED {
-        let row = Row {
-            given,
-            wanted: Wanted::Print,
-            serial,
-            ..ROW
-        };
-        let left = run_row(rt.alloc(), &row)?;
-        let want = lines(rt.alloc(), "PRINT", said, code)?;
-        assert_eq!(rt; left.end, End::Done(code));
-        assert_eq!(rt; left.lines.as_str(), want.as_str());
-        assert_eq!(rt; left.steps, 0);
+    for &(given, serial, code, said) in &LISTED {
+        let left = run_row(rt.alloc(), &listing(given, serial))?;
+        let steps = 0;
+        assert_ended(&rt, rt.alloc(), &left, "PRINT", Ended { said, code, steps })?;
     }
     Ok(())
 }
@@ -253,15 +287,17 @@ fn volumes_are_listed(rt: HostRuntime) -> Result<(), Fail> {
 /// loaded, the ten tracks of A.B, and the sync of a copy without tracks.
 const FIRST_WRITE: u64 = 18;
 
+fn assert_cut(rt: &impl Abort, alloc: Global, failing: &'static [u64]) -> Result<(), RowsFault> {
+    let left = run_row(alloc, &Row { failing, ..ROW })?;
+    assert_eq!(rt; left.end, End::Halted);
+    assert_eq!(rt; left.lines.as_str(), "ADR101I (001) RELEASE STARTED\n");
+    assert_eq!(rt; left.steps, 0);
+    Ok(())
+}
+
 #[test]
 fn a_statement_is_cut_where_the_pool_fails(rt: HostRuntime) -> Result<(), Fail> {
-    const FAILING: [&[u64]; 2] = [&[FIRST_WRITE], &[FIRST_WRITE - 3]];
-    for failing in FAILING {
-        let row = Row { failing, ..ROW };
-        let left = run_row(rt.alloc(), &row)?;
-        assert_eq!(rt; left.end, End::Halted);
-        assert_eq!(rt; left.lines.as_str(), "ADR101I (001) RELEASE STARTED\n");
-        assert_eq!(rt; left.steps, 0);
-    }
+    assert_cut(&rt, rt.alloc(), &[FIRST_WRITE])?;
+    assert_cut(&rt, rt.alloc(), &[FIRST_WRITE - 3])?;
     Ok(())
 }

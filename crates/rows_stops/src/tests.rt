@@ -53,7 +53,7 @@ const LISTING_CALLS: u64 = 7;
 /// Those beside them that put an open body in place: the directory, the image, the VTOC, a sync, the gate, and a sync.
 const REDO_CALLS: u64 = 6;
 
-const TEARS: [Tear; 4] = [Tear::Old, Tear::New, Tear::Zero, Tear::Half];
+static TEARS: [Tear; 4] = [Tear::Old, Tear::New, Tear::Zero, Tear::Half];
 
 /// More calls than a listing and a look at the volume have.
 const KEEP: u32 = 64;
@@ -207,7 +207,7 @@ fn a_release_is_whole_wherever_it_stops(rt: HostRuntime) -> Result<(), Fail> {
     let volumes = make_volumes(rt.alloc())?;
     let machine = released(rt.alloc())?.machine;
     for calls in 0..=CALLS {
-        for tear in TEARS {
+        for &tear in &TEARS {
             let stop = Stop { calls, tear };
             assert!(rt;
                 is_put_right(rt.alloc(), &machine, stop, &volumes)?,
@@ -256,7 +256,7 @@ fn wrong_stops(alloc: Global, tear: Tear) -> Result<Option<(Stop, Stop)>, RowsFa
     let volumes = make_volumes(alloc)?;
     let machine = released(alloc)?.machine;
     for calls in OPENING - 1..=CALLS {
-        for first in TEARS {
+        for &first in &TEARS {
             let stop = Stop { calls, tear: first };
             if let Some(second) = wrong_after(alloc, &machine, stop, tear, &volumes)? {
                 return Ok(Some((stop, second)));

@@ -202,7 +202,7 @@ fn a_sound_vtoc_passes(rt: HostRuntime) -> Result<(), Fail> {
 }
 
 /// Records of both tracks, and the place and rule that are told.
-const BROKEN: [(&[Dscb], &[Dscb], VtocFault); 9] = [
+static BROKEN: [(&[Dscb], &[Dscb], VtocFault); 9] = [
     // the second track has no record
     (
         &[Dscb::Five(3, 12, (0, 0))],
@@ -258,19 +258,19 @@ const BROKEN: [(&[Dscb], &[Dscb], VtocFault); 9] = [
 
 #[test]
 fn the_lowest_place_is_told(rt: HostRuntime) -> Result<(), Fail> {
-    for (first, second, fault) in BROKEN {
+    for &(first, second, fault) in &BROKEN {
         assert_eq!(rt; told_of(&rt, format_4(), first, second)?, Some(fault));
     }
     Ok(())
 }
 
 /// A byte of the format 4 and another value, and the rule that it breaks.
-const FRONTS: [(usize, u8, u8); 4] = [(44, 0xf1, 1), (65, 14, 2), (63, 0, 2), (110, 0, 3)];
+static FRONTS: [(usize, u8, u8); 4] = [(44, 0xf1, 1), (65, 14, 2), (63, 0, 2), (110, 0, 3)];
 
 #[test]
 fn a_broken_format_4_is_told(rt: HostRuntime) -> Result<(), Fail> {
     let (first, second) = SOUND;
-    for (offset, value, rule) in FRONTS {
+    for &(offset, value, rule) in &FRONTS {
         let mut bytes = format_4();
         if offset < 140 {
             bytes[offset] = value;

@@ -55,7 +55,7 @@ fn are_refused(alloc: Global, words: &[&str]) -> Result<bool, RowsFault> {
 }
 
 /// Words that name no run over one volume without dumps.
-const WRONG: [&[&str]; 9] = [
+static WRONG: [&[&str]; 9] = [
     &[],
     &["--unit", "VOL001=a", "--journal", "b"],
     &["--unit", "VOL001=a", "--journal", "b", "--sysin"],
@@ -80,7 +80,7 @@ const WRONG: [&[&str]; 9] = [
 
 #[test]
 fn other_words_are_refused_with_one_line(rt: HostRuntime) -> Result<(), Fail> {
-    for words in WRONG {
+    for &words in &WRONG {
         assert!(rt; are_refused(rt.alloc(), words)?, "{words:?}");
     }
     Ok(())
@@ -122,7 +122,7 @@ const SAME_SERIALS: [&str; 8] = [
 const MAKE: [&str; 2] = ["--make", "2"];
 
 /// Words, and how a run of them over two volumes ends.
-const OVER_TWO: [(&[&str], u8, &str); 4] = [
+static OVER_TWO: [(&[&str], u8, &str); 4] = [
     (&WORDS_OF_TWO, 0, LISTED),
     (&SAME_SERIALS, 36, WRONG_WORDS),
     (&LISTING_WORDS, 36, WRONG_WORDS),
@@ -132,7 +132,7 @@ const OVER_TWO: [(&[&str], u8, &str); 4] = [
 #[test]
 fn words_agree_with_the_volumes_of_the_pool(rt: HostRuntime) -> Result<(), Fail> {
     const VOLUMES: [Given; 2] = [GIVEN, SECOND];
-    for (words, want, line) in OVER_TWO {
+    for &(words, want, line) in &OVER_TWO {
         let machine = Machine::of_two(rt.alloc(), VOLUMES)?;
         let (status, lines) = machine.ends(rt.alloc(), Job { words, ..LISTING })?;
         assert_eq!(rt; status, want);
@@ -142,7 +142,7 @@ fn words_agree_with_the_volumes_of_the_pool(rt: HostRuntime) -> Result<(), Fail>
 }
 
 /// Other words for a text over VOL001.
-const SAME: [&[&str]; 3] = [
+static SAME: [&[&str]; 3] = [
     &["--journal", "b", "--sysin", "c", "--unit", "VOL001=a"],
     &["--unit=VOL001=a", "--journal=b", "--sysin=c"],
     &["--sysin=c", "--unit", "VOL001=a", "--journal=b"],
@@ -150,7 +150,7 @@ const SAME: [&[&str]; 3] = [
 
 #[test]
 fn words_stand_in_any_order(rt: HostRuntime) -> Result<(), Fail> {
-    for words in SAME {
+    for &words in &SAME {
         let job = Job { words, ..LISTING };
         assert!(rt; is_end(rt.alloc(), job, 0, LISTED, true)?, "{words:?}");
     }
@@ -173,7 +173,7 @@ const WRONG_HELD: &[u8] = b"EXC A.B JOB1\nSHR A.B JOB2";
 
 const WRONG_IN_HELD: &str = "ADR544T (000) RUN ENDED WITH STATUS 44: HELD LINE 2 COLUMN 5\n";
 
-const STOPPED: [Stopped; 6] = [
+static STOPPED: [Stopped; 6] = [
     (&MAKE, TEXT, b"", 48, NOT_BUILT),
     (
         &LISTING_WORDS,
@@ -203,7 +203,7 @@ const STOPPED: [Stopped; 6] = [
 
 #[test]
 fn a_run_that_is_stopped_does_nothing(rt: HostRuntime) -> Result<(), Fail> {
-    for (words, text, held, status, line) in STOPPED {
+    for &(words, text, held, status, line) in &STOPPED {
         let job = Job {
             words,
             text,
@@ -216,7 +216,7 @@ fn a_run_that_is_stopped_does_nothing(rt: HostRuntime) -> Result<(), Fail> {
 }
 
 /// Texts, and how a run of each over VOL001 ends.
-const TEXTS: [(&[u8], u8, &str); 5] = [
+static TEXTS: [(&[u8], u8, &str); 5] = [
     (b"", 0, NO_STATEMENT),
     (b"PRINT VTOC INDDNAME(VOL001)", 0, LISTED),
     (b" print indd(vol001), vtoc /* all */ \r\n\n", 0, LISTED),
@@ -234,7 +234,7 @@ ADR103I (000) MAXIMUM CODE 12
 
 #[test]
 fn each_text_of_the_grammar_is_run(rt: HostRuntime) -> Result<(), Fail> {
-    for (text, status, lines) in TEXTS {
+    for &(text, status, lines) in &TEXTS {
         let job = Job { text, ..LISTING };
         assert!(rt; is_end(rt.alloc(), job, status, lines, true)?, "{text:?}");
     }
@@ -285,7 +285,7 @@ const NO_HELD: Job<'static> = Job {
 };
 
 /// A listing, the calls of its pool that fail, and how it ends.
-const FAILING: [(Job<'static>, &[u64], u8, &str); 7] = [
+static FAILING: [(Job<'static>, &[u64], u8, &str); 7] = [
     (
         NO_READ,
         &[],
@@ -342,7 +342,7 @@ const FAILING: [(Job<'static>, &[u64], u8, &str); 7] = [
 
 #[test]
 fn each_failing_stream_has_its_status(rt: HostRuntime) -> Result<(), Fail> {
-    for (job, failing, want, lines_wanted) in FAILING {
+    for &(job, failing, want, lines_wanted) in &FAILING {
         let (status, lines) = ends(rt.alloc(), job, failing)?;
         assert_eq!(rt; status, want);
         assert_eq!(rt; lines.as_str(), lines_wanted);
