@@ -10,6 +10,3 @@ pub use form::{Form, fits, forms_of};
 pub use made::command_of;
 pub use operand::{Operand, clashes, has, number_of};
 pub use parts::{Parts, filter_of};
-
-#[cfg(test)]
-mod tests;

@@ -8,6 +8,3 @@ mod script;
 pub use command::{Command, DdNames, Filter, Patterns, Statement};
 pub use flow::Flow;
 pub use script::{Script, Step};
-
-#[cfg(test)]
-mod tests;

@@ -1,7 +1,7 @@
-use super::*;
 use ckd_image::{Listed, NoMemory};
 use std::alloc::Global;
 use std::test::*;
+use sysin_forms::*;
 use sysin_lang::{Command, Patterns};
 use vol_label::Serial;
 

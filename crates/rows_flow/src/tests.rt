@@ -1,8 +1,8 @@
-use super::*;
 use by_rules::Op;
 use ckd_image::{Listed, NoMemory};
 use std::alloc::Global;
 use std::test::*;
+use sysin_lang::*;
 use sysin_words::Which;
 use vol_label::Serial;
 
