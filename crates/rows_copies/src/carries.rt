@@ -44,7 +44,7 @@ struct Row {
     second: Given,
 }
 
-static ROWS: [Row; 3] = [
+const ROWS: [Row; 3] = [
     Row {
         text: CARRY,
         held: b"",

@@ -347,47 +347,37 @@ fn first_wrong(alloc: Global, rows: &[Row]) -> Result<Option<(usize, String)>, R
     Ok(None)
 }
 
-static UNPREVENTED: [Row; 4] = [TOLERANT, READ_ALONE, EXPIRES, NO_TRACKS];
-
 #[test]
 fn what_does_not_prevent_a_copy(rt: HostRuntime) -> Result<(), Fail> {
-    let wrong = first_wrong(rt.alloc(), &UNPREVENTED)?;
+    let wrong = first_wrong(rt.alloc(), &[TOLERANT, READ_ALONE, EXPIRES, NO_TRACKS])?;
     assert!(rt; wrong.is_none(), "{wrong:?}");
     Ok(())
 }
-
-static REPLACING: [Row; 2] = [PURGES, TAKES_A_NAME];
 
 #[test]
 fn a_copy_takes_the_place_of_another(rt: HostRuntime) -> Result<(), Fail> {
-    let wrong = first_wrong(rt.alloc(), &REPLACING)?;
+    let wrong = first_wrong(rt.alloc(), &[PURGES, TAKES_A_NAME])?;
     assert!(rt; wrong.is_none(), "{wrong:?}");
     Ok(())
 }
-
-static STATING: [Row; 1] = [REPAIRS];
 
 #[test]
 fn free_space_is_stated_before(rt: HostRuntime) -> Result<(), Fail> {
-    let wrong = first_wrong(rt.alloc(), &STATING)?;
+    let wrong = first_wrong(rt.alloc(), &[REPAIRS])?;
     assert!(rt; wrong.is_none(), "{wrong:?}");
     Ok(())
 }
-
-static SCATTERED: [Row; 1] = [SPREADS];
 
 #[test]
 fn a_copy_stands_in_several_runs(rt: HostRuntime) -> Result<(), Fail> {
-    let wrong = first_wrong(rt.alloc(), &SCATTERED)?;
+    let wrong = first_wrong(rt.alloc(), &[SPREADS])?;
     assert!(rt; wrong.is_none(), "{wrong:?}");
     Ok(())
 }
 
-static TURNS: [Row; 2] = [BOTH, LAST_ROOM];
-
 #[test]
 fn each_data_set_has_its_turn(rt: HostRuntime) -> Result<(), Fail> {
-    let wrong = first_wrong(rt.alloc(), &TURNS)?;
+    let wrong = first_wrong(rt.alloc(), &[BOTH, LAST_ROOM])?;
     assert!(rt; wrong.is_none(), "{wrong:?}");
     Ok(())
 }

@@ -147,7 +147,7 @@ const WITHIN: &[u8] = b" COPY DS(INC(A.B)) INDD(VOL001) OUTDD(VOL001) REPU DELET
 
 const ONTO_C_D: &[u8] = b" COPY DS(INC(A.B)) INDD(VOL001) OUTDD(VOL001) RENAMEU((A.B,C.D))\n";
 
-static IS_PINNED: [Case; 2] = [
+const IS_PINNED: [Case; 2] = [
     Case {
         given: [PINNED, EMPTY],
         said: "ADR305E (001) A.B NOT PROCESSED: PINNED\n",
@@ -168,7 +168,7 @@ const IS_SHARED: Case = Case {
     ..PLAIN
 };
 
-static IS_HELD: [Case; 4] = [
+const IS_HELD: [Case; 4] = [
     Case {
         held: b"EXC A.B JOB1",
         ..IS_SHARED
@@ -189,7 +189,7 @@ static IS_HELD: [Case; 4] = [
     },
 ];
 
-static IS_UNEXPIRED: [Case; 3] = [
+const IS_UNEXPIRED: [Case; 3] = [
     Case {
         given: [UNEXPIRED, EMPTY],
         text: DELETING,
@@ -211,7 +211,7 @@ static IS_UNEXPIRED: [Case; 3] = [
 ];
 
 /// On its volume under another's name, or under its own; on another volume beside one of its name.
-static HAS_A_NAMESAKE: [Case; 3] = [
+const HAS_A_NAMESAKE: [Case; 3] = [
     Case {
         given: [NEIGHBOURS, EMPTY],
         text: ONTO_C_D,
@@ -231,7 +231,7 @@ static HAS_A_NAMESAKE: [Case; 3] = [
 ];
 
 /// The last one: the free space of VOL001 isn't stated either, as that of VOL002 can't be.
-static HAS_NO_ROOM: [Case; 4] = [
+const HAS_NO_ROOM: [Case; 4] = [
     Case {
         given: [BAD, EMPTY],
         said: "ADR307E (001) A.B NOT PROCESSED: BAD TRACK\n",

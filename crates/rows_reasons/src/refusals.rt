@@ -39,7 +39,7 @@ type Refusal = ([Contents; 2], &'static [u8], &'static str, u8);
 const COPY: &[u8] = b" COPY DS(INC(A.B)) INDD(VOL001) OUTDD(VOL002)\n";
 
 /// The units are asked before the devices, and these before the filter.
-static REFUSALS: [Refusal; 6] = [
+const REFUSALS: [Refusal; 6] = [
     (
         [ONE, UNLIKE],
         b" COPY DS(INC(A.B)) INDD(VOL001) OUTDD(VOL009)\n",

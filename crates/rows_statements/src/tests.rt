@@ -287,17 +287,15 @@ fn volumes_are_listed(rt: HostRuntime) -> Result<(), Fail> {
 /// loaded, the ten tracks of A.B, and the sync of a copy without tracks.
 const FIRST_WRITE: u64 = 18;
 
-fn assert_cut(rt: &impl Abort, alloc: Global, failing: &'static [u64]) -> Result<(), RowsFault> {
-    let left = run_row(alloc, &Row { failing, ..ROW })?;
-    assert_eq!(rt; left.end, End::Halted);
-    assert_eq!(rt; left.lines.as_str(), "ADR101I (001) RELEASE STARTED\n");
-    assert_eq!(rt; left.steps, 0);
-    Ok(())
-}
-
 #[test]
 fn a_statement_is_cut_where_the_pool_fails(rt: HostRuntime) -> Result<(), Fail> {
-    assert_cut(&rt, rt.alloc(), &[FIRST_WRITE])?;
-    assert_cut(&rt, rt.alloc(), &[FIRST_WRITE - 3])?;
+    const FAILING: [&[u64]; 2] = [&[FIRST_WRITE], &[FIRST_WRITE - 3]];
+    for failing in FAILING {
+        let row = Row { failing, ..ROW };
+        let left = run_row(rt.alloc(), &row)?;
+        assert_eq!(rt; left.end, End::Halted);
+        assert_eq!(rt; left.lines.as_str(), "ADR101I (001) RELEASE STARTED\n");
+        assert_eq!(rt; left.steps, 0);
+    }
     Ok(())
 }
