@@ -124,7 +124,7 @@ fn volume_of(alloc: Global, case: Case) -> Result<Contents, RowsFault> {
 }
 
 /// Each case: its text of holds, its line, where it has one, and its condition code.
-static CASES: [(Case, &[u8], &str, u8); 6] = [
+const CASES: [(Case, &[u8], &str, u8); 6] = [
     (
         Case::Pinned,
         b"",
@@ -167,7 +167,7 @@ fn lines_of(alloc: Global, said: &str, code: u8) -> Result<String, RowsFault> {
 
 #[test]
 fn each_reason_is_told_and_nothing_is_changed(rt: HostRuntime) -> Result<(), Fail> {
-    for &(case, holds, said, code) in &CASES {
+    for (case, holds, said, code) in CASES {
         let given = volume_of(rt.alloc(), case)?;
         let mut ran = run(rt.alloc(), &given, ALL, holds)?;
         assert_eq!(rt;

@@ -94,7 +94,7 @@ pub(crate) fn push_empty(sets: &mut Vec<Set>, count: u8) -> Result<(), RowsFault
 }
 
 /// The single free tracks behind each of them but the last.
-static SINGLE: [u8; 25] = [
+const SINGLE: [u8; 25] = [
     5, 8, 11, 14, 17, 20, 23, 26, 29, 32, 35, 38, 41, 44, 47, 50, 53, 56, 59, 62, 65, 68, 71, 74,
     77,
 ];
@@ -102,7 +102,7 @@ static SINGLE: [u8; 25] = [
 /// The single free tracks, and these runs.
 pub(crate) fn free_runs(alloc: Global, others: &[Free]) -> Result<Vec<Free>, RowsFault> {
     let mut free = Vec::new(alloc);
-    for &track in &SINGLE {
+    for track in SINGLE {
         free.push((track, 0, 1))?;
     }
     free.extend_from_slice(others)?;
