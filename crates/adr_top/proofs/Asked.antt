@@ -6,7 +6,7 @@ use Rattle.std.proofs.lemmas.List.Elements.{All-cons, All-nil}
 use Rattle.std.specs.Prelude.{nat_le, Option, Some, None}
 use Rattle.std.proofs.lemmas.Bool.{false≢true, leb-true}
 use Rattle.by_rules.specs.declared.day.Day.{Day}
-use Rattle.by_rules.specs.Words.{is_decimal, decimal, number_of}
+use Rattle.by_rules.specs.Words.{is_decimal, decimal, number_up_to}
 use Rattle.dasd_pool.specs.Disk.{Shape}
 use Rattle.dasd_pool.specs.declared.pool.Pool.{Ghosts}
 use Rattle.dd_names.specs.declared.dd.DdName.{DdName}
@@ -81,7 +81,7 @@ both_second : (b c : Bool) → (b && c) ≡ true → c ≡ true
 both_second true c is = is
 both_second false c is = absurd (false≢true is)
 
-number_most : (limit n : ℕ) (word : List ℕ) → number_of limit word ≡ Some n → n ≤ limit
+number_most : (limit n : ℕ) (word : List ℕ) → number_up_to limit word ≡ Some n → n ≤ limit
 number_most limit n word is =
     most_if (is_decimal word && nat_le (decimal word) limit) (decimal word) n limit
     (λ both. leb-true (decimal word) limit (both_second (is_decimal word) (nat_le (decimal word) limit) both)) is

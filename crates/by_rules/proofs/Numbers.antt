@@ -2,7 +2,7 @@
 use Rattle.std.proofs.Common.{◌≡◌, ℕ, zero, suc, ◌+◌, ◌*◌, ◌-◌, ◌<◌, ◌≤◌, List, [], ◌∷◌, take, refl, arith, Bool, true, false, nat_le, Some, None}
 use Rattle.std.specs.Prelude.{fold, ◌&&◌, if◌then◌else◌}
 use Rattle.std.proofs.lemmas.Bool.Decides.{nat_tests}
-use Rattle.by_rules.specs.Words.{decimal, is_decimal, number_of}
+use Rattle.by_rules.specs.Words.{decimal, is_decimal, number_up_to}
 
 grows : (word : List ℕ) (number : ℕ) → number ≤ fold (λ (n : ℕ) (digit : ℕ). 10 * n + (digit - 48)) number word
 grows [] number = omega arith
@@ -21,5 +21,5 @@ none_past : (b : Bool) (number limit : ℕ) → limit < number → (if b && nat_
 none_past true number limit h = grind (arith, nat_tests)
 none_past false number limit h = refl
 
-pub too_large : (limit : ℕ) (word : List ℕ) → limit < decimal word → number_of limit word ≡ None
+pub too_large : (limit : ℕ) (word : List ℕ) → limit < decimal word → number_up_to limit word ≡ None
 too_large limit word h = none_past (is_decimal word) (decimal word) limit h

@@ -16,14 +16,14 @@ use Rattle.by_rules.specs.declared.criterion.Criterion.{Criterion}
 use Rattle.by_rules.specs.Day.{IsShift}
 use Rattle.by_rules.specs.Criterion.{IsSoundValue, IsSound}
 use Rattle.by_rules.specs.Token.{Symbol}
-use Rattle.by_rules.specs.Words.{decimal, is_decimal, number_of, shift_of, value_of, organization_of, date_of, flag_of, allocation_of}
+use Rattle.by_rules.specs.Words.{decimal, is_decimal, number_up_to, shift_of, value_of, organization_of, date_of, flag_of, allocation_of}
 use Rattle.by_rules.specs.Grammar.{IsValue, IsMembers, IsOperand, IsSequence, Spell}
 
 within : (b : Bool) (number limit found : ℕ) → (if b && nat_le number limit then Some number else None) ≡ Some found → found ≤ limit
 within true number limit found e = grind (arith, nat_tests)
 within false number limit found e = cc
 
-number_within : (limit : ℕ) (word : List ℕ) (found : ℕ) → number_of limit word ≡ Some found → found ≤ limit
+number_within : (limit : ℕ) (word : List ℕ) (found : ℕ) → number_up_to limit word ≡ Some found → found ≤ limit
 number_within limit word found e = within (is_decimal word) (decimal word) limit found e
 
 negative : (found : Option ℕ) (days : ℤ) → ((n : ℕ) → found ≡ Some n → n ≤ 36500) → option_map (λ (n : ℕ). neg_ℤ (pos n)) found ≡ Some days → IsShift days
@@ -41,9 +41,9 @@ positive (Some n) days bound e =
     subst IsShift same (omega (arith, signed_arith), omega (arith, signed_arith))
 
 shift_by : (sign : Bool) (first : ℕ) (rest : List ℕ) (days : ℤ)
-    → (if sign then option_map (λ (n : ℕ). neg_ℤ (pos n)) (number_of 36500 rest) else option_map (λ (n : ℕ). pos n) (number_of 36500 (first ∷ rest))) ≡ Some days → IsShift days
-shift_by true first rest days e = negative (number_of 36500 rest) days (number_within 36500 rest) e
-shift_by false first rest days e = positive (number_of 36500 (first ∷ rest)) days (number_within 36500 (first ∷ rest)) e
+    → (if sign then option_map (λ (n : ℕ). neg_ℤ (pos n)) (number_up_to 36500 rest) else option_map (λ (n : ℕ). pos n) (number_up_to 36500 (first ∷ rest))) ≡ Some days → IsShift days
+shift_by true first rest days e = negative (number_up_to 36500 rest) days (number_within 36500 rest) e
+shift_by false first rest days e = positive (number_up_to 36500 (first ∷ rest)) days (number_within 36500 (first ∷ rest)) e
 
 shift_sound : (word : List ℕ) (days : ℤ) → shift_of word ≡ Some days → IsShift days
 shift_sound [] days e = cc
@@ -58,8 +58,8 @@ value_sound keys.Organization word value e = mapped values.Organization (organiz
 value_sound keys.Created word value e = mapped (λ day. values.Date (dates.On day)) (date_of word) value (λ a. tt) e
 value_sound keys.Expires word value e = mapped (λ day. values.Date (dates.On day)) (date_of word) value (λ a. tt) e
 value_sound keys.Referred word value e = mapped (λ day. values.Date (dates.On day)) (date_of word) value (λ a. tt) e
-value_sound keys.Extents word value e = mapped values.Number (number_of 65535 word) value (λ a. tt) e
-value_sound keys.Tracks word value e = mapped values.Number (number_of 65535 word) value (λ a. tt) e
+value_sound keys.Extents word value e = mapped values.Number (number_up_to 65535 word) value (λ a. tt) e
+value_sound keys.Tracks word value e = mapped values.Number (number_up_to 65535 word) value (λ a. tt) e
 value_sound keys.Changed word value e = mapped values.Flag (flag_of word) value (λ a. tt) e
 value_sound keys.Allocation word value e = mapped values.Allocation (allocation_of word) value (λ a. tt) e
 value_sound keys.Multivolume word value e = mapped values.Flag (flag_of word) value (λ a. tt) e

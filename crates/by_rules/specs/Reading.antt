@@ -88,11 +88,11 @@ today_step test place (Word word) = if bytes_eq word star then Some (steps.Go (s
 today_step test place _ = None
 
 -- the value of a date from today on
-abbrev pub dated : Test → Place → ℤ → Step
-dated test place days = steps.Keep (values.Date (dates.FromToday days)) (behind test place)
+abbrev pub days_from_today : Test → Place → ℤ → Step
+days_from_today test place days = steps.Keep (values.Date (dates.FromToday days)) (behind test place)
 
 abbrev pub star_step : Test → Place → Symbol → Option Step
-star_step test place Close = Some (dated test place (pos 0))
+star_step test place Close = Some (days_from_today test place (pos 0))
 star_step test place Comma = Some (steps.Go (states.Shift test place))
 star_step test place _ = None
 
@@ -122,7 +122,7 @@ step_of (states.Whole test) symbol = close_step (steps.End test) symbol
 step_of (states.Today test place) symbol = today_step test place symbol
 step_of (states.Star test place) symbol = star_step test place symbol
 step_of (states.Shift test place) symbol = shift_step test place symbol
-step_of (states.Shifted test place days) symbol = close_step (dated test place days) symbol
+step_of (states.Shifted test place days) symbol = close_step (days_from_today test place days) symbol
 
 -- what is read so far
 pub record Machine : Type 0 where

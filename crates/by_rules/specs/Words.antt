@@ -70,8 +70,8 @@ abbrev pub decimal : List ℕ → ℕ
 decimal word = fold (λ number digit. 10 * number + (digit - 48)) 0 word
 
 -- a number up to a limit
-abbrev pub number_of : ℕ → List ℕ → Option ℕ
-number_of limit word = if is_decimal word && nat_le (decimal word) limit then Some (decimal word) else None
+abbrev pub number_up_to : ℕ → List ℕ → Option ℕ
+number_up_to limit word = if is_decimal word && nat_le (decimal word) limit then Some (decimal word) else None
 
 -- the century of a year of two digits
 abbrev pub full_year : ℕ → ℕ
@@ -84,16 +84,16 @@ dated year day = if nat_le day 366 || (day == 999) then Some (record { year = ye
 -- seven digits, or five: a year of four or of two, and three of its day
 abbrev pub date_of : List ℕ → Option Day
 date_of word =
-    if length word == 7 then option_and_then (λ number. dated (number / 1000) (number % 1000)) (number_of 9999999 word)
-    else (if length word == 5 then option_and_then (λ number. dated (full_year (number / 1000)) (number % 1000)) (number_of 99999 word)
+    if length word == 7 then option_and_then (λ number. dated (number / 1000) (number % 1000)) (number_up_to 9999999 word)
+    else (if length word == 5 then option_and_then (λ number. dated (full_year (number / 1000)) (number % 1000)) (number_up_to 99999 word)
     else None)
 
 -- the days of a date from today on
 abbrev pub shift_of : List ℕ → Option ℤ
 shift_of [] = None
 shift_of (first ∷ rest) =
-    if first == 45 then option_map (λ days. neg_ℤ (pos days)) (number_of 36500 rest)
-    else option_map (λ days. pos days) (number_of 36500 (first ∷ rest))
+    if first == 45 then option_map (λ days. neg_ℤ (pos days)) (number_up_to 36500 rest)
+    else option_map (λ days. pos days) (number_up_to 36500 (first ∷ rest))
 
 -- the value that a word says for a key
 abbrev pub value_of : Key → List ℕ → Option Value
@@ -101,8 +101,8 @@ value_of keys.Organization word = option_map values.Organization (organization_o
 value_of keys.Created word = option_map (λ day. values.Date (dates.On day)) (date_of word)
 value_of keys.Expires word = option_map (λ day. values.Date (dates.On day)) (date_of word)
 value_of keys.Referred word = option_map (λ day. values.Date (dates.On day)) (date_of word)
-value_of keys.Extents word = option_map values.Number (number_of 65535 word)
-value_of keys.Tracks word = option_map values.Number (number_of 65535 word)
+value_of keys.Extents word = option_map values.Number (number_up_to 65535 word)
+value_of keys.Tracks word = option_map values.Number (number_up_to 65535 word)
 value_of keys.Changed word = option_map values.Flag (flag_of word)
 value_of keys.Allocation word = option_map values.Allocation (allocation_of word)
 value_of keys.Multivolume word = option_map values.Flag (flag_of word)

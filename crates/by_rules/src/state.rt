@@ -253,7 +253,7 @@ impl Test {
     }
 
     fn dated(self, place: Place, days: i32) -> Step
-        ensures { result ≡ spec.dated self place days }
+        ensures { result ≡ spec.days_from_today self place days }
     {
         Step::Keep(Value::Date(When::FromToday(days)), self.behind(place))
     }

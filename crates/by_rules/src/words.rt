@@ -50,7 +50,7 @@ pub(crate) fn value_of(key: Key, word: &[u8]) -> Option<Value>
     match key {
         Key::Organization => Some(Value::Organization(organization_of(word)?)),
         Key::Created | Key::Expires | Key::Referred => Some(Value::Date(When::On(date_of(word)?))),
-        Key::Extents | Key::Tracks => Some(Value::Number(number_of(MOST_COUNTED, word)? as u16)),
+        Key::Extents | Key::Tracks => Some(Value::Number(number_up_to(MOST_COUNTED, word)? as u16)),
         Key::Changed | Key::Multivolume => Some(Value::Flag(flag_of(word)?)),
         Key::Allocation => Some(Value::Allocation(allocation_of(word)?)),
     }
@@ -96,11 +96,11 @@ fn date_of(word: &[u8]) -> Option<Day>
 {
     match word.len() {
         7 => {
-            let number = number_of(9_999_999, word)?;
+            let number = number_up_to(9_999_999, word)?;
             dated((number / 1000) as u16, (number % 1000) as u16)
         }
         5 => {
-            let number = number_of(99_999, word)?;
+            let number = number_up_to(99_999, word)?;
             dated(full_year((number / 1000) as u16), (number % 1000) as u16)
         }
         _ => None,
@@ -129,31 +129,30 @@ pub(crate) fn shift_of(word: &[u8]) -> Option<i32>
 {
     let (first, rest) = word.split_first()?;
     if *first == b'-' {
-        let days = number_of(FARTHEST, rest)?;
+        let days = number_up_to(FARTHEST, rest)?;
         return Some(-(days as i32));
     }
-    let days = number_of(FARTHEST, word)?;
+    let days = number_up_to(FARTHEST, word)?;
     Some(days as i32)
 }
 
 /// The number that a word of decimal digits spells, where it is at most the limit; leading zeros may stand.
-pub fn number_of(limit: u32, word: &[u8]) -> Option<u32>
-    requires { limit < 10000000 }
-    ensures number { result ≡ words.number_of limit word.now }
+pub fn number_up_to(limit: u32, word: &[u8]) -> Option<u32>
+    ensures number { result ≡ words.number_up_to limit word.now }
     ensures limit { IfSome result (λ number. number ≤ limit) }
 {
     if word.is_empty() {
         return None;
     }
-    let mut number = 0;
+    let mut number = 0u64;
     for byte in word {
         if !byte.is_ascii_digit() {
             return None;
         }
-        number = 10 * number + (byte - b'0') as u32;
-        if number > limit {
+        number = 10 * number + (byte - b'0') as u64;
+        if number > limit as u64 {
             return None;
         }
     }
-    Some(number)
+    Some(number as u32)
 }

@@ -13,7 +13,8 @@ use Rattle.ckd_image.proofs.Texts.{texts_split}
 use Rattle.ckd_image.proofs.Records.{goes_on}
 use Rattle.ckd_image.proofs.OneText.{split_same, records_apart, record_text-injective, no_end_mark, IsStopped, is_stopped, not_stopped, behind_short, right_front, shift, parts_of}
 use Rattle.ckd_image.specs.Track.{home_text, zero_text, IsTrackText, record_text, records_text, end_mark, IsRecord}
-use Rattle.ckd_image.specs.Readdress.{IsRecordOf, HasNoRecord, HasRecords, IsPartlyMoved, RecordsMoved, IsReaddressed}
+use Rattle.ckd_image.specs.Readdress.{IsRecordOf, HasNoRecord, HasRecords, RecordsMoved, IsReaddressed}
+use Rattle.ckd_image.proofs.PartlyMoved.{IsPartlyMoved}
 
 -- where neither a record nor the end mark stands behind records, no records with an end mark do
 behind : (at : TrackAt) (recs front : List Rec) (x rest : List ℕ) → IsAddress at → length (records_text at recs ++ (end_mark ++ x)) ≤ 65536 → All IsRecord recs → All IsRecord front

@@ -10,13 +10,13 @@ use Rattle.dasd_pool.specs.declared.calls.Call.{Call}
 use Rattle.dasd_pool.specs.declared.calls.Call.TheVariants.{Read, Sync}
 use Rattle.dasd_pool.specs.declared.units.UnitText.{UnitText}
 use Rattle.dasd_pool.specs.declared.failures.Failures.{Failures}
-use Rattle.dasd_pool.specs.Disk.{State, Image, Disk, MayLeave, Elapses, Touches, is_at}
+use Rattle.dasd_pool.specs.Disk.{State, Image, Disk, MayLeave, Touches, is_at}
 use Rattle.dasd_pool.specs.Calls.{size_of, texts_of, image_of, shape_of, first_state, step, after, disk_after, IsKept}
 use Rattle.dasd_pool.specs.Kept.{KeptView, with_call, WithWrite}
 use Rattle.dasd_pool.specs.Marks.{is_marked, first_marks}
 use Rattle.dasd_pool.specs.Memory.{MemoryView, view_of, fresh, marked_state, disk_now, disk_by, disk_of, state_of, is_full, fails, write_step, sync_step, IsCall, Agree}
 use Rattle.dasd_pool.specs.Failures.{one_more}
-use Rattle.dasd_pool.specs.Moments.{at_start}
+use Rattle.dasd_pool.proofs.Moments.{at_start, Elapses}
 use Rattle.dasd_pool.proofs.OneMore.{after_push, elapses_push}
 use Rattle.dasd_pool.proofs.Marking.{none_marked, line_length}
 use Rattle.std.proofs.lemmas.List.{length-map}

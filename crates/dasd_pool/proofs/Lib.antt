@@ -7,3 +7,4 @@ pub mod Marking
 pub mod Effects
 pub mod Ordered
 pub mod Whole
+pub mod Moments

@@ -3,8 +3,9 @@ use Rattle.std.proofs.Common.{◌≡◌, inl, inr, List, [], ◌∷◌, ◌++◌
 use Rattle.std.proofs.lemmas.Bool.{cases_lt}
 use Rattle.std.proofs.lemmas.List.{take_all, take-append-le}
 use Rattle.dasd_pool.specs.declared.calls.Call.{Call}
-use Rattle.dasd_pool.specs.Disk.{State, MayLeave, Elapses}
+use Rattle.dasd_pool.specs.Disk.{State, MayLeave}
 use Rattle.dasd_pool.specs.Calls.{step, after, disk_after}
+use Rattle.dasd_pool.proofs.Moments.{Elapses}
 
 pub after_push : (state : State) (calls : List Call) (call : Call) → after state (calls ++ call ∷ []) ≡ step (after state calls) call
 after_push state [] call = refl

@@ -3,7 +3,7 @@ use Rattle.std.proofs.Common.{◌≡◌, inl, inr, ℕ, List, Bool, sym, ◌∙�
 use Rattle.std.specs.Prelude.{◌==◌, if◌then◌else◌}
 use Rattle.std.proofs.lemmas.Bool.{cases_Bool, and_parts, eqb-true}
 use Rattle.dasd_pool.specs.Disk.{Image, State, Disk, LeavesOnly, Touches, Spares, Runs, IsSynced, is_at}
-use Rattle.dasd_pool.specs.Moments.{and_then, weaken, since_start}
+use Rattle.dasd_pool.proofs.Moments.{and_then, weaken, since_start}
 use Rattle.dasd_pool.specs.Order.{with_block, InOrder}
 
 -- a block was written

@@ -40,10 +40,6 @@ pub record LeavesOnly (old new : Disk) (P : Image → Type 0) : Type 0 where
   pub goes_on : old.keeps_past → new.keeps_past
   pub keeps : old.keeps_past → (since : ℕ) (image : Image) → since ≤ old.moment → old.left_since since image → new.left_since since image
 
--- a call takes time, and a crash within it or after it leaves what the new state may leave, or what it might have left before
-abbrev pub Elapses : Disk → Disk → Type 0
-Elapses old new = LeavesOnly old new (MayLeave new.state)
-
 -- the pair of numbers is this one
 abbrev pub is_at : ℕ → ℕ → ℕ → ℕ → Bool
 is_at unit block u b = (u == unit) && (b == block)

@@ -1,6 +1,5 @@
 pub mod Count
 pub mod Disk
-pub mod Moments
 pub mod Stream
 pub mod Calls
 pub mod Blocks

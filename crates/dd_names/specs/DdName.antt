@@ -7,7 +7,3 @@ use Rattle.dd_names.specs.declared.dd.DdName.{DdName}
 -- what is kept of a text: its capitals, and zeros behind them
 abbrev pub dd_name_of : List ℕ → DdName
 dd_name_of text = record { len = length text; text = capitals text ++ replicate (8 - length text) 0 }
-
--- a name is kept as its text is
-abbrev pub IsDdName : DdName → Type 0
-IsDdName name = (text : List ℕ) × IsQualifierText text × (name ≡ dd_name_of text)

@@ -12,22 +12,22 @@ abbrev pub format_byte : List ℕ → ℕ
 format_byte bytes = slice_index bytes 44
 
 -- the first bytes, so many of them, all have this value
-abbrev pub Fills : ℕ → ℕ → List ℕ → Type 0
-Fills count value bytes = (k : ℕ) → k < count → slice_index bytes k ≡ value
+abbrev pub IsFilled : ℕ → ℕ → List ℕ → Type 0
+IsFilled count value bytes = (k : ℕ) → k < count → slice_index bytes k ≡ value
 
 -- the lowest of the first bytes, so many of them, that has another value
 pub record IsFirstOther (count value : ℕ) (bytes : List ℕ) (place : ℕ) : Type 0 where
   pub within : place < count
   pub other : slice_index bytes place ≢ value
-  pub before : Fills place value bytes
+  pub before : IsFilled place value bytes
 
 -- The grammar, case by case: a free DSCB is zeros, and formats 3, 4 and 5 begin with their identifier.
 abbrev pub IsDscb : List ℕ → Dscb → Type 0
-IsDscb bytes Free = Fills 140 0 bytes
+IsDscb bytes Free = IsFilled 140 0 bytes
 IsDscb bytes (F1 kept) = (kept ≡ bytes) × (format_byte bytes ≡ 0xF1)
-IsDscb bytes (F3 kept) = (kept ≡ bytes) × (format_byte bytes ≡ 0xF3) × Fills 4 0x03 bytes
-IsDscb bytes (F4 kept) = (kept ≡ bytes) × (format_byte bytes ≡ 0xF4) × Fills 44 0x04 bytes
-IsDscb bytes (F5 kept) = (kept ≡ bytes) × (format_byte bytes ≡ 0xF5) × Fills 4 0x05 bytes
+IsDscb bytes (F3 kept) = (kept ≡ bytes) × (format_byte bytes ≡ 0xF3) × IsFilled 4 0x03 bytes
+IsDscb bytes (F4 kept) = (kept ≡ bytes) × (format_byte bytes ≡ 0xF4) × IsFilled 44 0x04 bytes
+IsDscb bytes (F5 kept) = (kept ≡ bytes) × (format_byte bytes ≡ 0xF5) × IsFilled 4 0x05 bytes
 
 -- the bytes of a DSCB
 abbrev pub dscb_text : Dscb → List ℕ

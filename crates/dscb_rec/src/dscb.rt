@@ -1,7 +1,7 @@
 //! A DSCB by its format.
 
 ghost use Rattle.std.specs.Prelude.{◌≡◌, ◌≤◌, OnOk, IfOk, IfErr, IfSome, IfNone};
-ghost use Rattle.dscb_rec.specs.Dscb.{Fills, IsFirstOther, IsOtherId, IsDscb, IsDscbFault, dscb_text, number_of};
+ghost use Rattle.dscb_rec.specs.Dscb.{IsFilled, IsFirstOther, IsOtherId, IsDscb, IsDscbFault, dscb_text, number_of};
 
 use thiserror::Error;
 
@@ -58,7 +58,7 @@ fn wrong(byte: u32, rule: DscbRule) -> DscbFault
 fn first_other(bytes: &[u8; 140], count: u32, value: u8) -> Option<u32>
     requires { count ≤ 140 }
     ensures found { IfSome result (IsFirstOther count value bytes.now) }
-    ensures none { IfNone result (Fills count value bytes.now) }
+    ensures none { IfNone result (IsFilled count value bytes.now) }
 {
     for place in 0..count {
         if bytes[place as usize] != value {
@@ -71,7 +71,7 @@ fn first_other(bytes: &[u8; 140], count: u32, value: u8) -> Option<u32>
 /// Whether the identifier of a format stands at the front: so many bytes of one value.
 fn identified(bytes: &[u8; 140], count: u32, value: u8) -> Result<(), DscbFault>
     requires { count ≤ 140 }
-    ensures ok { OnOk result (Fills count value bytes.now) }
+    ensures ok { OnOk result (IsFilled count value bytes.now) }
     ensures refused { IfErr result (IsOtherId count value bytes.now) }
 {
     match first_other(bytes, count, value) {

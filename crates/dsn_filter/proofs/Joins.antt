@@ -2,7 +2,7 @@
 use Rattle.std.proofs.Common.{◌≡◌, ◌≢◌, ℕ, ◌<◌, ◌⊎◌, inl, inr, List, [], ◌∷◌, ◌++◌, length, refl, sym, ap, subst, ◌∙◌, append_assoc, arith, length-append}
 use Rattle.std.specs.List.{AllByRecursion}
 use Rattle.std.proofs.lemmas.Bool.{cases_eq}
-use Rattle.dsn_filter.specs.Text.{joined}
+use Rattle.dsn_filter.specs.Text.{dotted}
 
 -- bytes without a dot
 abbrev pub Dotless : List ℕ → Type 0
@@ -24,7 +24,7 @@ pub closed_push : (qs : List (List ℕ)) (q : List ℕ) → closed (qs ++ (q ∷
 closed_push [] q = refl
 closed_push (p ∷ ps) q = ap (λ (t : List ℕ). p ++ (46 ∷ t)) (closed_push ps q) ∙ sym (append_assoc p (46 ∷ closed ps) (q ++ (46 ∷ [])))
 
-pub joined_push : (qs : List (List ℕ)) (q : List ℕ) → joined (qs ++ (q ∷ [])) ≡ closed qs ++ q
+pub joined_push : (qs : List (List ℕ)) (q : List ℕ) → dotted (qs ++ (q ∷ [])) ≡ closed qs ++ q
 joined_push [] q = refl
 joined_push (p ∷ []) q = sym (append_assoc p (46 ∷ []) q)
 joined_push (p ∷ r ∷ rs) q = ap (λ (t : List ℕ). p ++ (46 ∷ t)) (joined_push (r ∷ rs) q) ∙ sym (append_assoc p (46 ∷ closed (r ∷ rs)) q)
@@ -69,9 +69,9 @@ module _ (Form : List ℕ → Type 0) (form : IsForm Form) where
   some_bytes [] h = absurd (form.none h)
   some_bytes (b ∷ q) h = omega arith
 
-  joined_some : (x : List ℕ) (xs : List (List ℕ)) → Form x → 0 < length (joined (x ∷ xs))
+  joined_some : (x : List ℕ) (xs : List (List ℕ)) → Form x → 0 < length (dotted (x ∷ xs))
   joined_some x [] h = some_bytes x h
-  joined_some x (y ∷ ys) h = omega (arith, some_bytes x h, length-append x (46 ∷ joined (y ∷ ys)))
+  joined_some x (y ∷ ys) h = omega (arith, some_bytes x h, length-append x (46 ∷ dotted (y ∷ ys)))
 
   -- a qualifier that is begun has no dot
   begun_dotless : (q : List ℕ) → (q ≡ []) ⊎ Form q → Dotless q
@@ -102,25 +102,25 @@ module _ (Form : List ℕ → Type 0) (form : IsForm Form) where
 
   -- what stands behind qualifiers and a begun one, where the whole is spelled right
   pub next : (qs spelled : List (List ℕ)) (q : List ℕ) (b : ℕ) (more : List ℕ) → AllByRecursion Form qs → AllByRecursion Form spelled → 0 < length spelled
-      → (q ≡ []) ⊎ Form q → closed qs ++ (q ++ (b ∷ more)) ≡ joined spelled → Next Form q b (length more)
+      → (q ≡ []) ⊎ Form q → closed qs ++ (q ++ (b ∷ more)) ≡ dotted spelled → Next Form q b (length more)
   next qs [] q b more each right some begun e = absurd (omega arith)
   next [] (x ∷ []) q b more each right some begun e = next_in_last q x b more right.0 (sym e) (cases_eq b 46)
   next [] (x ∷ y ∷ ys) q b more each right some begun e =
-      next_in_first q x b more (joined (y ∷ ys)) begun right.0 (joined_some Form form y ys right.1.0) e (cases_eq b 46)
+      next_in_first q x b more (dotted (y ∷ ys)) begun right.0 (joined_some Form form y ys right.1.0) e (cases_eq b 46)
   next (p ∷ ps) (x ∷ []) q b more each right some begun e =
       let whole : p ++ (46 ∷ (closed ps ++ (q ++ (b ∷ more)))) ≡ x = sym (append_assoc p (46 ∷ closed ps) (q ++ (b ∷ more))) ∙ e in
       absurd (no_dot_within p (closed ps ++ (q ++ (b ∷ more))) (subst Dotless (sym whole) (form.dotless x right.0)))
   next (p ∷ ps) (x ∷ y ∷ ys) q b more each right some begun e =
-      let whole : p ++ (46 ∷ (closed ps ++ (q ++ (b ∷ more)))) ≡ x ++ (46 ∷ joined (y ∷ ys)) = sym (append_assoc p (46 ∷ closed ps) (q ++ (b ∷ more))) ∙ e in
-      let same = same_front p x (closed ps ++ (q ++ (b ∷ more))) (joined (y ∷ ys)) (form.dotless p each.0) (form.dotless x right.0) whole in
+      let whole : p ++ (46 ∷ (closed ps ++ (q ++ (b ∷ more)))) ≡ x ++ (46 ∷ dotted (y ∷ ys)) = sym (append_assoc p (46 ∷ closed ps) (q ++ (b ∷ more))) ∙ e in
+      let same = same_front p x (closed ps ++ (q ++ (b ∷ more))) (dotted (y ∷ ys)) (form.dotless p each.0) (form.dotless x right.0) whole in
       next ps (y ∷ ys) q b more each.1 right.1 (omega arith) begun same.1
 
   -- no text ends in a dot, and none is empty
-  pub not_closed : (qs spelled : List (List ℕ)) → AllByRecursion Form qs → AllByRecursion Form spelled → 0 < length spelled → closed qs ≡ joined spelled → ⊥
+  pub not_closed : (qs spelled : List (List ℕ)) → AllByRecursion Form qs → AllByRecursion Form spelled → 0 < length spelled → closed qs ≡ dotted spelled → ⊥
   not_closed qs [] each right some e = omega arith
   not_closed [] (x ∷ xs) each right some e =
-      let none : length (joined (x ∷ xs)) ≡ 0 = ap length (sym e) in omega (arith, joined_some Form form x xs right.0)
+      let none : length (dotted (x ∷ xs)) ≡ 0 = ap length (sym e) in omega (arith, joined_some Form form x xs right.0)
   not_closed (p ∷ ps) (x ∷ []) each right some e = no_dot_within p (closed ps) (subst Dotless (sym e) (form.dotless x right.0))
   not_closed (p ∷ ps) (x ∷ y ∷ ys) each right some e =
-      let same = same_front p x (closed ps) (joined (y ∷ ys)) (form.dotless p each.0) (form.dotless x right.0) e in
+      let same = same_front p x (closed ps) (dotted (y ∷ ys)) (form.dotless p each.0) (form.dotless x right.0) e in
       not_closed ps (y ∷ ys) each.1 right.1 (omega arith) same.1

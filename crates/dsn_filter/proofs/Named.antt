@@ -4,7 +4,7 @@ use Rattle.std.specs.Char.{to_ascii_uppercase}
 use Rattle.std.proofs.lemmas.List.{length-map, take_at}
 use Rattle.std.proofs.lemmas.List.Elements.{recursion_from_All, All-weaker}
 use Rattle.dsn_filter.specs.declared.dsn.Dsn.{Dsn}
-use Rattle.dsn_filter.specs.Text.{capitals, joined, qualifiers, IsSpelled, IsText}
+use Rattle.dsn_filter.specs.Text.{capitals, dotted, qualifiers, IsSpelled, IsText}
 use Rattle.dsn_filter.specs.Qualifier.{IsQualifier, IsPatternPart}
 use Rattle.dsn_filter.specs.Dsn.{text_of, dsn_of, IsDsn}
 use Rattle.dsn_filter.proofs.Joins.{Dotless, IsForm, some_bytes}
@@ -38,8 +38,8 @@ name_short name text (spelling, (spelled, h), is) at =
 pub name_few : (name : Dsn) (text : List ℕ) → IsDsn name → text ≡ text_of name → length (qualifiers text) ≤ 22
 name_few name text (spelling, (spelled, h), is) at =
     let read : qualifiers text ≡ spelled = ap qualifiers (at ∙ text_is name spelling is) ∙ spelled_is IsQualifier name_form spelled spelling h in
-    let len : length (capitals spelling) ≡ length (joined spelled) = ap length h.joins in
-    let few : 2 * length spelled ≤ length (joined spelled) + 1 =
+    let len : length (capitals spelling) ≡ length (dotted spelled) = ap length h.joins in
+    let few : 2 * length spelled ≤ length (dotted spelled) + 1 =
     few_joined spelled (recursion_from_All (λ (q : List ℕ). 0 < length q) spelled (All-weaker IsQualifier (λ (q : List ℕ). 0 < length q) (some_bytes IsQualifier name_form) spelled h.each)) in
     let same : length (qualifiers text) ≡ length spelled = ap length read in
     omega (arith, h.short, length-map spelling to_ascii_uppercase)

@@ -3,7 +3,7 @@ use Rattle.std.proofs.Common.{◌≡◌, ℕ, ◌+◌, ◌*◌, ◌<◌, ◌≤�
 use Rattle.std.specs.List.{AllByRecursion}
 use Rattle.std.proofs.lemmas.Bool.{ne_eqb, cond_both, eqb-true}
 use Rattle.std.proofs.lemmas.List.{take-append-drop, drop_more}
-use Rattle.dsn_filter.specs.Text.{joined, onto_first, qualifiers}
+use Rattle.dsn_filter.specs.Text.{dotted, onto_first, qualifiers}
 use Rattle.dsn_filter.proofs.Joins.{Dotless}
 
 pub qualifiers_dot : (p rest : List ℕ) → Dotless p → qualifiers (p ++ (46 ∷ rest)) ≡ p ∷ qualifiers rest
@@ -26,23 +26,23 @@ qualifiers_at_dot text place lt h dot =
     ∙ ap (λ (b : ℕ). take place text ++ (b ∷ drop (place + 1) text)) dot in
     ap qualifiers parted ∙ qualifiers_dot (take place text) (drop (place + 1) text) h
 
--- what is joined comes apart again
-pub qualifiers_joined : (spelled : List (List ℕ)) → AllByRecursion Dotless spelled → 0 < length spelled → qualifiers (joined spelled) ≡ spelled
+-- what is joined by dots comes apart again
+pub qualifiers_joined : (spelled : List (List ℕ)) → AllByRecursion Dotless spelled → 0 < length spelled → qualifiers (dotted spelled) ≡ spelled
 qualifiers_joined [] h some = absurd (omega arith)
 qualifiers_joined (x ∷ []) h some = qualifiers_last x h.0
-qualifiers_joined (x ∷ y ∷ ys) h some = qualifiers_dot x (joined (y ∷ ys)) h.0 ∙ ap (λ (t : List (List ℕ)). x ∷ t) (qualifiers_joined (y ∷ ys) h.1 (omega arith))
+qualifiers_joined (x ∷ y ∷ ys) h some = qualifiers_dot x (dotted (y ∷ ys)) h.0 ∙ ap (λ (t : List (List ℕ)). x ∷ t) (qualifiers_joined (y ∷ ys) h.1 (omega arith))
 
 -- each qualifier takes a character and a dot at least
-pub few_joined : (spelled : List (List ℕ)) → AllByRecursion (λ (q : List ℕ). 0 < length q) spelled → 2 * length spelled ≤ length (joined spelled) + 1
+pub few_joined : (spelled : List (List ℕ)) → AllByRecursion (λ (q : List ℕ). 0 < length q) spelled → 2 * length spelled ≤ length (dotted spelled) + 1
 few_joined [] h = omega arith
 few_joined (x ∷ []) h = omega (arith, h.0)
-few_joined (x ∷ y ∷ ys) h = omega (arith, h.0, few_joined (y ∷ ys) h.1, length-append x (46 ∷ joined (y ∷ ys)))
+few_joined (x ∷ y ∷ ys) h = omega (arith, h.0, few_joined (y ∷ ys) h.1, length-append x (46 ∷ dotted (y ∷ ys)))
 
-joined_cons : (x : List ℕ) (qs : List (List ℕ)) → 0 < length qs → joined (x ∷ qs) ≡ x ++ (46 ∷ joined qs)
+joined_cons : (x : List ℕ) (qs : List (List ℕ)) → 0 < length qs → dotted (x ∷ qs) ≡ x ++ (46 ∷ dotted qs)
 joined_cons x [] some = absurd (omega arith)
 joined_cons x (y ∷ ys) some = refl
 
-joined_onto : (b : ℕ) (qs : List (List ℕ)) → 0 < length qs → joined (onto_first b qs) ≡ b ∷ joined qs
+joined_onto : (b : ℕ) (qs : List (List ℕ)) → 0 < length qs → dotted (onto_first b qs) ≡ b ∷ dotted qs
 joined_onto b [] some = absurd (omega arith)
 joined_onto b (q ∷ []) some = refl
 joined_onto b (q ∷ r ∷ rs) some = refl
@@ -56,10 +56,10 @@ qualifiers_some [] = omega arith
 qualifiers_some (b ∷ rest) = cond_both (b == 46) ([] ∷ qualifiers rest) (onto_first b (qualifiers rest)) (λ qs. 0 < length qs) (λ _. omega arith) (λ _. onto_some b (qualifiers rest))
 
 -- what is apart joins again
-pub joined_qualifiers : (text : List ℕ) → joined (qualifiers text) ≡ text
+pub joined_qualifiers : (text : List ℕ) → dotted (qualifiers text) ≡ text
 joined_qualifiers [] = refl
 joined_qualifiers (b ∷ rest) =
-    let again : joined (qualifiers rest) ≡ rest = joined_qualifiers rest in
-    cond_both (b == 46) ([] ∷ qualifiers rest) (onto_first b (qualifiers rest)) (λ qs. joined qs ≡ b ∷ rest)
+    let again : dotted (qualifiers rest) ≡ rest = joined_qualifiers rest in
+    cond_both (b == 46) ([] ∷ qualifiers rest) (onto_first b (qualifiers rest)) (λ qs. dotted qs ≡ b ∷ rest)
     (λ dot. joined_cons [] (qualifiers rest) (qualifiers_some rest) ∙ ap (λ (t : List ℕ). 46 ∷ t) again ∙ ap (λ (c : ℕ). c ∷ rest) (sym (eqb-true b 46 dot)))
     (λ _. joined_onto b (qualifiers rest) (qualifiers_some rest) ∙ ap (λ (t : List ℕ). b ∷ t) again)

@@ -6,7 +6,7 @@ use Rattle.std.proofs.lemmas.Bool.{lt-ltb}
 use Rattle.std.proofs.lemmas.List.{drop_more, map-append, take_at, drop_at, drop-drop, drop-replicate, length-map}
 use Rattle.std.proofs.lemmas.List.Elements.{recursion_from_All, All-from_recursion}
 use Rattle.dsn_filter.specs.declared.dsn.Dsn.{Dsn}
-use Rattle.dsn_filter.specs.Text.{capitals, joined, qualifiers}
+use Rattle.dsn_filter.specs.Text.{capitals, dotted, qualifiers}
 use Rattle.dsn_filter.specs.Qualifier.{IsInner, IsQualifier}
 use Rattle.dsn_filter.specs.Dsn.{text_of, dsn_of, qualifiers_of, IsNameText, IsDsn}
 use Rattle.dsn_filter.specs.Rename.{IsPrefix, with_prefix, IsListed}
@@ -50,22 +50,22 @@ capital_qualifier (c ∷ r) h =
     let first : to_ascii_uppercase c ≡ c = upper_inner c (inl h.0) in
     let rest : capitals r ≡ r = capital_inner r (recursion_from_All IsInner r h.1) in cc
 
-capital_joined : (qs : List (List ℕ)) → AllByRecursion IsQualifier qs → capitals (joined qs) ≡ joined qs
+capital_joined : (qs : List (List ℕ)) → AllByRecursion IsQualifier qs → capitals (dotted qs) ≡ dotted qs
 capital_joined [] h = refl
 capital_joined (x ∷ []) h = capital_qualifier x h.0
 capital_joined (x ∷ y ∷ ys) h =
     let first : capitals x ≡ x = capital_qualifier x h.0 in
-    let rest : capitals (joined (y ∷ ys)) ≡ joined (y ∷ ys) = capital_joined (y ∷ ys) h.1 in
-    map-append to_ascii_uppercase x (46 ∷ joined (y ∷ ys)) ∙ ap (λ (t : List ℕ). t ++ (46 ∷ capitals (joined (y ∷ ys)))) first ∙ ap (λ (t : List ℕ). x ++ (46 ∷ t)) rest
+    let rest : capitals (dotted (y ∷ ys)) ≡ dotted (y ∷ ys) = capital_joined (y ∷ ys) h.1 in
+    map-append to_ascii_uppercase x (46 ∷ dotted (y ∷ ys)) ∙ ap (λ (t : List ℕ). t ++ (46 ∷ capitals (dotted (y ∷ ys)))) first ∙ ap (λ (t : List ℕ). x ++ (46 ∷ t)) rest
 
 -- qualifiers are kept as a name
-pub kept_name : (qs : List (List ℕ)) (name : Dsn) → All IsQualifier qs → 0 < length qs → length (joined qs) ≤ 44 → name.len ≡ length (joined qs)
-    → name.text ≡ joined qs ++ replicate (44 - length (joined qs)) 0 → IsDsn name × (text_of name ≡ joined qs)
+pub kept_name : (qs : List (List ℕ)) (name : Dsn) → All IsQualifier qs → 0 < length qs → length (dotted qs) ≤ 44 → name.len ≡ length (dotted qs)
+    → name.text ≡ dotted qs ++ replicate (44 - length (dotted qs)) 0 → IsDsn name × (text_of name ≡ dotted qs)
 kept_name qs name each some few len text =
-    let capital : capitals (joined qs) ≡ joined qs = capital_joined qs (recursion_from_All IsQualifier qs each) in
-    let is : name ≡ dsn_of (joined qs) = same_dsn name (dsn_of (joined qs)) len (text ∙ ap (λ (t : List ℕ). t ++ replicate (44 - length (joined qs)) 0) (sym capital)) in
-    let spelled : IsNameText (joined qs) = (qs, record { each = each; some = some; short = few; joins = capital }) in
-    ((joined qs, spelled, is), text_is name (joined qs) is ∙ capital)
+    let capital : capitals (dotted qs) ≡ dotted qs = capital_joined qs (recursion_from_All IsQualifier qs each) in
+    let is : name ≡ dsn_of (dotted qs) = same_dsn name (dsn_of (dotted qs)) len (text ∙ ap (λ (t : List ℕ). t ++ replicate (44 - length (dotted qs)) 0) (sym capital)) in
+    let spelled : IsNameText (dotted qs) = (qs, record { each = each; some = some; short = few; joins = capital }) in
+    ((dotted qs, spelled, is), text_is name (dotted qs) is ∙ capital)
 
 -- ---- a prefix
 
@@ -86,19 +86,19 @@ prefixed_some prefix [] = omega arith
 prefixed_some prefix (first ∷ []) = omega arith
 prefixed_some prefix (first ∷ second ∷ rest) = omega arith
 
-several : (prefix first : List ℕ) (behind : List (List ℕ)) → 0 < length behind → joined (with_prefix prefix (first ∷ behind)) ≡ prefix ++ (46 ∷ joined behind)
+several : (prefix first : List ℕ) (behind : List (List ℕ)) → 0 < length behind → dotted (with_prefix prefix (first ∷ behind)) ≡ prefix ++ (46 ∷ dotted behind)
 several prefix first [] some = absurd (omega arith)
 several prefix first (second ∷ rest) some = refl
 
 -- the characters of the new name: what stands behind the first dot, or all
-pub prefix_behind : (prefix text first rest : List ℕ) → qualifiers text ≡ first ∷ qualifiers rest → joined (with_prefix prefix (qualifiers text)) ≡ prefix ++ (46 ∷ rest)
+pub prefix_behind : (prefix text first rest : List ℕ) → qualifiers text ≡ first ∷ qualifiers rest → dotted (with_prefix prefix (qualifiers text)) ≡ prefix ++ (46 ∷ rest)
 prefix_behind prefix text first rest apart =
-    ap (λ (qs : List (List ℕ)). joined (with_prefix prefix qs)) apart ∙ several prefix first (qualifiers rest) (qualifiers_some rest)
+    ap (λ (qs : List (List ℕ)). dotted (with_prefix prefix qs)) apart ∙ several prefix first (qualifiers rest) (qualifiers_some rest)
     ∙ ap (λ (t : List ℕ). prefix ++ (46 ∷ t)) (joined_qualifiers rest)
 
-pub prefix_before : (prefix text first : List ℕ) → qualifiers text ≡ first ∷ [] → joined (with_prefix prefix (qualifiers text)) ≡ prefix ++ (46 ∷ text)
+pub prefix_before : (prefix text first : List ℕ) → qualifiers text ≡ first ∷ [] → dotted (with_prefix prefix (qualifiers text)) ≡ prefix ++ (46 ∷ text)
 prefix_before prefix text first apart =
-    ap (λ (qs : List (List ℕ)). joined (with_prefix prefix qs)) apart ∙ ap (λ (t : List ℕ). prefix ++ (46 ∷ t)) (sym (ap joined apart) ∙ joined_qualifiers text)
+    ap (λ (qs : List (List ℕ)). dotted (with_prefix prefix qs)) apart ∙ ap (λ (t : List ℕ). prefix ++ (46 ∷ t)) (sym (ap dotted apart) ∙ joined_qualifiers text)
 
 -- a piece put where the zeros begin
 pub put_more : (front piece text : List ℕ) (n at end : ℕ) → text ≡ front ++ replicate n 0 → length piece ≤ n → at ≡ length front → end ≡ at + length piece
@@ -129,11 +129,11 @@ put_joined front behind t0 t1 t2 t3 few zero-is one two three =
     ∙ ap (λ (t : List ℕ). t ++ replicate (44 - length (front ++ (46 ∷ behind))) 0) (append_assoc front (46 ∷ []) behind)
 
 -- the new name is one
-pub renamed : (prefix name new : Dsn) (kept : List ℕ) → IsPrefix prefix → IsDsn name → joined (with_prefix (text_of prefix) (qualifiers_of name)) ≡ text_of prefix ++ (46 ∷ kept)
+pub renamed : (prefix name new : Dsn) (kept : List ℕ) → IsPrefix prefix → IsDsn name → dotted (with_prefix (text_of prefix) (qualifiers_of name)) ≡ text_of prefix ++ (46 ∷ kept)
     → length (text_of prefix) + 1 + length kept ≤ 44
     → new.len ≡ length (text_of prefix ++ (46 ∷ kept))
     → new.text ≡ (text_of prefix ++ (46 ∷ kept)) ++ replicate (44 - length (text_of prefix ++ (46 ∷ kept))) 0
-    → IsDsn new × (text_of new ≡ joined (with_prefix (text_of prefix) (qualifiers_of name)))
+    → IsDsn new × (text_of new ≡ dotted (with_prefix (text_of prefix) (qualifiers_of name)))
 renamed prefix name new kept p n is few len text =
     let qs : List (List ℕ) = with_prefix (text_of prefix) (qualifiers_of name) in
     kept_name qs new
@@ -143,11 +143,11 @@ renamed prefix name new kept p n is few len text =
     (len ∙ ap length (sym is)) (text ∙ ap (λ (t : List ℕ). t ++ replicate (44 - length t) 0) (sym is))
 
 pub renamed_from : (prefix name new : Dsn) (front text kept : List ℕ) → IsPrefix prefix → IsDsn name → front ≡ text_of prefix → text ≡ text_of name
-    → ((p : List ℕ) → joined (with_prefix p (qualifiers text)) ≡ p ++ (46 ∷ kept)) → length front + 1 + length kept ≤ 44
+    → ((p : List ℕ) → dotted (with_prefix p (qualifiers text)) ≡ p ++ (46 ∷ kept)) → length front + 1 + length kept ≤ 44
     → new.len ≡ length (front ++ (46 ∷ kept)) → new.text ≡ (front ++ (46 ∷ kept)) ++ replicate (44 - length (front ++ (46 ∷ kept))) 0
-    → IsDsn new × (text_of new ≡ joined (with_prefix (text_of prefix) (qualifiers_of name)))
+    → IsDsn new × (text_of new ≡ dotted (with_prefix (text_of prefix) (qualifiers_of name)))
 renamed_from prefix name new front text kept p n front-is text-is is few len body =
-    renamed prefix name new kept p n (subst (λ (t : List ℕ). joined (with_prefix (text_of prefix) (qualifiers t)) ≡ text_of prefix ++ (46 ∷ kept)) text-is (is (text_of prefix)))
+    renamed prefix name new kept p n (subst (λ (t : List ℕ). dotted (with_prefix (text_of prefix) (qualifiers t)) ≡ text_of prefix ++ (46 ∷ kept)) text-is (is (text_of prefix)))
     (subst (λ (t : List ℕ). length t + 1 + length kept ≤ 44) front-is few)
     (subst (λ (t : List ℕ). new.len ≡ length (t ++ (46 ∷ kept))) front-is len)
     (subst (λ (t : List ℕ). new.text ≡ (t ++ (46 ∷ kept)) ++ replicate (44 - length (t ++ (46 ∷ kept))) 0) front-is body)

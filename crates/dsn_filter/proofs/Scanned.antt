@@ -3,7 +3,7 @@ use Rattle.std.proofs.Common.{◌≡◌, ℕ, suc, ◌+◌, ◌-◌, ◌<◌, �
 use Rattle.std.specs.Char.{to_ascii_uppercase}
 use Rattle.std.proofs.lemmas.List.{append-nil, map-append, length-map, take-append-drop, take_more, take_all, take_at, drop-append-le, set_at, nil_from_length, length-take-le, drop_all}
 use Rattle.std.proofs.lemmas.List.Elements.{recursion_from_All, All-push}
-use Rattle.dsn_filter.specs.Text.{capitals, joined, IsText, IsBegun, IsFirstWrong}
+use Rattle.dsn_filter.specs.Text.{capitals, dotted, IsText, IsBegun, IsFirstWrong}
 use Rattle.dsn_filter.specs.Scan.{Continues}
 use Rattle.dsn_filter.proofs.Joins.{IsForm, closed, closed_push, joined_push, Next, next, not_closed}
 
@@ -83,7 +83,7 @@ module _ (Form : List ℕ → Type 0) (form : IsForm Form) where
       let upper : ℕ = to_ascii_uppercase b in
       let split : capitals ((text ++ (b ∷ [])) ++ more) ≡ (capitals text ++ (upper ∷ [])) ++ capitals more =
       map-append to_ascii_uppercase (text ++ (b ∷ [])) more ∙ ap (λ (t : List ℕ). t ++ capitals more) (map-append to_ascii_uppercase text (b ∷ [])) in
-      let whole : closed h.over ++ (part ++ (upper ∷ capitals more)) ≡ joined spelled =
+      let whole : closed h.over ++ (part ++ (upper ∷ capitals more)) ≡ dotted spelled =
       sym (append_assoc (closed h.over) part (upper ∷ capitals more)) ∙ ap (λ (t : List ℕ). t ++ (upper ∷ capitals more)) (sym h.joins)
       ∙ sym (append_assoc (capitals text) (upper ∷ []) (capitals more)) ∙ sym split ∙ right.joins in
       next Form form h.over spelled part upper (capitals more) (recursion_from_All Form h.over h.each) (recursion_from_All Form spelled right.each) right.some h.begun whole

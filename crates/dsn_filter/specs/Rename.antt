@@ -3,7 +3,7 @@ use Rattle.std.specs.Prelude.{◌≡◌, ◌≢◌, ℕ, ◌⊎◌, List, [], �
 use Rattle.dsn_filter.specs.declared.dsn.Dsn.{Dsn}
 use Rattle.dsn_filter.specs.declared.rename.Rename.{Rename}
 use Rattle.dsn_filter.specs.declared.rename.Rename.TheVariants.{Keep, Prefix, Listed}
-use Rattle.dsn_filter.specs.Text.{joined}
+use Rattle.dsn_filter.specs.Text.{dotted}
 use Rattle.dsn_filter.specs.Qualifier.{IsQualifier}
 use Rattle.dsn_filter.specs.Dsn.{text_of, dsn_of, qualifiers_of, IsDsn}
 
@@ -31,5 +31,5 @@ IsListed (pair ∷ pairs) name new = ((pair.0 ≡ name) × (new ≡ pair.1)) ⊎
 -- the characters of the new name, which may be too many
 abbrev pub Renames : Rename → Dsn → List ℕ → Type 0
 Renames Keep name text = text ≡ text_of name
-Renames (Prefix prefix) name text = text ≡ joined (with_prefix (text_of prefix) (qualifiers_of name))
+Renames (Prefix prefix) name text = text ≡ dotted (with_prefix (text_of prefix) (qualifiers_of name))
 Renames (Listed pairs) name text = (new : Dsn) × IsListed pairs name new × (text ≡ text_of new)

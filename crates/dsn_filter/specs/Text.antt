@@ -1,4 +1,4 @@
--- Texts that are spelled as qualifiers joined by dots.
+-- Texts that are spelled as qualifiers with dots between them.
 use Rattle.std.specs.Prelude.{◌≡◌, ℕ, ◌+◌, ◌<◌, ◌≤◌, ◌==◌, if◌then◌else◌, List, [], ◌∷◌, ◌++◌, length, take, map, All}
 use Rattle.std.specs.List.{join_with_byte}
 use Rattle.std.specs.Char.{to_ascii_uppercase}
@@ -8,8 +8,8 @@ abbrev pub capitals : List ℕ → List ℕ
 capitals text = map to_ascii_uppercase text
 
 -- qualifiers, with a dot between each two
-abbrev pub joined : List (List ℕ) → List ℕ
-joined qualifiers = join_with_byte 46 qualifiers
+abbrev pub dotted : List (List ℕ) → List ℕ
+dotted qualifiers = join_with_byte 46 qualifiers
 
 -- one more byte in front of the first
 abbrev pub onto_first : ℕ → List (List ℕ) → List (List ℕ)
@@ -26,7 +26,7 @@ pub record IsSpelled (Form : List ℕ → Type 0) (spelled : List (List ℕ)) (t
   pub each : All Form spelled
   pub some : 0 < length spelled
   pub short : length text ≤ 44
-  pub joins : capitals text ≡ joined spelled
+  pub joins : capitals text ≡ dotted spelled
 
 -- a text spells qualifiers of this form
 abbrev pub IsText : (List ℕ → Type 0) → List ℕ → Type 0

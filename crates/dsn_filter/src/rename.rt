@@ -2,7 +2,7 @@
 
 ghost use Rattle.std.specs.Prelude.{◌≡◌, ℕ, ◌<◌, ◌≤◌, ◌+◌, ◌-◌, List, ◌∷◌, ◌++◌, length, replicate, IfSome, IfNone};
 ghost use Rattle.dsn_filter.specs.declared.dsn.Dsn.{Dsn};
-ghost use Rattle.dsn_filter.specs.Text.{joined, qualifiers};
+ghost use Rattle.dsn_filter.specs.Text.{dotted, qualifiers};
 ghost use Rattle.dsn_filter.specs.Dsn.{text_of, qualifiers_of, IsDsn};
 ghost use Rattle.dsn_filter.specs.Rename.{IsPrefix, IsRename, with_prefix, IsListed, Renames};
 
@@ -49,8 +49,8 @@ fn prefixed(prefix: &Dsn, name: &Dsn) -> Option<Dsn>
     requires prefix { IsPrefix prefix.now }
     requires name { IsDsn name.now }
     ensures lawful { IfSome result IsDsn }
-    ensures named { IfSome result (λ new. text_of new ≡ joined (with_prefix (text_of prefix.now) (qualifiers_of name.now))) }
-    ensures long { IfNone result (44 < length (joined (with_prefix (text_of prefix.now) (qualifiers_of name.now)))) }
+    ensures named { IfSome result (λ new. text_of new ≡ dotted (with_prefix (text_of prefix.now) (qualifiers_of name.now))) }
+    ensures long { IfNone result (44 < length (dotted (with_prefix (text_of prefix.now) (qualifiers_of name.now)))) }
 {
     let kept = kept_part(name.as_slice());
     let prefix = prefix.as_slice();
@@ -62,7 +62,7 @@ fn prefixed(prefix: &Dsn, name: &Dsn) -> Option<Dsn>
 
 /// What stands behind a new first qualifier: all behind the first dot, or one qualifier.
 fn kept_part(name: &[u8]) -> &[u8]
-    ensures { (prefix : List ℕ) → joined (with_prefix prefix (qualifiers name.now)) ≡ prefix ++ (46 ∷ result.now) }
+    ensures { (prefix : List ℕ) → dotted (with_prefix prefix (qualifiers name.now)) ≡ prefix ++ (46 ∷ result.now) }
 {
     match first_part(name) {
         (_, Some(behind)) => behind,

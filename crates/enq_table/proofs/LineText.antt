@@ -7,7 +7,7 @@ use Rattle.std.proofs.lemmas.List.{map-append, append-nil, length-map, take_at, 
 use Rattle.std.proofs.lemmas.List.Elements.{recursion_from_All, All-from_recursion}
 use Rattle.ckd_image.proofs.OneText.{split_same}
 use Rattle.dsn_filter.specs.declared.dsn.Dsn.{Dsn}
-use Rattle.dsn_filter.specs.Text.{capitals, joined, IsBegun, IsFirstWrong}
+use Rattle.dsn_filter.specs.Text.{capitals, dotted, IsBegun, IsFirstWrong}
 use Rattle.dsn_filter.specs.Qualifier.{IsInner, IsQualifier}
 use Rattle.dsn_filter.specs.OneQualifier.{IsQualifierText}
 use Rattle.dsn_filter.specs.Dsn.{text_of, dsn_of, IsNameText, IsDsn}
@@ -76,10 +76,10 @@ qualifier_blankless : (q : List ℕ) → IsQualifier q → Without 32 q
 qualifier_blankless [] h = absurd h
 qualifier_blankless (c ∷ r) h = (let letter = h.0 in λ e. omega (arith, letter, e), inner_blankless r (recursion_from_All IsInner r h.1))
 
-joined_blankless : (qs : List (List ℕ)) → AllByRecursion IsQualifier qs → Without 32 (joined qs)
+joined_blankless : (qs : List (List ℕ)) → AllByRecursion IsQualifier qs → Without 32 (dotted qs)
 joined_blankless [] h = tt
 joined_blankless (x ∷ []) h = qualifier_blankless x h.0
-joined_blankless (x ∷ y ∷ ys) h = without_append 32 x (46 ∷ joined (y ∷ ys)) (qualifier_blankless x h.0) (λ e. absurd (omega arith), joined_blankless (y ∷ ys) h.1)
+joined_blankless (x ∷ y ∷ ys) h = without_append 32 x (46 ∷ dotted (y ∷ ys)) (qualifier_blankless x h.0) (λ e. absurd (omega arith), joined_blankless (y ∷ ys) h.1)
 
 name_blankless : (name : Dsn) → IsDsn name → Without 32 (text_of name)
 name_blankless name (spelling, (spelled, h), is) =

@@ -9,7 +9,7 @@ use Rattle.std.proofs.lemmas.List.Sorted.{All-permutation, sum_by-IsPermutation}
 use Rattle.std.proofs.lemmas.List.Sums.{sum_by-cons, sum_by-append, sum_by-take-le, get_or-le-sum_by}
 use Rattle.std.proofs.Math.Nat.{mul-add-mod_self_right, div-mul-le_self, mul-mod_left}
 use Rattle.free_map.specs.declared.run.Run.{Run}
-use Rattle.free_map.specs.Runs.{Holds, InRuns, AreApart}
+use Rattle.free_map.specs.Runs.{HasTrack, InRuns, AreApart}
 use Rattle.free_map.specs.Free.{count_of}
 use Rattle.free_map.specs.Place.{rounded, aligned_part}
 use Rattle.free_map.specs.Several.{parts_of, IsForNothing, IsInOneRun, IsInLongest, AreChosen, ArePlaces}
@@ -19,7 +19,7 @@ use Rattle.free_map.proofs.Fit.{le_rounded, rounded_multiple, rounded_le, multip
 abbrev holding : ℕ → Run → ℕ
 holding t run = if nat_lt t run.first then 0 else (if nat_lt t (run.first + run.len) then 1 else 0)
 
-holding_in : (t : ℕ) (run : Run) → Holds run t → holding t run ≡ 1
+holding_in : (t : ℕ) (run : Run) → HasTrack run t → holding t run ≡ 1
 holding_in t run h = let le : run.first ≤ t = h.0 in let lt : t < run.first + run.len = h.1 in grind (arith, nat_tests)
 
 holding_before : (t : ℕ) (run : Run) → t < run.first → holding t run ≡ 0
@@ -67,7 +67,7 @@ pair_le t (run ∷ runs) (suc i) (suc j) d lt below =
     let le = pair_le t runs i j d (omega arith) (omega arith) in let e = times_cons t run runs in omega arith
 
 abbrev Disjoint : Run → Run → Type 0
-Disjoint a b = (t : ℕ) → Holds a t → ¬ Holds b t
+Disjoint a b = (t : ℕ) → HasTrack a t → ¬ HasTrack b t
 
 -- where each track is held once at most, no two runs hold one
 disjoint_from_once : (runs : List Run) → ((t : ℕ) → times t runs ≤ 1) → AllPairs Disjoint runs
@@ -124,7 +124,7 @@ record IsPart (step : ℕ) (runs : List Run) (part : Run) : Type 0 where
   some : 1 ≤ part.len
   first_whole : part.first % step ≡ 0
   len_whole : part.len % step ≡ 0
-  held : (t : ℕ) → Holds part t → InRuns runs t
+  held : (t : ℕ) → HasTrack part t → InRuns runs t
 
 -- multiples of one step
 times_whole : (q step : ℕ) → (q * step) % step ≡ 0
@@ -140,7 +140,7 @@ more_whole a b step p q =
     let e = multiple_is a step p in
     ap (λ (m : ℕ). (m + b) % step) e ∙ mul-add-mod_self_right (a / step) step b ∙ q
 
-part_is : (step : ℕ) (run : Run) (runs : List Run) → 1 ≤ step → 0 < (aligned_part step run).len → ((t : ℕ) → Holds run t → InRuns runs t) → IsPart step runs (aligned_part step run)
+part_is : (step : ℕ) (run : Run) (runs : List Run) → 1 ≤ step → 0 < (aligned_part step run).len → ((t : ℕ) → HasTrack run t → InRuns runs t) → IsPart step runs (aligned_part step run)
 part_is step run runs some more h =
     let low = part_from step run some in
     let high = part_to step run more in

@@ -8,7 +8,7 @@ use Rattle.std.proofs.lemmas.Bool.Decides.{nat_tests}
 use Rattle.std.proofs.lemmas.List.{drop_more, drop_all}
 use Rattle.std.proofs.lemmas.List.Elements.{recursion_from_All, All-from_recursion}
 use Rattle.free_map.specs.declared.run.Run.{Run}
-use Rattle.free_map.specs.Runs.{Holds, InRuns, AreApart, AreMaximalRuns, tracks_between}
+use Rattle.free_map.specs.Runs.{HasTrack, InRuns, AreApart, AreMaximalRuns, tracks_between}
 use Rattle.free_map.proofs.Apart.{apart_lower}
 
 -- the run from one track up to another
@@ -220,11 +220,11 @@ pub gaps_all : (free more whole : List Run) (next usable : ℕ) (used : List Run
 gaps_all free more whole next usable used i le before more_is =
     more_is ∙ sym (ap (λ (xs : List Run). free ++ gaps next usable xs) (drop_all i used le)) ∙ before
 
-all_missed : (t : ℕ) (runs : List Run) → ¬ InRuns runs t → AllByRecursion (λ run. ¬ Holds run t) runs
+all_missed : (t : ℕ) (runs : List Run) → ¬ InRuns runs t → AllByRecursion (λ run. ¬ HasTrack run t) runs
 all_missed t [] h = tt
 all_missed t (run ∷ runs) h = (λ p. h (inl p), all_missed t runs (λ q. h (inr q)))
 
-missed_all : (t : ℕ) (runs : List Run) → AllByRecursion (λ run. ¬ Holds run t) runs → ¬ InRuns runs t
+missed_all : (t : ℕ) (runs : List Run) → AllByRecursion (λ run. ¬ HasTrack run t) runs → ¬ InRuns runs t
 missed_all t [] a h = h
 missed_all t (run ∷ runs) a (inl p) = a.0 p
 missed_all t (run ∷ runs) a (inr q) = missed_all t runs a.1 q
@@ -232,7 +232,7 @@ missed_all t (run ∷ runs) a (inr q) = missed_all t runs a.1 q
 -- runs in another order miss the same tracks
 pub missed_permutation : (t : ℕ) (xs ys : List Run) → IsPermutation xs ys → ¬ InRuns xs t → ¬ InRuns ys t
 missed_permutation t xs ys p h =
-    let Missed : Run → Type 0 = λ run. ¬ Holds run t in
+    let Missed : Run → Type 0 = λ run. ¬ HasTrack run t in
     missed_all t ys (recursion_from_All Missed ys (All-permutation Missed xs ys p (All-from_recursion Missed xs (all_missed t xs h))))
 
 -- so they leave the same

@@ -5,7 +5,7 @@ use Rattle.std.proofs.lemmas.Bool.{cases_lt}
 use Rattle.std.proofs.lemmas.List.{drop_more, drop_all, take_more, take_all, take-append-drop, set_at, length-take-le}
 use Rattle.std.proofs.lemmas.List.Elements.{recursion_from_All}
 use Rattle.free_map.specs.declared.run.Run.{Run}
-use Rattle.free_map.specs.Runs.{Holds, InRuns, AreApart}
+use Rattle.free_map.specs.Runs.{HasTrack, InRuns, AreApart}
 use Rattle.free_map.specs.Change.{AddsRun}
 use Rattle.free_map.proofs.Apart.{from_le}
 use Rattle.free_map.proofs.Gaps.{in_append, append_left, append_right}
@@ -20,14 +20,14 @@ abbrev Follow : Run → Run → List Run → List Run → Type 0
 Follow run whole mid ys = (from : ℕ) → from ≤ run.first → AreApart from (mid ++ ys) → AreApart from (whole ∷ ys)
 
 abbrev Unite : Run → Run → List Run → Type 0
-Unite run whole mid = (t : ℕ) → Holds whole t ↔ (InRuns mid t ⊎ Holds run t)
+Unite run whole mid = (t : ℕ) → HasTrack whole t ↔ (InRuns mid t ⊎ HasTrack run t)
 
 adds_apart : (from : ℕ) (xs mid ys : List Run) (run whole : Run) → from ≤ run.first → EndBefore run.first xs → Follow run whole mid ys → AreApart from (xs ++ (mid ++ ys)) → AreApart from (xs ++ (whole ∷ ys))
 adds_apart from [] mid ys run whole le before f a = f from le a
 adds_apart from (x ∷ xs) mid ys run whole le before f a =
     (a.0, a.1, adds_apart (x.first + x.len + 1) xs mid ys run whole (omega (arith, before.0)) before.1 f a.2)
 
-adds_back : (xs mid ys : List Run) (run whole : Run) (t : ℕ) → Unite run whole mid → InRuns (xs ++ (whole ∷ ys)) t → InRuns (xs ++ (mid ++ ys)) t ⊎ Holds run t
+adds_back : (xs mid ys : List Run) (run whole : Run) (t : ℕ) → Unite run whole mid → InRuns (xs ++ (whole ∷ ys)) t → InRuns (xs ++ (mid ++ ys)) t ⊎ HasTrack run t
 adds_back [] mid ys run whole t u (inl p) = elim ((u t).0 p) [ inl i ↦ inl (append_left mid ys t i) | inr j ↦ inr j ]
 adds_back [] mid ys run whole t u (inr q) = inl (append_right mid ys t q)
 adds_back (x ∷ xs) mid ys run whole t u (inl p) = inl (inl p)
@@ -55,7 +55,7 @@ adds runs new xs mid ys run whole old_is new_is a before f u =
     }
 
 -- what runs at places hold, and where they begin
-pub at_in : (runs : List Run) (i : ℕ) (d : Run) (t : ℕ) → i < length runs → Holds (get_or runs i d) t → InRuns runs t
+pub at_in : (runs : List Run) (i : ℕ) (d : Run) (t : ℕ) → i < length runs → HasTrack (get_or runs i d) t → InRuns runs t
 at_in [] i d t lt h = absurd (omega arith)
 at_in (run ∷ runs) zero d t lt h = inl h
 at_in (run ∷ runs) (suc i) d t lt h = inr (at_in runs i d t (omega arith) h)
@@ -79,7 +79,7 @@ front_before from bound (x ∷ xs) run ys some le a =
     (omega arith, front_before (x.first + x.len + 1) bound xs run ys some le a.2)
 
 -- A run that holds no track of another one, which ends behind its first track, ends before that begins.
-pub ends_before : (run next : Run) (runs : List Run) → 1 ≤ run.len → 1 ≤ next.len → ((t : ℕ) → Holds next t → InRuns runs t) → ((t : ℕ) → Holds run t → ¬ InRuns runs t)
+pub ends_before : (run next : Run) (runs : List Run) → 1 ≤ run.len → 1 ≤ next.len → ((t : ℕ) → HasTrack next t → InRuns runs t) → ((t : ℕ) → HasTrack run t → ¬ InRuns runs t)
     → run.first < next.first + next.len → run.first + run.len ≤ next.first
 ends_before run next runs some more held used lt = elim (cases_lt next.first (run.first + run.len)) [
   | inl less ↦ absurd (used (max next.first run.first) (omega arith, omega arith) (held (max next.first run.first) (omega arith, omega arith)))
@@ -87,13 +87,13 @@ ends_before run next runs some more held used lt = elim (cases_lt next.first (ru
 ]
 
 -- what follows a run that ends behind all before a place
-follows : (run : Run) (runs : List Run) (i : ℕ) (d : Run) → 1 ≤ run.len → AreApart 0 runs → ((t : ℕ) → Holds run t → ¬ InRuns runs t)
+follows : (run : Run) (runs : List Run) (i : ℕ) (d : Run) → 1 ≤ run.len → AreApart 0 runs → ((t : ℕ) → HasTrack run t → ¬ InRuns runs t)
     → i < length runs → run.first < (get_or runs i d).first + (get_or runs i d).len → run.first + run.len ≤ (get_or runs i d).first
 follows run runs i d some a used lt less =
     ends_before run (get_or runs i d) runs some (len_at 0 runs i d a lt) (λ t h. at_in runs i d t lt h) used less
 
 -- at a place between runs that it doesn't touch
-pub adds_between : (runs new : List Run) (run : Run) (i : ℕ) → 1 ≤ run.len → AreApart 0 runs → ((t : ℕ) → Holds run t → ¬ InRuns runs t)
+pub adds_between : (runs new : List Run) (run : Run) (i : ℕ) → 1 ≤ run.len → AreApart 0 runs → ((t : ℕ) → HasTrack run t → ¬ InRuns runs t)
     → All (λ before. before.first + before.len < run.first) (take i runs) → ((d : Run) → i < length runs → run.first < (get_or runs i d).first + (get_or runs i d).len)
     → ((d : Run) → i < length runs → ¬ ((get_or runs i d).first ≡ run.first + run.len)) → new ≡ insert runs i run → AddsRun run runs new
 adds_between runs new run i some a used before at apart e =
@@ -107,7 +107,7 @@ adds_between runs new run i some a used before at apart e =
     ))
     (λ t. (λ h. inr h, λ h. elim h [ inl i ↦ absurd i | inr j ↦ j ]))
 
-pub adds_last : (runs new : List Run) (run : Run) (i : ℕ) → 1 ≤ run.len → AreApart 0 runs → ((t : ℕ) → Holds run t → ¬ InRuns runs t)
+pub adds_last : (runs new : List Run) (run : Run) (i : ℕ) → 1 ≤ run.len → AreApart 0 runs → ((t : ℕ) → HasTrack run t → ¬ InRuns runs t)
     → All (λ before. before.first + before.len < run.first) (take i runs) → length runs ≤ i → new ≡ runs ++ run ∷ [] → AddsRun run runs new
 adds_last runs new run i some a used before le e =
     adds_between runs new run i some a used before (λ d lt. absurd (omega arith)) (λ d lt. absurd (omega arith))
@@ -184,7 +184,7 @@ next_behind from [] found next ys a = a.2.0
 next_behind from (x ∷ xs) found next ys a = next_behind (x.first + x.len + 1) xs found next ys a.2
 
 -- between two runs that it touches
-pub adds_joining : (runs new : List Run) (run found next : Run) (i : ℕ) → 1 ≤ run.len → AreApart 0 runs → ((t : ℕ) → Holds run t → ¬ InRuns runs t) → i + 1 < length runs
+pub adds_joining : (runs new : List Run) (run found next : Run) (i : ℕ) → 1 ≤ run.len → AreApart 0 runs → ((t : ℕ) → HasTrack run t → ¬ InRuns runs t) → i + 1 < length runs
     → found ≡ get_or runs i found → next ≡ get_or runs (i + 1) next → found.first + found.len ≡ run.first → next.first ≤ run.first + run.len
     → new ≡ set (remove runs (i + 1)) i (record { first = found.first; len = found.len + run.len + next.len }) → AddsRun run runs new
 adds_joining runs new run found next i some a used lt read read' touch le e =
@@ -194,7 +194,7 @@ adds_joining runs new run found next i some a used lt read read' touch le e =
     let two = around_two runs i found next lt read read' in
     let more : 1 ≤ next.len = (let one = len_at 0 runs (i + 1) next a lt in let same = ap (λ (r : Run). r.len) read' in omega arith) in
     let behind : found.first + found.len + 1 ≤ next.first = next_behind 0 (take i runs) found next rest (subst P two a) in
-    let held : (t : ℕ) → Holds next t → InRuns runs t = λ t h. at_in runs (i + 1) next t lt (let H : Run → Type 0 = λ r. Holds r t in subst H read' h) in
+    let held : (t : ℕ) → HasTrack next t → InRuns runs t = λ t h. at_in runs (i + 1) next t lt (let H : Run → Type 0 = λ r. HasTrack r t in subst H read' h) in
     let meets = ends_before run next runs some more held used (omega arith) in
     adds runs new (take i runs) (found ∷ next ∷ []) rest run whole two (e ∙ set_without runs i found whole lt) a
     (before_touching runs run found i a (omega arith) read touch)

@@ -5,7 +5,7 @@ use Rattle.std.proofs.lemmas.Bool.{cases_lt}
 use Rattle.std.proofs.lemmas.List.{drop_more, take_more, take-append-drop, set_at, set_split, length-take-le, get_or_read}
 use Rattle.std.proofs.lemmas.List.Elements.{recursion_from_All}
 use Rattle.free_map.specs.declared.run.Run.{Run}
-use Rattle.free_map.specs.Runs.{Holds, InRuns, AreApart, tracks_between}
+use Rattle.free_map.specs.Runs.{HasTrack, InRuns, AreApart, tracks_between}
 use Rattle.free_map.specs.Change.{parts_without, TakesRun}
 use Rattle.free_map.proofs.Apart.{from_le, apart_lower, Covers, OneCovers, one_covers, covered}
 use Rattle.free_map.proofs.Gaps.{run_to, between_some, between_none, in_append, append_left, append_right, in_between, between_in, apart_between}
@@ -32,7 +32,7 @@ takes_apart from [] run whole ys some p a = parts_apart from run whole ys some p
 takes_apart from (x ∷ xs) run whole ys some p a = (a.0, a.1, takes_apart (x.first + x.len + 1) xs run whole ys some p a.2)
 
 parts_back : (from : ℕ) (run whole : Run) (ys : List Run) (t : ℕ) → Covers run.first run.len whole → AreApart from (whole ∷ ys) → InRuns (parts_without run whole ++ ys) t
-    → InRuns (whole ∷ ys) t × ¬ Holds run t
+    → InRuns (whole ∷ ys) t × ¬ HasTrack run t
 parts_back from run whole ys t p a h =
     let P : List Run → Type 0 = λ runs. InRuns runs t in
     let rest = tracks_between (run.first + run.len) (whole.first + whole.len) ++ ys in
@@ -44,7 +44,7 @@ parts_back from run whole ys t p a h =
       ])
     ]
 
-parts_forth : (run whole : Run) (ys : List Run) (t : ℕ) → InRuns (whole ∷ ys) t → ¬ Holds run t → InRuns (parts_without run whole ++ ys) t
+parts_forth : (run whole : Run) (ys : List Run) (t : ℕ) → InRuns (whole ∷ ys) t → ¬ HasTrack run t → InRuns (parts_without run whole ++ ys) t
 parts_forth run whole ys t h free =
     let P : List Run → Type 0 = λ runs. InRuns runs t in
     let rest = tracks_between (run.first + run.len) (whole.first + whole.len) ++ ys in
@@ -61,7 +61,7 @@ parts_forth run whole ys t h free =
     ])
 
 takes_back : (from : ℕ) (xs : List Run) (run whole : Run) (ys : List Run) (t : ℕ) → Covers run.first run.len whole → 1 ≤ run.len → AreApart from (xs ++ (whole ∷ ys))
-    → InRuns (xs ++ (parts_without run whole ++ ys)) t → InRuns (xs ++ (whole ∷ ys)) t × ¬ Holds run t
+    → InRuns (xs ++ (parts_without run whole ++ ys)) t → InRuns (xs ++ (whole ∷ ys)) t × ¬ HasTrack run t
 takes_back from [] run whole ys t p some a h = parts_back from run whole ys t p a h
 takes_back from (x ∷ xs) run whole ys t p some a (inl i) =
     let le = from_le (x.first + x.len + 1) (xs ++ (whole ∷ ys)) whole.first a.2 (append_right xs (whole ∷ ys) whole.first (inl (omega arith, omega (arith, p.0, p.1)))) in
@@ -69,7 +69,7 @@ takes_back from (x ∷ xs) run whole ys t p some a (inl i) =
 takes_back from (x ∷ xs) run whole ys t p some a (inr i) =
     let q = takes_back (x.first + x.len + 1) xs run whole ys t p some a.2 i in (inr q.0, q.1)
 
-takes_forth : (xs : List Run) (run whole : Run) (ys : List Run) (t : ℕ) → InRuns (xs ++ (whole ∷ ys)) t → ¬ Holds run t → InRuns (xs ++ (parts_without run whole ++ ys)) t
+takes_forth : (xs : List Run) (run whole : Run) (ys : List Run) (t : ℕ) → InRuns (xs ++ (whole ∷ ys)) t → ¬ HasTrack run t → InRuns (xs ++ (parts_without run whole ++ ys)) t
 takes_forth [] run whole ys t h free = parts_forth run whole ys t h free
 takes_forth (x ∷ xs) run whole ys t (inl i) free = inl i
 takes_forth (x ∷ xs) run whole ys t (inr i) free = inr (takes_forth xs run whole ys t i free)
@@ -105,7 +105,7 @@ found from (run ∷ runs) (suc i) d start count a some before at (inl p) = absur
 found from (run ∷ runs) (suc i) d start count a some before at (inr q) =
     let r = found (run.first + run.len + 1) runs i d start count a.2 some before.1 (λ lt. at (omega arith)) q in (omega (arith, r.0), r.1)
 
-pub cover_found : (runs : List Run) (run : Run) (i : ℕ) (d : Run) → AreApart 0 runs → 1 ≤ run.len → ((t : ℕ) → Holds run t → InRuns runs t)
+pub cover_found : (runs : List Run) (run : Run) (i : ℕ) (d : Run) → AreApart 0 runs → 1 ≤ run.len → ((t : ℕ) → HasTrack run t → InRuns runs t)
     → All (λ before. before.first + before.len < run.first + 1) (take i runs) → (i < length runs → run.first + 1 ≤ (get_or runs i d).first + (get_or runs i d).len)
     → (i < length runs) × Covers run.first run.len (get_or runs i d)
 cover_found runs run i d a some free before at =

@@ -3,13 +3,13 @@ use Rattle.std.specs.Prelude.{◌≡◌, ℕ, ◌+◌, ◌-◌, ◌<◌, ◌≤�
 use Rattle.free_map.specs.declared.run.Run.{Run}
 
 -- a track is one of a run's
-abbrev pub Holds : Run → ℕ → Type 0
-Holds run track = (run.first ≤ track) × (track < run.first + run.len)
+abbrev pub HasTrack : Run → ℕ → Type 0
+HasTrack run track = (run.first ≤ track) × (track < run.first + run.len)
 
 -- a track is in one of the runs
 abbrev pub InRuns : List Run → ℕ → Type 0
 InRuns [] track = ⊥
-InRuns (run ∷ runs) track = Holds run track ⊎ InRuns runs track
+InRuns (run ∷ runs) track = HasTrack run track ⊎ InRuns runs track
 
 -- In ascending order from a track on: each run has a track, and between a run and the next lies at least one.
 abbrev pub AreApart : ℕ → List Run → Type 0

@@ -5,7 +5,7 @@ use Rattle.std.specs.List.Sorted.{IsPermutation}
 use Rattle.free_map.specs.declared.run.Run.{Run}
 use Rattle.free_map.specs.declared.fault.FreeFault.{FreeFault}
 use Rattle.free_map.specs.declared.fault.FreeFault.TheVariants as faults
-use Rattle.free_map.specs.Runs.{Holds, InRuns, AreApart}
+use Rattle.free_map.specs.Runs.{HasTrack, InRuns, AreApart}
 use Rattle.free_map.specs.Free.{count_of, longest_of}
 use Rattle.free_map.specs.Place.{rounded, aligned_part, IsPlace, IsLowestPlace}
 
@@ -74,7 +74,7 @@ IsChoiceFault runs need step faults.NoMemory = Unit {0}
 pub record ArePlaces (set : ℕ → Type 0) (need step : ℕ) (chosen : List Run) : Type 0 where
   pub whole_steps : All (λ run. (1 ≤ run.len) × (run.first % step ≡ 0) × (run.len % step ≡ 0)) chosen
   pub held : (track : ℕ) → InRuns chosen track → set track
-  pub disjoint : AllPairs (λ a b. (track : ℕ) → Holds a track → ¬ Holds b track) chosen
+  pub disjoint : AllPairs (λ a b. (track : ℕ) → HasTrack a track → ¬ HasTrack b track) chosen
   pub count_is : count_of chosen ≡ rounded need step
   pub few : length chosen ≤ 16
 

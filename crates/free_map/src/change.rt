@@ -1,7 +1,7 @@
 //! Runs that are taken from free ones, and given back.
 
 ghost use Rattle.std.specs.Prelude.{◌≡◌, ℕ, ◌+◌, ◌<◌, ◌≤◌, ◌++◌, length, take, drop, slice_index_or, All, OnOk, OnErr};
-ghost use Rattle.free_map.specs.Runs.{Holds, InRuns, AreApart, tracks_between};
+ghost use Rattle.free_map.specs.Runs.{HasTrack, InRuns, AreApart, tracks_between};
 ghost use Rattle.free_map.specs.Change.{parts_without, TakesRun, AddsRun};
 
 use crate::run::Run;
@@ -28,7 +28,7 @@ pub(crate) fn take_run(runs: &mut Vec<Run>, run: Run) -> Result<(), NoMemory>
     requires within { run.first + run.len ≤ 65535 }
     requires apart { AreApart 0 runs.old.items }
     requires all_within { All (λ run. run.first + run.len ≤ 65535) runs.old.items }
-    requires free { (track : ℕ) → Holds run track → InRuns runs.old.items track }
+    requires free { (track : ℕ) → HasTrack run track → InRuns runs.old.items track }
     ensures ok { OnOk result (TakesRun run runs.old.items runs.new.items) }
     ensures err { OnErr result (runs.new.items ≡ runs.old.items) }
 {
@@ -77,7 +77,7 @@ pub(crate) fn give_run(runs: &mut Vec<Run>, run: Run) -> Result<(), NoMemory>
     requires within { run.first + run.len ≤ 65535 }
     requires apart { AreApart 0 runs.old.items }
     requires all_within { All (λ run. run.first + run.len ≤ 65535) runs.old.items }
-    requires used { (track : ℕ) → Holds run track → ¬ InRuns runs.old.items track }
+    requires used { (track : ℕ) → HasTrack run track → ¬ InRuns runs.old.items track }
     ensures ok { OnOk result (AddsRun run runs.old.items runs.new.items) }
     ensures err { OnErr result (runs.new.items ≡ runs.old.items) }
 {
@@ -108,7 +108,7 @@ fn join(runs: &mut Vec<Run>, place: usize, run: Run)
     requires within { run.first + run.len ≤ 65535 }
     requires apart { AreApart 0 runs.old.items }
     requires all_within { All (λ run. run.first + run.len ≤ 65535) runs.old.items }
-    requires used { (track : ℕ) → Holds run track → ¬ InRuns runs.old.items track }
+    requires used { (track : ℕ) → HasTrack run track → ¬ InRuns runs.old.items track }
     requires place { place < length runs.old.items }
     requires touches { (d : Run) → (slice_index_or runs.old.items place d).first + (slice_index_or runs.old.items place d).len ≡ run.first }
     ensures { AddsRun run runs.old.items runs.new.items }

@@ -1,7 +1,7 @@
 //! The map of a volume's free tracks.
 
 ghost use Rattle.std.specs.Prelude.{◌≡◌, ℕ, ◌+◌, ◌<◌, ◌≤◌, ◌↔◌, ◌⊎◌, All, IfOk, IfErr, IfSome, IfNone, OnOk, OnErr, map};
-ghost use Rattle.free_map.specs.Runs.{Holds, InRuns, AreMaximalRuns};
+ghost use Rattle.free_map.specs.Runs.{HasTrack, InRuns, AreMaximalRuns};
 ghost use Rattle.free_map.specs.Free.{IsFree, AreFreeRuns, IsStep, count_of, index_of};
 ghost use Rattle.dscb_rec.specs.Field.{IsEntry5};
 ghost use Rattle.free_map.specs.Entries.{entry_of};
@@ -94,8 +94,8 @@ impl FreeMap {
     /// Takes a run of free tracks. On `Err` the map is unchanged.
     pub fn take(&mut self, run: Run) -> Result<(), FreeFault>
         requires some { 1 ≤ run.len }
-        requires free { (track : ℕ) → Holds run track → IsFree self.old track }
-        ensures taken { OnOk result ((track : ℕ) → IsFree self.new track ↔ (IsFree self.old track × ¬ Holds run track)) }
+        requires free { (track : ℕ) → HasTrack run track → IsFree self.old track }
+        ensures taken { OnOk result ((track : ℕ) → IsFree self.new track ↔ (IsFree self.old track × ¬ HasTrack run track)) }
         ensures same { OnErr result (self.new ≡ self.old) }
         ensures sizes { (self.new.usable ≡ self.old.usable) × (self.new.heads ≡ self.old.heads) }
         ensures memory { IfErr result (λ fault. fault ≡ FreeFault.NoMemory) }
@@ -108,8 +108,8 @@ impl FreeMap {
     pub fn give(&mut self, run: Run) -> Result<(), FreeFault>
         requires some { 1 ≤ run.len }
         requires within { run.first + run.len ≤ self.old.usable }
-        requires used { (track : ℕ) → Holds run track → ¬ IsFree self.old track }
-        ensures given { OnOk result ((track : ℕ) → IsFree self.new track ↔ (IsFree self.old track ⊎ Holds run track)) }
+        requires used { (track : ℕ) → HasTrack run track → ¬ IsFree self.old track }
+        ensures given { OnOk result ((track : ℕ) → IsFree self.new track ↔ (IsFree self.old track ⊎ HasTrack run track)) }
         ensures same { OnErr result (self.new ≡ self.old) }
         ensures sizes { (self.new.usable ≡ self.old.usable) × (self.new.heads ≡ self.old.heads) }
         ensures memory { IfErr result (λ fault. fault ≡ FreeFault.NoMemory) }

@@ -30,11 +30,11 @@ abbrev set_without : ℕ → Row → DataSet
 set_without heads row = record { name = row.name; fields = fields_of_1 row.f1; extents = extents_of heads row; texts = []; threes = row.threes }
 
 -- one that isn't pinned has at most 16 extents
-pub few_extents : (heads : ℕ) (row : Row) (pinned : Bool) → ((set : DataSet) → DescribesSet heads row set → (IsTrue pinned ↔ IsPinned heads set)) → pinned ≡ false → length row.extents ≤ 16
+pub few_extents : (heads : ℕ) (row : Row) (pinned : Bool) → ((set : DataSet) → DescribesSet heads row set → (IsTrue pinned ↔ IsPinned heads set.name set.fields set.extents)) → pinned ≡ false → length row.extents ≤ 16
 few_extents heads row pinned says not = elim (cases_lt 16 (length row.extents)) [
   | inl many ↦
       let set = set_without heads row in
-      let is : IsPinned heads set = inr (inr (inr (inl (omega (arith, many, length-map row.extents (λ (extent : Field). extent_in heads (field_of extent))))))) in
+      let is : IsPinned heads set.name set.fields set.extents = inr (inr (inr (inl (omega (arith, many, length-map row.extents (λ (extent : Field). extent_in heads (field_of extent))))))) in
       absurd (false≢true (sym not ∙ (says set (record { name_is = refl; fields_are = refl; extents_are = refl; threes_are = refl })).1 is))
   | inr few ↦ few
 ]

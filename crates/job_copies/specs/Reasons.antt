@@ -13,7 +13,7 @@ use Rattle.job_copies.specs.Case.{Case, IsOwn, IsNamesake, Replaces, ReplacesSom
 
 -- it is pinned, or the one that is replaced
 abbrev pub IsFixed : Case → Type 0
-IsFixed case = IsPinned (heads_of case.from.device) case.set ⊎ ((other : DataSet) × Replaces case other × IsPinned (heads_of case.to.device) other)
+IsFixed case = IsPinned (heads_of case.from.device) case.set.name case.set.fields case.set.extents ⊎ ((other : DataSet) × Replaces case other × IsPinned (heads_of case.to.device) other.name other.fields other.extents)
 
 -- Somebody holds its name, so that it can't be deleted, or can't be read. Where it is only read, the statement may pass over holds.
 abbrev pub IsOriginHeld : List Hold → Case → Type 0

@@ -33,7 +33,7 @@ impl Copying<'_> {
     /// Whether a data set is replaced that is pinned.
     fn is_replaced_pinned(&self) -> bool
         requires may { MayCopy self.now }
-        ensures { (case : Case) → AreCopied self.now case → (IsTrue result ↔ ((other : DataSet) × Replaces case other × IsPinned (heads_of case.to.device) other)) }
+        ensures { (case : Case) → AreCopied self.now case → (IsTrue result ↔ ((other : DataSet) × Replaces case other × IsPinned (heads_of case.to.device) other.name other.fields other.extents)) }
     {
         match self.replaced() {
             Some(row) => is_pinned(self.target.device, row),

@@ -59,7 +59,7 @@ abbrev set_without : ℕ → Row → DataSet
 set_without heads row = record { name = row.name; fields = fields_of_1 row.f1; extents = extents_of heads row; texts = []; threes = row.threes }
 
 -- one that isn't pinned has at most 16 extents
-pub few_extents : (heads : ℕ) (row : Row) (stays : Bool) → ((set : DataSet) → DescribesSet heads row set → IsPinned heads set → IsTrue stays) → IsTrue stays ⊎ (length row.extents ≤ 16)
+pub few_extents : (heads : ℕ) (row : Row) (stays : Bool) → ((set : DataSet) → DescribesSet heads row set → IsPinned heads set.name set.fields set.extents → IsTrue stays) → IsTrue stays ⊎ (length row.extents ≤ 16)
 few_extents heads row true pinned = inl refl
 few_extents heads row false pinned = elim (cases_lt 16 (length row.extents)) [
   | inl many ↦
@@ -127,7 +127,7 @@ found_row volume name rows place row lawful are within named at =
 -- ---- whether a statement changes it
 
 -- no statement changes one that is pinned
-pub stays_pinned : (task : Task) (heads : ℕ) (set : DataSet) → IsPinned heads set → StaysFor task heads set
+pub stays_pinned : (task : Task) (heads : ℕ) (set : DataSet) → IsPinned heads set.name set.fields set.extents → StaysFor task heads set
 stays_pinned tasks.Release heads set pinned = inl pinned
 stays_pinned tasks.Consolidate heads set pinned = pinned
 

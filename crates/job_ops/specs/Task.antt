@@ -11,8 +11,8 @@ use Rattle.job_ops.specs.declared.task.Task.TheVariants as tasks
 
 -- On a volume with so many heads: a pinned data set stays as it is; and a release changes only sequential and partitioned ones.
 abbrev pub StaysFor : Task → ℕ → DataSet → Type 0
-StaysFor tasks.Release heads set = IsPinned heads set ⊎ (¬ IsSequentialOrPartitioned (organization_in set.fields))
-StaysFor tasks.Consolidate heads set = IsPinned heads set
+StaysFor tasks.Release heads set = IsPinned heads set.name set.fields set.extents ⊎ (¬ IsSequentialOrPartitioned (organization_in set.fields))
+StaysFor tasks.Consolidate heads set = IsPinned heads set.name set.fields set.extents
 
 -- where data sets are only brought together, one that is pinned or held is but warned of
 abbrev pub severity_for : Task → Reason → Severity

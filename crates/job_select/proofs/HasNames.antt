@@ -9,10 +9,10 @@ use Rattle.volume_model.specs.Pinned.{IsNameOf, HasName}
 use Rattle.volume_model.specs.Unit.{DataSet}
 
 module _ (set : DataSet) (name : List ℕ) (is : set.name ≡ name) where
-  pub no_name : (found : Option Dsn) → is_some found ≡ false → IfNone found ((dsn : Dsn) → IsDsn dsn → ¬ IsNameOf dsn name) → ¬ HasName set
+  pub no_name : (found : Option Dsn) → is_some found ≡ false → IfNone found ((dsn : Dsn) → IsDsn dsn → ¬ IsNameOf dsn name) → ¬ HasName set.name
   no_name None none h named = h named.0 named.1 (subst (IsNameOf named.0) is named.2)
   no_name (Some dsn) none h named = false≢true (sym none)
 
-  pub has_name : (found : Option Dsn) → is_some found ≡ true → IfSome found (λ dsn. IsDsn dsn × IsNameOf dsn name) → HasName set
+  pub has_name : (found : Option Dsn) → is_some found ≡ true → IfSome found (λ dsn. IsDsn dsn × IsNameOf dsn name) → HasName set.name
   has_name (Some dsn) some h = (dsn, h.0, subst (IsNameOf dsn) (sym is) h.1)
   has_name None some h = absurd (false≢true some)

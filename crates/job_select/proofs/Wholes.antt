@@ -41,7 +41,7 @@ other_in device (extent ∷ extents) h = elim (whole_or_not (heads_of device) (o
 ]
 
 module _ (device : Device) (set : DataSet) (extents : List Field) (is : set.extents ≡ extents_from device extents) where
-  pub other_extent : ¬ All (IsWholeOn device) extents → HasOtherExtent (heads_of device) set
+  pub other_extent : ¬ All (IsWholeOn device) extents → HasOtherExtent (heads_of device) set.extents
   other_extent h =
       let found = other_in device extents (λ all. h (All-from_recursion (IsWholeOn device) extents all)) in
       record {
@@ -51,15 +51,15 @@ module _ (device : Device) (set : DataSet) (extents : List Field) (is : set.exte
         not_cylinders = λ cylinders. found.2 (inr cylinders);
       }
 
-  no_other : All (IsWholeOn device) extents → ¬ HasOtherExtent (heads_of device) set
+  no_other : All (IsWholeOn device) extents → ¬ HasOtherExtent (heads_of device) set.extents
   no_other all h =
       let found = from_map (on device) extents h.extent (subst (λ (l : List Extent). Contains l h.extent) is h.is_there) in
       let whole : IsWholeOn device found.0 = All-contains (IsWholeOn device) extents found.0 all found.1 in
       elim (subst (IsWhole (heads_of device)) found.2 whole) [ inl tracks ↦ h.not_tracks tracks | inr cylinders ↦ h.not_cylinders cylinders ]
 
   -- what is left where nothing else pins a data set
-  pub only_volume : HasName set → IsMovable (organization_in set.fields) → All (IsWholeOn device) extents → length extents ≤ 16 → ¬ IsManaged set.fields
-      → IsPinned (heads_of device) set → GoesOn set.fields
+  pub only_volume : HasName set.name → IsMovable (organization_in set.fields) → All (IsWholeOn device) extents → length extents ≤ 16 → ¬ IsManaged set.fields
+      → IsPinned (heads_of device) set.name set.fields set.extents → GoesOn set.fields
   only_volume named movable whole few own pinned =
       elim pinned [
         | inl none ↦ absurd (none named)

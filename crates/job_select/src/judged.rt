@@ -80,7 +80,7 @@ fn goes_on(f1: &[u8; 140]) -> bool
 
 /// Whether no command moves a data set, by its name, organization, extents, flags or volume number.
 pub fn is_pinned(device: Device, row: &Row) -> bool
-    ensures { (set : DataSet) → DescribesSet (heads_of device) row.now set → (IsTrue result ↔ IsPinned (heads_of device) set) }
+    ensures { (set : DataSet) → DescribesSet (heads_of device) row.now set → (IsTrue result ↔ IsPinned (heads_of device) set.name set.fields set.extents) }
 {
     if name_of(row).is_none() {
         return true;

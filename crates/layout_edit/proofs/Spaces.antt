@@ -6,7 +6,7 @@ use Rattle.std.proofs.lemmas.Bool.{and_parts, eqb-true, lt-ltb, ltb-true}
 use Rattle.std.proofs.lemmas.List.{map-append}
 use Rattle.std.proofs.lemmas.List.Elements.{All-contains, Contains-append_cases}
 use Rattle.free_map.specs.declared.run.Run.{Run}
-use Rattle.free_map.specs.Runs.{Holds, InRuns, AreMaximalRuns}
+use Rattle.free_map.specs.Runs.{HasTrack, InRuns, AreMaximalRuns}
 use Rattle.volume_model.specs.declared.extent.ExtentField.{ExtentField}
 use Rattle.volume_model.specs.declared.place.Vtoc.{Vtoc}
 use Rattle.volume_model.specs.Space.{end_of, overlap, has_track, is_run, run_of, greatest_end, usable_of, is_used, is_free}
@@ -94,7 +94,7 @@ extents_stay old new before after front gone put back heads limit run sets_befor
 
 -- ---- the usable tracks
 
-held_by : (runs : List Run) (track : ℕ) → InRuns runs track → (run : Run) × Contains runs run × Holds run track
+held_by : (runs : List Run) (track : ℕ) → InRuns runs track → (run : Run) × Contains runs run × HasTrack run track
 held_by [] track h = absurd h
 held_by (run ∷ runs) track (inl h) = (run, at_first run runs, h)
 held_by (run ∷ runs) track (inr h) = let r = held_by runs track h in (r.0, in_later run r.0 runs r.1, r.2)
@@ -123,7 +123,7 @@ module _ (vtoc : Run) (extents entries : List Run) (usable : ℕ) (some : 1 ≤ 
   entry_ends entry c =
       let len : 1 ≤ entry.len = has_some 0 entries entry stated.apart c in
       let last : ℕ = entry.first + entry.len - 1 in
-      let held : Holds entry last = (omega (arith, len), omega (arith, len)) in
+      let held : HasTrack entry last = (omega (arith, len), omega (arith, len)) in
       let free : is_free usable vtoc extents last ≡ true = (stated.exact last).1 (held_in entries entry last c held) in
       omega (arith, len, ltb-true last usable (and_parts (nat_lt last usable) (not (is_used vtoc extents last)) free).0)
 

@@ -6,7 +6,7 @@ use Rattle.volume_model.specs.declared.place.Place.{Place}
 use Rattle.volume_model.specs.declared.place.Placed.{Placed}
 use Rattle.vtoc_check.specs.Places.{blank}
 use Rattle.vtoc_check.specs.Reach.{record_in}
-use Rattle.vtoc_load.specs.LoadedVtoc.{is_free_record}
+use Rattle.volume_model.specs.Dscbs.{is_free_record}
 
 take_again : {X : Type 0} (n : ℕ) (xs ys : List X) → take n (take n xs ++ ys) ≡ take n (xs ++ ys)
 take_again zero xs ys = refl

@@ -6,7 +6,7 @@ use Rattle.std.proofs.lemmas.Bool.{and_parts, or_parts, cases_Bool, cond_both, l
 use Rattle.std.proofs.lemmas.List.Elements.{All-nil, All-append, All-map, All-filter, All-from_recursion, recursion_from_All}
 use Rattle.std.proofs.lemmas.List.Sorted.{All-permutation}
 use Rattle.ckd_image.specs.declared.track.Cchhr.{Cchhr}
-use Rattle.free_map.specs.Runs.{Holds, InRuns}
+use Rattle.free_map.specs.Runs.{HasTrack, InRuns}
 use Rattle.free_map.proofs.Gaps.{in_append}
 use Rattle.volume_model.specs.declared.format.Format.{Format}
 use Rattle.volume_model.specs.declared.extent.ExtentField.{ExtentField}
@@ -91,7 +91,7 @@ abbrev pub IsRunBelow : ℕ → ℕ → ExtentField → Type 0
 IsRunBelow heads limit field = is_run heads limit field ≡ true
 
 -- the tracks of an extent that is a run
-pub run_below : (heads limit : ℕ) (field : ExtentField) → is_run heads limit field ≡ true → (track : ℕ) → Holds (run_of heads field) track → track < limit
+pub run_below : (heads limit : ℕ) (field : ExtentField) → is_run heads limit field ≡ true → (track : ℕ) → HasTrack (run_of heads field) track → track < limit
 run_below heads limit field runs track holds =
     let first = track_at heads field.first in
     let last = track_at heads field.last in
@@ -144,7 +144,7 @@ sound_rows vtoc rows sound order = order_has (IsRunBelow vtoc.heads vtoc.limit) 
 -- ---- data sets
 
 -- what each extent gives where it holds a track, the data sets give where one of them holds it
-module _ (heads track : ℕ) (Q : ExtentField → Type 0) (R : Type 0) (each : (field : ExtentField) → Q field → Holds (run_of heads field) track → R) where
+module _ (heads track : ℕ) (Q : ExtentField → Type 0) (R : Type 0) (each : (field : ExtentField) → Q field → HasTrack (run_of heads field) track → R) where
   fields_give : (fields : List ExtentField) → AllByRecursion Q fields → InRuns (map run_in (map (extent_in heads) fields)) track → R
   fields_give [] all holds = absurd holds
   fields_give (field ∷ fields) all (inl here) = each field all.0 here

@@ -14,7 +14,7 @@ use Rattle.vol_label.specs.declared.label.Label.{Label}
 use Rattle.vol_label.specs.declared.fault.LabelFault.TheVariants.{BadLabel}
 use Rattle.vol_label.specs.Label.{IsLabelFault}
 use Rattle.free_map.specs.declared.run.Run.{Run}
-use Rattle.free_map.specs.Runs.{Holds, InRuns}
+use Rattle.free_map.specs.Runs.{HasTrack, InRuns}
 use Rattle.free_map.proofs.Gaps.{append_left, append_right}
 use Rattle.volume_model.specs.declared.why.Why.TheVariants as whys
 use Rattle.volume_model.specs.declared.rule.VtocRule.{VtocRule}
@@ -68,21 +68,21 @@ vtoc_moves image pointer old new sliding vtoc is here same = record {
 }
 
 -- the tracks of a VTOC are tracks of the image
-pub vtoc_below : (image : Head) (pointer : Cchhr) (slots : Slots) (sliding : Bool) (vtoc : Vtoc) → IsVtoc image slots pointer sliding vtoc → (track : ℕ) → Holds vtoc.run track → track < image.tracks
+pub vtoc_below : (image : Head) (pointer : Cchhr) (slots : Slots) (sliding : Bool) (vtoc : Vtoc) → IsVtoc image slots pointer sliding vtoc → (track : ℕ) → HasTrack vtoc.run track → track < image.tracks
 vtoc_below image pointer slots sliding vtoc is track holds =
     let below : track < limit_of image is.bytes =
-    run_below (heads_of image.device) (limit_of image is.bytes) (extent_at is.bytes 105) is.extent.run track (subst (λ (run : Run). Holds run track) is.run_is holds) in
+    run_below (heads_of image.device) (limit_of image is.bytes) (extent_at is.bytes 105) is.extent.run track (subst (λ (run : Run). HasTrack run track) is.run_is holds) in
     omega (arith, below)
 
 -- the track of the pointer is one of them
-pub pointer_held : (image : Head) (pointer : Cchhr) (slots : Slots) (sliding : Bool) (vtoc : Vtoc) → IsVtoc image slots pointer sliding vtoc → Holds vtoc.run (track_at (heads_of image.device) pointer.at)
+pub pointer_held : (image : Head) (pointer : Cchhr) (slots : Slots) (sliding : Bool) (vtoc : Vtoc) → IsVtoc image slots pointer sliding vtoc → HasTrack vtoc.run (track_at (heads_of image.device) pointer.at)
 pointer_held image pointer slots sliding vtoc is =
     let heads = heads_of image.device in
     let run = run_of heads (extent_at is.bytes 105) in
     let track = track_at heads pointer.at in
     let parts = and_parts _ _ is.extent.holds in
-    let here : Holds run track = (leb-true run.first track parts.0, ltb-true track (end_of run) parts.1) in
-    subst (λ (r : Run). Holds r track) (sym is.run_is) here
+    let here : HasTrack run track = (leb-true run.first track parts.0, ltb-true track (end_of run) parts.1) in
+    subst (λ (r : Run). HasTrack r track) (sym is.run_is) here
 
 -- ---- an offline unit
 
@@ -202,10 +202,10 @@ module _ (sliding : Bool) (place : ℕ → ℕ) (head : List ℕ) (blocks : ℕ)
   first_same : new 0 ≡ old 0
   first_same = same 0 (omega (arith, is.stands.head_stands.cylinders.0)) (inr (inl refl))
 
-  vtoc_same : (track : ℕ) → Holds is.stands.vtoc.run track → new track ≡ old track
+  vtoc_same : (track : ℕ) → HasTrack is.stands.vtoc.run track → new track ≡ old track
   vtoc_same track holds =
       let below : track < is.stands.image.tracks = vtoc_below is.stands.image is.found.label.vtoc old sliding is.stands.vtoc is.stands.vtoc_stands track holds in
-      same track (omega (arith, below, is.stands.tracks_are)) (inr (inr (inl (subst (λ (run : Run). Holds run track) (sym is.vtoc_is) holds))))
+      same track (omega (arith, below, is.stands.tracks_are)) (inr (inr (inl (subst (λ (run : Run). HasTrack run track) (sym is.vtoc_is) holds))))
 
   volume_moves : IsVolume head blocks new sliding is.found
   volume_moves =

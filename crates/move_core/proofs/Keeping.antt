@@ -3,7 +3,7 @@ use Rattle.std.proofs.Common.{◌≡◌, ◌⊎◌, ⊎_elim, inl, ℕ, ◌+◌,
 use Rattle.std.proofs.lemmas.List.{length-append, take-append-le, take_all}
 use Rattle.std.proofs.Math.Seq.{take-append-add}
 use Rattle.dasd_pool.specs.Disk.{Image, Shape, Disk, MayLeave, LeavesOnly, Touches, Spares, Runs, none}
-use Rattle.dasd_pool.specs.Moments.{and_then, weaken, since_start, runs_start}
+use Rattle.dasd_pool.proofs.Moments.{and_then, weaken, since_start, runs_start}
 use Rattle.redo_core.specs.declared.entries.Entry.{Entry}
 use Rattle.redo_core.specs.Format.{is_open}
 use Rattle.redo_core.specs.Reading.{journal_of, Reading}

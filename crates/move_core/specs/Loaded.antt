@@ -4,7 +4,7 @@ use Rattle.ckd_image.specs.declared.head.Head.{Head}
 use Rattle.ckd_image.specs.declared.track.Cchhr.{Cchhr}
 use Rattle.ckd_image.specs.Address.{IsCchhr}
 use Rattle.free_map.specs.declared.run.Run.{Run}
-use Rattle.free_map.specs.Runs.{Holds}
+use Rattle.free_map.specs.Runs.{HasTrack}
 use Rattle.volume_model.specs.declared.place.Vtoc.{Vtoc}
 use Rattle.volume_model.specs.Sound.{Slots, IsVtoc, Volume, IsVolume}
 use Rattle.volume_model.specs.Unit.{OnlineVolume, UnitModel, online}
@@ -12,7 +12,7 @@ use Rattle.volume_model.specs.Reads.{IsOnline, IsUnit}
 
 -- the slots of a run's tracks are no longer than a track's slot can be
 abbrev pub AreShort : Slots → Run → Type 0
-AreShort slots run = (track : ℕ) → Holds run track → length (slots track) ≤ 65536
+AreShort slots run = (track : ℕ) → HasTrack run track → length (slots track) ≤ 65536
 
 -- A VTOC reads in one way. The track of the format 4 is one of its run.
 abbrev pub OneVtoc : Type 0

@@ -53,7 +53,7 @@ pub record Slides (room from to len : ℕ) (before after : OnlineVolume) : Type 
   pub not_indexed : before.indexed ≡ false
   pub few_tracks : before.vtoc.len ≤ (room - 1) / 2
   pub extent : SlidingExtent
-  pub movable : ¬ IsPinned (heads_of before.device) extent.set
+  pub movable : ¬ IsPinned (heads_of before.device) extent.set.name extent.set.fields extent.set.extents
   pub extents_are : extent.set.extents ≡ extent.front ++ (extent_from from len extent.kind ∷ extent.back)
   pub texts : All IsGood (take len (drop (length (tracks_of extent.front)) extent.set.texts))
   pub free : (track : ℕ) → to ≤ track → track < from → IsFreeTrack before track

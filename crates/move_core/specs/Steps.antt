@@ -1,13 +1,12 @@
 -- What each step changes on the volumes.
 use Rattle.std.specs.Prelude.{◌≡◌, ◌≢◌, ◌⊎◌, ℕ, ◌-◌, ◌*◌, ◌<◌, ◌≤◌, Bool, true, false, ◌==◌, nat_le, if◌then◌else◌, List, [], ◌∷◌, ◌++◌, length, map, take, drop, replicate, All, AllPairs, Contains, Some, bit_and, slice_get, slice_index}
-use Rattle.ckd_image.specs.Device.{heads_of}
+use Rattle.ckd_image.specs.Device.{heads_of, ceil_div}
 use Rattle.dsn_filter.specs.declared.dsn.Dsn.{Dsn}
 use Rattle.free_map.specs.declared.run.Run.{Run}
-use Rattle.free_map.specs.Runs.{Holds, InRuns}
+use Rattle.free_map.specs.Runs.{HasTrack, InRuns}
 use Rattle.vol_label.specs.declared.serial.Serial.{Serial}
 use Rattle.volume_model.specs.Changed.{threes_for, ChangesSets}
 use Rattle.volume_model.specs.Pinned.{AreByCylinders, IsNameOf}
-use Rattle.volume_model.specs.Space.{ceil_div}
 use Rattle.volume_model.specs.Unit.{Text, good, Extent, DataSet, OnlineVolume, UnitModel, online, run_in, tracks_of, IsFreeTrack}
 use Rattle.move_core.specs.declared.steps.Origin.{Origin}
 use Rattle.move_core.specs.declared.steps.Origin.TheVariants.{Row, Part}
@@ -41,7 +40,7 @@ heads_in volume = heads_of volume.device
 -- Tracks of a volume that a data set may be put on: each run has some, none is in two of them, and each is free or one that the data set has.
 pub record MayTake (volume : OnlineVolume) (own to : List Run) : Type 0 where
   pub some : All (λ run. 1 ≤ run.len) to
-  pub apart : AllPairs (λ one other. (track : ℕ) → Holds one track → ¬ Holds other track) to
+  pub apart : AllPairs (λ one other. (track : ℕ) → HasTrack one track → ¬ HasTrack other track) to
   pub tracks : (track : ℕ) → InRuns to track → IsFreeTrack volume track ⊎ InRuns own track
 
 -- the type of new extents: of cylinders where the data set is, and else of tracks

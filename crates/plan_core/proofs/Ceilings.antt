@@ -4,7 +4,7 @@ use Rattle.std.specs.Prelude.{min}
 use Rattle.std.specs.Int.{div_ceil}
 use Rattle.std.proofs.lemmas.Nat.{div-add-mod', div-mul-add}
 use Rattle.std.proofs.Math.Nat.{mod-lt, suc-mul}
-use Rattle.volume_model.specs.Space.{ceil_div}
+use Rattle.ckd_image.specs.Device.{ceil_div}
 
 by_rest : (q r n d : ℕ) → 1 ≤ d → r < d → q * d + r ≡ n → ceil_div n d ≡ q + min 1 r
 by_rest q zero n d some less is =

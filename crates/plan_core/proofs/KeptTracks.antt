@@ -3,8 +3,8 @@ use Rattle.std.proofs.Common.{◌≡◌, ℕ, ◌+◌, ◌*◌, List, [], ◌∷
 use Rattle.std.specs.Prelude.{min, ◌==◌, nat_le, if◌then◌else◌}
 use Rattle.std.proofs.lemmas.Bool.{cond_both, cond-false, leb-true, leb-false, ne_eqb}
 use Rattle.volume_model.specs.Pinned.{IsOfTracks, used_tracks, whole_tracks, kept_tracks}
-use Rattle.volume_model.specs.Space.{ceil_div}
 use Rattle.volume_model.specs.Unit.{Extent, DataSet}
+use Rattle.ckd_image.specs.Device.{ceil_div}
 
 one_whole : (heads count : ℕ) (extent : Extent) → IsOfTracks extent → whole_tracks heads count (extent ∷ []) ≡ min extent.run.len count
 one_whole heads count extent tracks =

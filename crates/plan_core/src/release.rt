@@ -3,10 +3,11 @@
 ghost use Rattle.std.specs.Prelude.{◌≡◌, ◌+◌, ◌*◌, ◌^◌, ◌<◌, ◌≤◌, [], ◌∷◌};
 ghost use Rattle.volume_model.specs.Pinned.{used_tracks as used_tracks_of, whole_tracks as whole_tracks_of};
 ghost use Rattle.volume_model.specs.Reads.{fields_of_1};
-ghost use Rattle.volume_model.specs.Space.{run_of as run_in, ceil_div};
+ghost use Rattle.volume_model.specs.Space.{run_of as run_in};
 ghost use Rattle.vtoc_core.specs.Loaded.{field_of};
 ghost use Rattle.plan_core.specs.Extents.{extents_at};
 ghost use Rattle.plan_core.specs.Release.{kept_of};
+ghost use Rattle.ckd_image.specs.Device.{ceil_div};
 
 use crate::extents::run_of;
 use dscb_rec::Extent;

@@ -5,7 +5,7 @@ use Rattle.std.specs.List.{AllByRecursion}
 use Rattle.std.proofs.lemmas.Bool.{or_parts, and_left}
 use Rattle.std.proofs.lemmas.List.Elements.{recursion_from_All}
 use Rattle.dasd_pool.specs.Disk.{Image, Shape, State, Disk, LeavesOnly, Runs, Spares, Touches, IsSynced, is_at, none}
-use Rattle.dasd_pool.specs.Moments.{and_then, weaken, since_start}
+use Rattle.dasd_pool.proofs.Moments.{and_then, weaken, since_start}
 use Rattle.redo_core.specs.declared.entries.Entry.{Entry}
 use Rattle.redo_core.specs.Format.{is_open}
 use Rattle.redo_core.specs.Reading.{among, placed}

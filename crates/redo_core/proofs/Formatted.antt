@@ -4,7 +4,7 @@ use Rattle.std.specs.Prelude.{replicate, ◌==◌, false}
 use Rattle.std.proofs.lemmas.Bool.{false≢true, ne_eqb}
 use Rattle.std.proofs.lemmas.List.{get_or-replicate}
 use Rattle.dasd_pool.specs.Disk.{Image, Shape, Disk, Runs, LeavesOnly, Spares, IsSynced}
-use Rattle.dasd_pool.specs.Moments.{weaken}
+use Rattle.dasd_pool.proofs.Moments.{weaken}
 use Rattle.vol_label.specs.declared.serial.Serial.{Serial}
 use Rattle.redo_core.specs.declared.control.Control.TheVariants.{Idle}
 use Rattle.redo_core.specs.Format.{wide, registration_text, is_open, control_in, is_filling}

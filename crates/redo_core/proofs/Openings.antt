@@ -3,7 +3,7 @@ use Rattle.std.proofs.Common.{◌≡◌, ⊎_elim, inl, inr, ℕ, ◌+◌, ◌<�
 use Rattle.std.specs.Prelude.{◌==◌, nat_le, replicate, if◌then◌else◌}
 use Rattle.std.proofs.lemmas.Bool.{and_left, and_right, cases_Bool, both_ways, lt-leb, ne_eqb}
 use Rattle.dasd_pool.specs.Disk.{Image, Shape, State, Disk, LeavesOnly, Runs, Spares, IsSynced, none}
-use Rattle.dasd_pool.specs.Moments.{and_then, weaken}
+use Rattle.dasd_pool.proofs.Moments.{and_then, weaken}
 use Rattle.vol_label.specs.declared.serial.Serial.{Serial}
 use Rattle.redo_core.specs.declared.control.Control.{Control}
 use Rattle.redo_core.specs.declared.entries.Entry.{Entry}

@@ -5,7 +5,7 @@ use Rattle.std.specs.List.{AllByRecursion}
 use Rattle.std.proofs.lemmas.Bool.{both_ways, lt-ltb, eq-eqb, or_left, or_right, and_from}
 use Rattle.std.proofs.lemmas.List.Elements.{recursion_from_All, All-weaker, All-map}
 use Rattle.dasd_pool.specs.Disk.{Image, Shape, State, Disk, LeavesOnly, Touches, Runs, is_at}
-use Rattle.dasd_pool.specs.Moments.{weaken}
+use Rattle.dasd_pool.proofs.Moments.{weaken}
 use Rattle.redo_core.specs.declared.control.Control.{Control}
 use Rattle.redo_core.specs.declared.entries.Entry.{Entry}
 use Rattle.redo_core.specs.declared.target.Target.{Target}

@@ -6,7 +6,7 @@ use Rattle.std.proofs.lemmas.List.Elements.{recursion_from_All}
 use Rattle.std.proofs.lemmas.List.{take_all}
 use Rattle.std.proofs.lemmas.Bool.{or_parts, and_parts, eqb-true, cases_Bool}
 use Rattle.dasd_pool.specs.Disk.{Image, Shape, State, Disk, LeavesOnly, Touches, Runs, Spares, IsSynced, none, is_at}
-use Rattle.dasd_pool.specs.Moments.{and_then, weaken, runs_then}
+use Rattle.dasd_pool.proofs.Moments.{and_then, weaken, runs_then}
 use Rattle.redo_core.specs.declared.entries.Entry.{Entry}
 use Rattle.redo_core.specs.declared.target.Target.{Target}
 use Rattle.redo_core.specs.Format.{is_open, directory_in}

@@ -4,7 +4,7 @@ use Rattle.std.specs.Prelude.{◌==◌, nat_le, if◌then◌else◌}
 use Rattle.std.proofs.lemmas.Bool.{cases_Bool, and_parts, or_parts, eqb-true, cases_eq, both_ways, and_from, eq-eqb, le-leb}
 use Rattle.std.proofs.lemmas.List.{take_at}
 use Rattle.dasd_pool.specs.Disk.{Image, State, Disk, Touches, Runs, is_at, none}
-use Rattle.dasd_pool.specs.Moments.{runs_then}
+use Rattle.dasd_pool.proofs.Moments.{runs_then}
 use Rattle.redo_core.specs.declared.entries.Entry.{Entry}
 use Rattle.redo_core.specs.declared.target.Target.{Target}
 use Rattle.redo_core.specs.Format.{directory_in}

@@ -2,7 +2,7 @@
 use Rattle.std.proofs.Common.{◌≡◌, ℕ, List, false, refl, sym, subst}
 use Rattle.std.proofs.lemmas.Bool.{or_parts}
 use Rattle.dasd_pool.specs.Disk.{Image, Disk, Runs, none, is_at}
-use Rattle.dasd_pool.specs.Moments.{runs_then}
+use Rattle.dasd_pool.proofs.Moments.{runs_then}
 use Rattle.redo_core.specs.declared.target.Target.{Target}
 use Rattle.redo_core.specs.Reading.{among}
 use Rattle.redo_core.specs.Opening.{of_redo, of_opening}

@@ -14,14 +14,14 @@ use Rattle.volume_model.specs.declared.format.Format.TheVariants.{F4}
 use Rattle.volume_model.specs.declared.place.Placed.{Placed}
 use Rattle.volume_model.specs.declared.place.Vtoc.{Vtoc}
 use Rattle.volume_model.specs.declared.rule.VtocRule.TheVariants as rules
-use Rattle.volume_model.specs.Dscbs.{format_of, is_f5, extent_offsets, extent_at}
+use Rattle.volume_model.specs.Dscbs.{format_of, is_f5, extent_offsets, extent_at, is_free_record, is_free_dscb}
 use Rattle.volume_model.specs.Directory.{rows_of}
 use Rattle.volume_model.specs.Space.{is_run, run_of, entries_of, runs_of, usable_of, is_free}
 use Rattle.volume_model.specs.Check.{records_of, fives_of, extents_in, entries_in, usable_in, states_free, bad_free, breaches_of}
 use Rattle.volume_model.specs.Sound.{Slots, is_valid}
 use Rattle.vtoc_core.specs.declared.volume.Volume.{Volume}
-use Rattle.vtoc_core.specs.Loaded.{row_in, is_free_dscb}
-use Rattle.vtoc_load.specs.LoadedVtoc.{free_records_of, is_free_record, IsSpaceOf, IsVolumeOf}
+use Rattle.vtoc_core.specs.Loaded.{row_in}
+use Rattle.vtoc_load.specs.LoadedVtoc.{free_records_of, IsSpaceOf, IsVolumeOf}
 use Rattle.vtoc_layout.specs.Layout.{Layout, AreExtentsApart, row_by, layout_of, sets_of}
 use Rattle.vtoc_layout.proofs.PlainRules.{no_bad_tracks, no_bad_dscbs, no_bad_names}
 use Rattle.vtoc_layout.proofs.PointerRules.{no_bad_pointers}

@@ -1,5 +1,5 @@
 ghost use Rattle.std.specs.Prelude.{◌≡◌, ℕ, ◌+◌, ◌≤◌, ◌↔◌, All, IsTrue};
-ghost use Rattle.free_map.specs.Runs.{Holds, InRuns};
+ghost use Rattle.free_map.specs.Runs.{HasTrack, InRuns};
 
 use dscb_rec::Entry5;
 use free_map::*;
@@ -23,7 +23,7 @@ fn ends_by(run: Run, track: u32) -> bool
 fn covered(runs: &[Run], run: Run) -> bool
     requires all_within { All (λ run. run.first + run.len ≤ 65535) runs.now }
     requires within { run.first + run.len ≤ 65535 }
-    ensures { IsTrue result → (track : ℕ) → Holds run track → InRuns runs.now track }
+    ensures { IsTrue result → (track : ℕ) → HasTrack run track → InRuns runs.now track }
 {
     for free in runs {
         if free.first <= run.first && run.end() <= free.end() {
@@ -37,7 +37,7 @@ fn covered(runs: &[Run], run: Run) -> bool
 fn apart(runs: &[Run], run: Run) -> bool
     requires all_within { All (λ run. run.first + run.len ≤ 65535) runs.now }
     requires within { run.first + run.len ≤ 65535 }
-    ensures { IsTrue result → (track : ℕ) → Holds run track → ¬ InRuns runs.now track }
+    ensures { IsTrue result → (track : ℕ) → HasTrack run track → ¬ InRuns runs.now track }
 {
     for free in runs {
         if free.first < run.end() && run.first < free.end() {

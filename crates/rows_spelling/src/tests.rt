@@ -23,7 +23,7 @@ fn numbers_lie_within_limits(rt: HostRuntime) {
         (0, 4_294_967_295, b"99999999999999999999999999", None),
     ];
     for (least, most, word, number) in cases {
-        assert_eq!(rt; number_of(least, most, word), number);
+        assert_eq!(rt; number_between(least, most, word), number);
     }
 }
 

@@ -1,7 +1,7 @@
 -- Options ask for one run at most.
 use Rattle.std.proofs.Common.{◌≡◌, ℕ, List, [], ◌∷◌, get_or, Option, Some, None, sym, ap, subst, ◌∙◌, arith, refl}
 use Rattle.std.specs.List.{AllZip}
-use Rattle.by_rules.specs.Words.{number_of}
+use Rattle.by_rules.specs.Words.{number_up_to}
 use Rattle.dd_names.specs.declared.dd.DdName.{DdName}
 use Rattle.dd_names.specs.DdName.{dd_name_of}
 use Rattle.vol_label.specs.declared.serial.Serial.{Serial}
@@ -70,7 +70,7 @@ or_number (Some number) = number
 same_number : (least most : ℕ) (values : List (List ℕ)) (a b : ℕ) → IsNumber least most values a → IsNumber least most values b → a ≡ b
 same_number least most values a b p q =
     let digits : p.digits ≡ q.digits = ap (λ (t : List (List ℕ)). get_or t 0 []) (sym p.only ∙ q.only) in
-    ap or_number (sym p.spelled ∙ ap (number_of most) digits ∙ q.spelled)
+    ap or_number (sym p.spelled ∙ ap (number_up_to most) digits ∙ q.spelled)
 
 pub no_jobs_format : (options : List Given) (units : List (Serial × List ℕ)) (journal sysin : List ℕ) (held : Option (List ℕ)) (outs ins : List (DdName × List ℕ))
     → IsJobs options units journal sysin held outs ins → values_of names.FormatJournal options ≡ []

@@ -3,7 +3,7 @@ use Rattle.std.specs.Prelude.{◌≡◌, ◌≢◌, ◌⊎◌, ℕ, ◌≤◌, B
 use Rattle.std.specs.List.{AllZip, filter_map}
 use Rattle.std.specs.Str.{bytes_eq}
 use Rattle.ckd_image.specs.Bytes.{Begins}
-use Rattle.by_rules.specs.Words.{number_of}
+use Rattle.by_rules.specs.Words.{number_up_to}
 use Rattle.dsn_filter.specs.OneQualifier.{IsQualifierText}
 use Rattle.dd_names.specs.declared.dd.DdName.{DdName}
 use Rattle.dd_names.specs.DdName.{dd_name_of}
@@ -94,7 +94,7 @@ IsPathOrNone values (Some path) = IsPath values path
 pub record IsNumber (least most : ℕ) (values : List (List ℕ)) (number : ℕ) : Type 0 where
   pub digits : List ℕ
   pub only : values ≡ digits ∷ []
-  pub spelled : number_of most digits ≡ Some number
+  pub spelled : number_up_to most digits ≡ Some number
   pub least_is : least ≤ number
 
 -- ---- runs

@@ -1,6 +1,6 @@
 //! Options whose value is a number.
 
-ghost use Rattle.std.specs.Prelude.{◌≡◌, ℕ, ◌<◌, ◌≤◌, IfSome, IfNone};
+ghost use Rattle.std.specs.Prelude.{ℕ, IfSome, IfNone};
 ghost use Rattle.run_words.specs.Words.{values_of, IsNumber};
 ghost use Rattle.run_words.specs.Parts.{Judged};
 
@@ -8,20 +8,19 @@ use crate::fault::WordsFault;
 use crate::given::Given;
 use crate::name::Name;
 use crate::values::values_of;
-use by_rules::number_of;
+use by_rules::number_up_to;
 use ckd_image::Word;
 use std::alloc::Global;
 
 /// The one value, where it is a number of a range.
 fn only_number(values: &[Word], least: u32, most: u32) -> Option<u32>
-    requires { most < 10000000 }
     ensures found { IfSome result (IsNumber least most values.now) }
     ensures none { IfNone result ((number : ℕ) → ¬ IsNumber least most values.now number) }
 {
     let [digits] = values else {
         return None;
     };
-    let number = number_of(most, digits.as_str().as_bytes())?;
+    let number = number_up_to(most, digits.as_str().as_bytes())?;
     if number < least {
         return None;
     }
@@ -36,7 +35,6 @@ pub(crate) fn number_given(
     least: u32,
     most: u32,
 ) -> Result<u32, WordsFault>
-    requires { most < 10000000 }
     ensures { Judged (IsNumber least most (values_of name options.now)) result }
 {
     let values = values_of(alloc, options, name)?;

@@ -6,7 +6,7 @@ use Rattle.std.proofs.lemmas.List.Elements.{All-head, All-tail, All-nil, All-con
 use Rattle.vtoc_layout.proofs.Distinct.{first_or_later, at_first, in_later, in_none}
 use Rattle.free_map.specs.declared.run.Run.{Run}
 use Rattle.free_map.specs.Free.{Free, IsFree}
-use Rattle.free_map.specs.Runs.{Holds, InRuns, AreApart, AreMaximalRuns}
+use Rattle.free_map.specs.Runs.{HasTrack, InRuns, AreApart, AreMaximalRuns}
 use Rattle.runs_after.specs.After.{IsFreeThen, IsBeside, bit}
 use Rattle.runs_after.proofs.Starts.{holds, in_runs, before, starts_at, starts}
 use Rattle.runs_after.proofs.Adding.{adds, adds_in, adds_out, starts_adds}
@@ -40,12 +40,12 @@ both false b is = absurd (false≢true is)
 
 -- ---- runs by truth values
 
-holds_says : (run : Run) (track : ℕ) → holds run track ≡ true → Holds run track
+holds_says : (run : Run) (track : ℕ) → holds run track ≡ true → HasTrack run track
 holds_says run track is =
     let parts = both (nat_le run.first track) (nat_lt track (run.first + run.len)) is in
     (leb-true run.first track parts.0, ltb-true track (run.first + run.len) parts.1)
 
-says_holds : (run : Run) (track : ℕ) → Holds run track → holds run track ≡ true
+says_holds : (run : Run) (track : ℕ) → HasTrack run track → holds run track ≡ true
 says_holds run track is =
     λ i. le-leb run.first track is.0 i && lt-ltb track (run.first + run.len) is.1 i
 
@@ -60,18 +60,18 @@ says_in (run ∷ runs) track (inl here) = left_so (holds run track) (in_runs run
 says_in (run ∷ runs) track (inr later) = right_so (holds run track) (in_runs runs track) (says_in runs track later)
 
 -- a run holds a track, whichever way that is said
-pub in_any : (runs : List Run) (track : ℕ) → InRuns runs track ↔ Any (λ run. Holds run track) runs
+pub in_any : (runs : List Run) (track : ℕ) → InRuns runs track ↔ Any (λ run. HasTrack run track) runs
 in_any runs track = (to runs, λ any. from runs any.1 (any.0, any.2, any.3) any.4)
   where
-    to : (runs : List Run) → InRuns runs track → Any (λ run. Holds run track) runs
+    to : (runs : List Run) → InRuns runs track → Any (λ run. HasTrack run track) runs
     to [] never = absurd never
     to (run ∷ runs) (inl here) = let there = at_first run runs in (there.0, run, there.1, there.2, here)
     to (run ∷ runs) (inr later) = let any = to runs later in let there = in_later run any.1 runs (any.0, any.2, any.3) in (there.0, any.1, there.1, there.2, any.4)
 
-    from : (runs : List Run) (run : Run) → Contains runs run → Holds run track → InRuns runs track
+    from : (runs : List Run) (run : Run) → Contains runs run → HasTrack run track → InRuns runs track
     from [] run there here = absurd (in_none run there)
     from (first ∷ runs) run there here = elim (first_or_later first run runs there) [
-      | inl same ↦ inl (subst (λ (r : Run). Holds r track) (sym same) here)
+      | inl same ↦ inl (subst (λ (r : Run). HasTrack r track) (sym same) here)
       | inr later ↦ inr (from runs run later here)
     ]
 
@@ -87,13 +87,13 @@ starts_none zero = refl
 starts_none (suc limit) = omega (arith, starts_none limit)
 
 -- a track is one of a run's, or before it, or behind it
-where_is : (run : Run) (track : ℕ) → Holds run track ⊎ ((track < run.first) ⊎ (run.first + run.len ≤ track))
+where_is : (run : Run) (track : ℕ) → HasTrack run track ⊎ ((track < run.first) ⊎ (run.first + run.len ≤ track))
 where_is run track = elim (cases_lt track run.first) [
   | inl low ↦ inr (inl low)
   | inr high ↦ elim (cases_lt track (run.first + run.len)) [ inl low ↦ inl (high, low) | inr above ↦ inr (inr above) ]
 ]
 
-not_both : (run : Run) (track : ℕ) → ((track < run.first) ⊎ (run.first + run.len ≤ track)) → ¬ Holds run track
+not_both : (run : Run) (track : ℕ) → ((track < run.first) ⊎ (run.first + run.len ≤ track)) → ¬ HasTrack run track
 not_both run track (inl below) here = omega (arith, below, here.0)
 not_both run track (inr above) here = omega (arith, above, here.1)
 
@@ -112,7 +112,7 @@ same_adds run runs track = same_bool (adds (in_runs runs) run.first run.len trac
         ∙ ⊎_elim (λ here. absurd (not_both run track out (holds_says run track here))) (λ later. later) (either (holds run track) (in_runs runs track) is)) (where_is run track)
 
 -- a run that lies apart from others, before them or between them, begins one more but for those that it touches
-run_added : (run : Run) (runs : List Run) (limit : ℕ) → 1 ≤ run.len → run.first + run.len < limit → ((track : ℕ) → Holds run track → ¬ InRuns runs track)
+run_added : (run : Run) (runs : List Run) (limit : ℕ) → 1 ≤ run.len → run.first + run.len < limit → ((track : ℕ) → HasTrack run track → ¬ InRuns runs track)
     → (starts (in_runs (run ∷ runs)) limit + bit (before (in_runs runs) run.first)) + bit (in_runs runs (run.first + run.len)) ≡ starts (in_runs runs) limit + 1
 run_added run runs limit some below out =
     let set = in_runs runs in
@@ -186,11 +186,11 @@ runs_below limit (run ∷ runs) all track (inl here) = omega (arith, here.1, All
 runs_below limit (run ∷ runs) all track (inr later) = runs_below limit runs (All-tail (λ (r : Run). r.first + r.len ≤ limit) run runs all) track later
 
 module _ (free : Free) (apart : AreApart 0 free.runs) (within : All (λ run. run.first + run.len ≤ free.usable) free.runs) (from to : Run) (some : 1 ≤ from.len) (as_many : to.len ≡ from.len)
-    (inside : from.first + from.len ≤ free.usable) (used : (track : ℕ) → Holds from track → ¬ IsFree free track) (takes : (track : ℕ) → Holds to track → IsFree free track ⊎ Holds from track) where
+    (inside : from.first + from.len ≤ free.usable) (used : (track : ℕ) → HasTrack from track → ¬ IsFree free track) (takes : (track : ℕ) → HasTrack to track → IsFree free track ⊎ HasTrack from track) where
   free_below : (track : ℕ) → IsFree free track → track < free.usable
   free_below = runs_below free.usable free.runs within
 
-  taken_below : (track : ℕ) → (IsFree free track ⊎ Holds from track) → track < free.usable
+  taken_below : (track : ℕ) → (IsFree free track ⊎ HasTrack from track) → track < free.usable
   taken_below track (inl there) = free_below track there
   taken_below track (inr here) = omega (arith, here.1, inside)
 
@@ -222,7 +222,7 @@ module _ (free : Free) (apart : AreApart 0 free.runs) (within : All (λ run. run
         back (inr there) = ⊎_elim (λ was. inr was) (λ left. inl left) ((is.exact track).1 there).0
 
     -- beside the run that is taken lies what is free before it is
-    beside_same : (track : ℕ) → ¬ Holds to track → in_runs (to ∷ runs) track ≡ in_runs runs track
+    beside_same : (track : ℕ) → ¬ HasTrack to track → in_runs (to ∷ runs) track ≡ in_runs runs track
     beside_same track out = ap (λ (b : Bool). b || in_runs runs track) (not_true (holds to track) (λ is. out (holds_says to track is)))
 
     front_same : (first : ℕ) → first ≡ to.first → before (in_runs (to ∷ runs)) first ≡ before (in_runs runs) first

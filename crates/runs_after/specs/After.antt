@@ -2,11 +2,11 @@
 use Rattle.std.specs.Prelude.{◌≡◌, ℕ, ◌+◌, ◌-◌, ◌≤◌, ◌⊎◌, ◌↔◌, Bool, IsTrue, if◌then◌else◌}
 use Rattle.free_map.specs.declared.run.Run.{Run}
 use Rattle.free_map.specs.Free.{Free, IsFree}
-use Rattle.free_map.specs.Runs.{Holds}
+use Rattle.free_map.specs.Runs.{HasTrack}
 
 -- the tracks that were free and those that it left, but for those that it took
 abbrev pub IsFreeThen : Free → Run → Run → ℕ → Type 0
-IsFreeThen free from to track = (IsFree free track ⊎ Holds from track) × ¬ Holds to track
+IsFreeThen free from to track = (IsFree free track ⊎ HasTrack from track) × ¬ HasTrack to track
 
 -- 1 for what is true
 abbrev pub bit : Bool → ℕ

@@ -3,7 +3,7 @@
 ghost use Rattle.std.specs.Prelude.{◌≡◌, ℕ, ◌+◌, ◌<◌, ◌≤◌, ◌⊎◌, ◌↔◌, IsTrue, Any, List, length};
 ghost use Rattle.free_map.specs.declared.run.Run.{Run as RunOf};
 ghost use Rattle.free_map.specs.Free.{IsFree};
-ghost use Rattle.free_map.specs.Runs.{Holds, InRuns, AreMaximalRuns};
+ghost use Rattle.free_map.specs.Runs.{HasTrack, InRuns, AreMaximalRuns};
 ghost use Rattle.runs_after.specs.After.{IsFreeThen, IsBeside};
 
 use free_map::Run;
@@ -11,14 +11,14 @@ use vtoc_core::Volume;
 
 /// Whether a track is one of a run's.
 fn holds_track(run: Run, track: u32) -> bool
-    ensures { IsTrue result ↔ Holds run track }
+    ensures { IsTrue result ↔ HasTrack run track }
 {
     run.first <= track && track - run.first < run.len
 }
 
 /// Whether a track is in one of the runs.
 fn is_in(runs: &[Run], track: u32) -> bool
-    ensures { IsTrue result ↔ Any (λ run. Holds run track) runs.now }
+    ensures { IsTrue result ↔ Any (λ run. HasTrack run track) runs.now }
 {
     runs.iter().any(|run| holds_track(*run, track))
 }
@@ -45,8 +45,8 @@ pub fn runs_after(volume: &Volume, from: Run, to: Run) -> u32
     requires some { 1 ≤ from.len }
     requires as_many { to.len ≡ from.len }
     requires within { from.first + from.len ≤ volume.now.free.usable }
-    requires used { (track : ℕ) → Holds from track → ¬ IsFree volume.now.free track }
-    requires free { (track : ℕ) → Holds to track → IsFree volume.now.free track ⊎ Holds from track }
+    requires used { (track : ℕ) → HasTrack from track → ¬ IsFree volume.now.free track }
+    requires free { (track : ℕ) → HasTrack to track → IsFree volume.now.free track ⊎ HasTrack from track }
     ensures { (runs : List RunOf) → AreMaximalRuns (IsFreeThen volume.now.free from to) runs → result ≡ length runs }
 {
     let free = volume.free.runs();

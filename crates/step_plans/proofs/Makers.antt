@@ -6,7 +6,7 @@ use Rattle.std.proofs.lemmas.List.{append-nil, length-append, length-map}
 use Rattle.std.proofs.lemmas.List.Elements.{All-nil, All-cons, All-head, All-tail, All-weaker}
 use Rattle.std.proofs.lemmas.List.Sums.{sum_by-cons}
 use Rattle.std.proofs.lemmas.Option.{same_Some, none-some}
-use Rattle.ckd_image.specs.Device.{heads_of}
+use Rattle.ckd_image.specs.Device.{heads_of, ceil_div}
 use Rattle.ckd_image.specs.declared.device.Device.{Device}
 use Rattle.ckd_image.specs.declared.device.Device.TheVariants.{D3390, D3380}
 use Rattle.dscb_rec.specs.declared.field.Extent.{Extent as Field}
@@ -22,7 +22,6 @@ use Rattle.free_map.proofs.Fit.{le_rounded}
 use Rattle.volume_model.specs.Dscbs.{format_of, numbers_below}
 use Rattle.volume_model.specs.Pinned.{IsNameOf}
 use Rattle.volume_model.specs.Reads.{extent_in, fields_of_1}
-use Rattle.volume_model.specs.Space.{ceil_div}
 use Rattle.volume_model.specs.Unit.{Extent, tracks_in, tracks_of}
 use Rattle.vtoc_core.specs.declared.volume.Row.{Row}
 use Rattle.vtoc_core.specs.declared.volume.Volume.{Volume}

@@ -8,7 +8,7 @@ use Rattle.dscb_rec.specs.declared.field.Extent.{Extent as Field}
 use Rattle.dscb_made.specs.Slots.{IsThere}
 use Rattle.free_map.specs.declared.run.Run.{Run}
 use Rattle.free_map.specs.Free.{IsFree}
-use Rattle.free_map.specs.Runs.{Holds, InRuns}
+use Rattle.free_map.specs.Runs.{HasTrack, InRuns}
 use Rattle.volume_model.specs.declared.format.Format.TheVariants.{F1}
 use Rattle.volume_model.specs.Dscbs.{format_of}
 use Rattle.volume_model.specs.Space.{end_of, is_run, overlap}
@@ -31,7 +31,7 @@ use Rattle.step_plans.proofs.Places.{on_runs, are_on_runs, kinds_on}
 -- ---- runs that share no track
 
 abbrev SharesNone : Run → Run → Type 0
-SharesNone one other = (track : ℕ) → Holds one track → ¬ Holds other track
+SharesNone one other = (track : ℕ) → HasTrack one track → ¬ HasTrack other track
 
 abbrev IsSome : Run → Type 0
 IsSome run = 1 ≤ run.len
@@ -56,7 +56,7 @@ none_overlaps one (run ∷ runs) some all none =
     (no_overlap one run some (All-head IsSome run runs all) (All-head (SharesNone one) run runs none))
     (none_overlaps one runs some (All-tail IsSome run runs all) (All-tail (SharesNone one) run runs none))
 
-pub runs_apart : (runs : List Run) → All (λ run. 1 ≤ run.len) runs → AllPairs (λ one other. (track : ℕ) → Holds one track → ¬ Holds other track) runs → AreApart runs
+pub runs_apart : (runs : List Run) → All (λ run. 1 ≤ run.len) runs → AllPairs (λ one other. (track : ℕ) → HasTrack one track → ¬ HasTrack other track) runs → AreApart runs
 runs_apart [] all pairs = tt
 runs_apart (run ∷ runs) all pairs = (
   none_overlaps run runs (All-head IsSome run runs all) (All-tail IsSome run runs all) (pairs_first SharesNone run runs pairs),
@@ -95,7 +95,7 @@ module _ (volume : Volume) (sound : IsSound volume) where
 
   module _ (row : Row) (kind : ℕ) (runs : List Run) (some : kind ≢ 0) (named : HasItsName row) (format : format_of row.f1 ≡ F1)
       (extents_are : row.extents ≡ map (field_on volume.device kind) runs) (all : All (λ run. 1 ≤ run.len) runs)
-      (apart : AllPairs (λ one other. (track : ℕ) → Holds one track → ¬ Holds other track) runs) (few_runs : length runs ≤ 16)
+      (apart : AllPairs (λ one other. (track : ℕ) → HasTrack one track → ¬ HasTrack other track) runs) (few_runs : length runs ≤ 16)
       (held : (track : ℕ) → InRuns runs track → IsFree volume.free track) where
     abbrev on : Run → Field
     on = field_on volume.device kind

@@ -11,7 +11,7 @@ use Rattle.dsn_filter.specs.declared.dsn.Dsn.{Dsn}
 use Rattle.free_map.specs.declared.run.Run.{Run}
 use Rattle.free_map.specs.Runs.{InRuns}
 use Rattle.volume_model.specs.declared.format.Format.TheVariants.{Broken, Free, F1, F3, F4, F5}
-use Rattle.volume_model.specs.Dscbs.{format_of, is_f1, fills}
+use Rattle.volume_model.specs.Dscbs.{format_of, is_f1, is_filled}
 use Rattle.volume_model.specs.Pinned.{IsNameOf}
 use Rattle.volume_model.specs.Reads.{extent_in, fields_of_1}
 use Rattle.volume_model.specs.Space.{end_of, is_run}
@@ -54,7 +54,7 @@ only_f1 false false false false false e = e
 pub code_of_1 : (bytes : List ℕ) → format_of bytes ≡ F1 → get_or bytes 44 0 ≡ 0xF1
 code_of_1 bytes is =
     let code = get_or bytes 44 0 in
-    eqb-true code 0xF1 (only_f1 (code == 0xF1) ((code == 0xF3) && fills 4 0x03 bytes) ((code == 0xF4) && fills 44 0x04 bytes) ((code == 0xF5) && fills 4 0x05 bytes) (fills 140 0 bytes) (ap is_f1 is))
+    eqb-true code 0xF1 (only_f1 (code == 0xF1) ((code == 0xF3) && is_filled 4 0x03 bytes) ((code == 0xF4) && is_filled 44 0x04 bytes) ((code == 0xF5) && is_filled 4 0x05 bytes) (is_filled 140 0 bytes) (ap is_f1 is))
 
 -- ---- a row in the place of another
 

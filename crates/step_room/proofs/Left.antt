@@ -5,7 +5,7 @@ use Rattle.std.proofs.lemmas.List.{map-append}
 use Rattle.ckd_image.specs.Device.{heads_of}
 use Rattle.free_map.specs.declared.run.Run.{Run}
 use Rattle.free_map.specs.Free.{IsFree}
-use Rattle.free_map.specs.Runs.{Holds, InRuns, AreMaximalRuns}
+use Rattle.free_map.specs.Runs.{HasTrack, InRuns, AreMaximalRuns}
 use Rattle.volume_model.specs.Unit.{DataSet, OnlineVolume, run_in, runs_of_sets, IsFreeTrack, AreFreeRunsOf}
 use Rattle.vtoc_core.specs.declared.volume.Row.{Row}
 use Rattle.vtoc_core.specs.declared.volume.Volume.{Volume}
@@ -109,7 +109,7 @@ of_none sets xs ys zs track are is h =
 record IsLeft (volume : OnlineVolume) (front back : List DataSet) (track : ℕ) : Type 0 where
   pub usable : track < volume.usable
   pub not_0 : ¬ (track ≡ 0)
-  pub not_vtoc : ¬ Holds volume.vtoc track
+  pub not_vtoc : ¬ HasTrack volume.vtoc track
   pub not_front : ¬ InRuns (runs_of_sets front) track
   pub not_back : ¬ InRuns (runs_of_sets back) track
 
@@ -159,7 +159,7 @@ module _ {loaded : Volume} {volume : OnlineVolume} (sound : IsSound loaded) (is 
       record {
         usable = omega (arith, on.usable, is.usable_is);
         not_0 = on.not_0;
-        not_vtoc = λ held. on.not_vtoc (subst (λ (run : Run). Holds run track) is.vtoc_is held);
+        not_vtoc = λ held. on.not_vtoc (subst (λ (run : Run). HasTrack run track) is.vtoc_is held);
         not_front =
             λ k. sound_parts loaded sound parts.front parts.middle in_first in_second front_differs track (by_rows parts.front front parts.front_are track k) mine;
         not_back =
@@ -191,7 +191,7 @@ module _ {loaded : Volume} {volume : OnlineVolume} (sound : IsSound loaded) (is 
             inl ((is.free_are.exact track).0 (record {
               usable = omega (arith, free.usable, usable);
               not_0 = free.not_0;
-              not_vtoc = λ held. free.not_vtoc (subst (λ (run : Run). Holds run track) (sym vtoc) held);
+              not_vtoc = λ held. free.not_vtoc (subst (λ (run : Run). HasTrack run track) (sym vtoc) held);
               not_set = of_none volume.sets front gone back track sets_were (record { not_front = none.not_front; not_middle = not_given; not_back = none.not_back });
             }))
 
@@ -201,7 +201,7 @@ module _ {loaded : Volume} {volume : OnlineVolume} (sound : IsSound loaded) (is 
         record {
           usable = omega (arith, of_left.usable, usable);
           not_0 = of_left.not_0;
-          not_vtoc = λ held. of_left.not_vtoc (subst (λ (run : Run). Holds run track) vtoc held);
+          not_vtoc = λ held. of_left.not_vtoc (subst (λ (run : Run). HasTrack run track) vtoc held);
           not_set = of_none after.sets front put back track sets_are (record { not_front = of_left.not_front; not_middle = h.1; not_back = of_left.not_back });
         }
 

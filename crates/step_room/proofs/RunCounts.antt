@@ -3,7 +3,7 @@ use Rattle.std.proofs.Common.{◌≡◌, ◌⊎◌, inl, inr, ℕ, ◌+◌, ◌-
 use Rattle.std.proofs.lemmas.Bool.{cases_lt}
 use Rattle.std.proofs.lemmas.List.{length-append, length-map}
 use Rattle.free_map.specs.declared.run.Run.{Run}
-use Rattle.free_map.specs.Runs.{Holds, InRuns, AreApart}
+use Rattle.free_map.specs.Runs.{HasTrack, InRuns, AreApart}
 use Rattle.free_map.proofs.Apart.{from_le}
 use Rattle.vtoc_layout.specs.Layout.{AreDistinct}
 use Rattle.vtoc_layout.proofs.Distinct.{first_or_later, in_none, in_front, in_back, in_map, no_more}
@@ -42,7 +42,7 @@ gap_before from [] first track apart there next held = held
 gap_before from (run ∷ runs) first track apart there next held =
     by (λ later after. gap_before (run.first + run.len + 1) runs first track apart.2 later next after) (first_or_later run.first first (map first_of runs) there) held
   where
-    by : (Contains (map first_of runs) first → InRuns runs track → ⊥) → ((run.first ≡ first) ⊎ Contains (map first_of runs) first) → (Holds run track ⊎ InRuns runs track) → ⊥
+    by : (Contains (map first_of runs) first → InRuns runs track → ⊥) → ((run.first ≡ first) ⊎ Contains (map first_of runs) first) → (HasTrack run track ⊎ InRuns runs track) → ⊥
     by later (inl same) (inl here) = absurd (omega (arith, same, next, here.0))
     by later (inl same) (inr after) = absurd (omega (arith, same, next, from_le (run.first + run.len + 1) runs track apart.2 after))
     by later (inr behind) (inl here) = absurd (omega (arith, next, here.1, first_from (run.first + run.len + 1) runs first apart.2 behind))
@@ -57,7 +57,7 @@ module _ (runs old given : List Run) (apart : AreApart 0 runs) (to : (track : �
       → Contains (map first_of some) first
   begins some first there within held = by (run_with some first held)
     where
-      by : ((run : Run) × Contains some run × Holds run first) → Contains (map first_of some) first
+      by : ((run : Run) × Contains some run × HasTrack run first) → Contains (map first_of some) first
       by (run, c, has) = elim (cases_lt run.first first) [
         | inl lower ↦
             absurd (gap_before 0 runs first (first - 1) apart there (omega (arith, lower)) (within (first - 1) (held_in some run (first - 1) c (omega (arith, lower), omega (arith, lower, has.1)))))

@@ -6,7 +6,7 @@ use Rattle.std.proofs.lemmas.List.Sorted.{IsPermutation-map}
 use Rattle.ckd_image.specs.declared.head.Head.{Head}
 use Rattle.ckd_image.specs.Device.{heads_of}
 use Rattle.free_map.specs.declared.run.Run.{Run}
-use Rattle.free_map.specs.Runs.{Holds, InRuns}
+use Rattle.free_map.specs.Runs.{HasTrack, InRuns}
 use Rattle.vol_label.specs.declared.label.Label.{Label}
 use Rattle.volume_model.specs.declared.place.Placed.{Placed}
 use Rattle.volume_model.specs.declared.place.Vtoc.{Vtoc}
@@ -71,7 +71,7 @@ row_with volume rows track h =
 pub record IsSetTrack (volume : Volume) (track : ℕ) : Type 0 where
   pub usable : track < volume.usable
   pub not_0 : track ≢ 0
-  pub not_vtoc : ¬ Holds volume.vtoc track
+  pub not_vtoc : ¬ HasTrack volume.vtoc track
 
 module _ {head : Head} {label : Label} {unit : Slots} {before : Bool} {slots : List ℕ} {volume : Volume} {vtoc : Vtoc} {four : Placed}
     (was : WasLoaded head label unit before slots volume vtoc four) where
@@ -105,7 +105,7 @@ module _ {head : Head} {label : Label} {unit : Slots} {before : Bool} {slots : L
         not_0 = λ same. none_shared run track_0 track (All-contains (λ (r : Run). overlap r track_0 ≡ false) all run (apart was).off_track_0 there) at.2 (omega arith, omega (arith, same));
         not_vtoc =
             λ held. none_shared run vtoc.run track (All-contains (λ (r : Run). overlap r vtoc.run ≡ false) all run (apart was).off_vtoc there) at.2
-            (subst (λ (r : Run). Holds r track) was.volume_is.vtoc_is held);
+            (subst (λ (r : Run). HasTrack r track) was.volume_is.vtoc_is held);
       }
 
   none_in_two : (a b : Row) → Contains volume.rows a → Contains volume.rows b → a.name ≢ b.name → (track : ℕ) → InRuns (runs_for volume a) track → ¬ InRuns (runs_for volume b) track

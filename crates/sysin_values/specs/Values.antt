@@ -14,7 +14,7 @@ use Rattle.dsn_filter.specs.OneQualifier.{IsQualifierText}
 use Rattle.by_rules.specs.declared.criterion.Criterion.{Criterion}
 use Rattle.by_rules.specs.Token as rules
 use Rattle.by_rules.specs.Grammar.{IsSequence}
-use Rattle.sysin_words.specs.Number.{number_of}
+use Rattle.sysin_words.specs.Number.{number_between}
 use Rattle.sysin_text.specs.declared.token.Token.{Token}
 use Rattle.sysin_text.specs.declared.token.Token.TheVariants as tokens
 use Rattle.sysin_values.specs.Series.{IsListOf, IsFew}
@@ -52,11 +52,7 @@ SaysPrefix word name = IsQualifierText word × (name ≡ dsn_of word)
 
 -- a number within these limits
 abbrev pub SaysNumber : ℕ → ℕ → List ℕ → ℕ → Type 0
-SaysNumber least most word number = number_of least most word ≡ Some number
-
--- this very word
-abbrev pub IsWord : List ℕ → List Token → Type 0
-IsWord word text = text ≡ tokens.Word word ∷ []
+SaysNumber least most word number = number_between least most word ≡ Some number
 
 abbrev pub IsPatterns : Bool → List (List (List ℕ)) → List Token → Type 0
 IsPatterns limited patterns text = IsListOf (IsWordOf SaysPattern) patterns text × IsFew limited most_entries patterns

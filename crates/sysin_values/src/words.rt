@@ -8,7 +8,7 @@ use crate::fault::ValueFault;
 use dd_names::DdName;
 use dsn_filter::{Dsn, NameFault, Pattern, Qualifier};
 use std::alloc::Global;
-use sysin_words::number_of;
+use sysin_words::number_between;
 use vol_label::Serial;
 
 /// The serial that a word says.
@@ -69,5 +69,5 @@ pub fn number_within(least: u32, most: u32, word: &[u8]) -> Option<u32>
     ensures says { IfSome result (SaysNumber least most word.now) }
     ensures none { IfNone result (SaysNone (SaysNumber least most) word.now) }
 {
-    number_of(least, most, word)
+    number_between(least, most, word)
 }

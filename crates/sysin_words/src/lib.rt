@@ -9,4 +9,4 @@ mod number;
 pub use code::{Which, code_of, op_of, which_of};
 pub use keyword::{Keyword, keyword_of};
 pub use lead::{Lead, Verb, is_else, is_end, is_then, lead_of};
-pub use number::number_of;
+pub use number::number_between;

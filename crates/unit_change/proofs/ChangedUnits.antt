@@ -8,7 +8,7 @@ use Rattle.ckd_image.specs.Device.{heads_of}
 use Rattle.ckd_image.specs.Track.{IsTrackText}
 use Rattle.free_map.specs.declared.run.Run.{Run}
 use Rattle.free_map.specs.Free.{IsFree}
-use Rattle.free_map.specs.Runs.{Holds, InRuns, AreMaximalRuns}
+use Rattle.free_map.specs.Runs.{HasTrack, InRuns, AreMaximalRuns}
 use Rattle.vol_label.specs.declared.label.Label.{Label}
 use Rattle.volume_model.specs.Changed.{ChangesSets}
 use Rattle.volume_model.specs.Check.{extents_in, usable_in}
@@ -61,19 +61,19 @@ module _ {head : List ℕ} {blocks : ℕ} {old : Slots} {image : Head} {label : 
   described = describes found of.few (four_short of)
 
   -- no track of what is put is one of the VTOC
-  put_off_vtoc : (change : Change) → MayChange loaded change → OnPut (heads_of loaded.device) change (λ track. ¬ Holds loaded.vtoc track)
+  put_off_vtoc : (change : Change) → MayChange loaded change → OnPut (heads_of loaded.device) change (λ track. ¬ HasTrack loaded.vtoc track)
   put_off_vtoc Repair may = tt
   put_off_vtoc (Put row) may = λ track here held. by track held (may.0.tracks track here)
     where
-      by : (track : ℕ) → Holds loaded.vtoc track → (IsFree loaded.free track ⊎ InRuns (runs_of_rows loaded []) track) → ⊥
-      by track held (inl free) = (free_unused_by_rows is of.few (four_short of) track free).off (subst (λ (run : Run). Holds run track) is.volume.vtoc_is held)
+      by : (track : ℕ) → HasTrack loaded.vtoc track → (IsFree loaded.free track ⊎ InRuns (runs_of_rows loaded []) track) → ⊥
+      by track held (inl free) = (free_unused_by_rows is of.few (four_short of) track free).off (subst (λ (run : Run). HasTrack run track) is.volume.vtoc_is held)
       by track held (inr none) = none
   put_off_vtoc (Swap name row) may = λ track here held. by track held (may.1.3.tracks track here)
     where
-      by : (track : ℕ) → Holds loaded.vtoc track → (IsFree loaded.free track ⊎ InRuns (runs_of_rows loaded (may.1.0 ∷ [])) track) → ⊥
-      by track held (inl free) = (free_unused_by_rows is of.few (four_short of) track free).off (subst (λ (run : Run). Holds run track) is.volume.vtoc_is held)
+      by : (track : ℕ) → HasTrack loaded.vtoc track → (IsFree loaded.free track ⊎ InRuns (runs_of_rows loaded (may.1.0 ∷ [])) track) → ⊥
+      by track held (inl free) = (free_unused_by_rows is of.few (four_short of) track free).off (subst (λ (run : Run). HasTrack run track) is.volume.vtoc_is held)
       by track held (inr given) =
-          rows_off_vtoc is of.few (four_short of) track (in_all_rows loaded may.1.0 track may.1.1 given) (subst (λ (run : Run). Holds run track) is.volume.vtoc_is held)
+          rows_off_vtoc is of.few (four_short of) track (in_all_rows loaded may.1.0 track may.1.1 given) (subst (λ (run : Run). HasTrack run track) is.volume.vtoc_is held)
   put_off_vtoc (Remove name) may = tt
   put_off_vtoc Mark may = tt
 
@@ -88,7 +88,7 @@ module _ {head : List ℕ} {blocks : ℕ} {old : Slots} {image : Head} {label : 
 
     -- ---- what stays
 
-    stays : (track : ℕ) → ¬ Holds loaded.vtoc track → new track ≡ old track
+    stays : (track : ℕ) → ¬ HasTrack loaded.vtoc track → new track ≡ old track
     stays track off = slots_after.outside track (λ from below. off (from, below))
 
     first_stays : new 0 ≡ old 0
@@ -111,7 +111,7 @@ module _ {head : List ℕ} {blocks : ℕ} {old : Slots} {image : Head} {label : 
         (λ held.
         rows_off_vtoc is of.few (four_short of) track
         (subst (λ (runs : List Run). InRuns runs track) (runs_described loaded loaded.rows before.sets described.sets_are) here)
-        (subst (λ (run : Run). Holds run track) is.volume.vtoc_is held)))
+        (subst (λ (run : Run). HasTrack run track) is.volume.vtoc_is held)))
         (sets_found found of.few (four_short of))
 
     -- ---- the data sets
@@ -141,7 +141,7 @@ module _ {head : List ℕ} {blocks : ℕ} {old : Slots} {image : Head} {label : 
     put_stand =
         put_are (heads_of loaded.device) new loaded.rows rendered.next.rows changed.gone changed.put texts change changed.named.names changed.rows_are
         (put_texts_kept (heads_of loaded.device) old new texts change
-        (on_put (heads_of loaded.device) change (λ track. ¬ Holds loaded.vtoc track) (λ track. new track ≡ old track) stays (put_off_vtoc change may)) put_texts)
+        (on_put (heads_of loaded.device) change (λ track. ¬ HasTrack loaded.vtoc track) (λ track. new track ≡ old track) stays (put_off_vtoc change may)) put_texts)
 
     new_sets : AreDataSets (heads_of loaded.device) own_place new (map row_in rendered.next.rows) (outer.front ++ (put ++ inner.back))
     new_sets =

@@ -8,7 +8,7 @@ use Rattle.ckd_image.specs.Device.{heads_of}
 use Rattle.dscb_rec.specs.declared.field.Extent.{Extent as Field}
 use Rattle.free_map.specs.declared.run.Run.{Run}
 use Rattle.free_map.specs.Free.{IsFree}
-use Rattle.free_map.specs.Runs.{Holds, InRuns}
+use Rattle.free_map.specs.Runs.{HasTrack, InRuns}
 use Rattle.vol_label.specs.declared.label.Label.{Label}
 use Rattle.volume_model.specs.declared.place.Vtoc.{Vtoc}
 use Rattle.volume_model.specs.Changed.{records_for as records_of_set, free_records}
@@ -115,7 +115,7 @@ module _ {head : List ℕ} {blocks : ℕ} {slots : Slots} {image : Head} {label 
       unused_by_rows_free is small short track (record {
         below = omega (arith, free.usable, usable_found);
         some = free.not_0;
-        off = λ held. free.not_vtoc (subst (λ (run : Run). Holds run track) (sym vtoc_found) held);
+        off = λ held. free.not_vtoc (subst (λ (run : Run). HasTrack run track) (sym vtoc_found) held);
         none = λ held. free.not_set (subst (λ (runs : List Run). InRuns runs track) (sym runs_are) held);
       })
 
@@ -125,7 +125,7 @@ module _ {head : List ℕ} {blocks : ℕ} {slots : Slots} {image : Head} {label 
       record {
         usable = omega (arith, unused.below, usable_found);
         not_0 = unused.some;
-        not_vtoc = λ held. unused.off (subst (λ (run : Run). Holds run track) vtoc_found held);
+        not_vtoc = λ held. unused.off (subst (λ (run : Run). HasTrack run track) vtoc_found held);
         not_set = λ held. unused.none (subst (λ (runs : List Run). InRuns runs track) runs_are held);
       }
 

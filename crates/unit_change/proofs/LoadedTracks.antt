@@ -9,7 +9,7 @@ use Rattle.ckd_image.specs.declared.head.Head.{Head}
 use Rattle.ckd_image.specs.Device.{heads_of}
 use Rattle.free_map.specs.declared.run.Run.{Run}
 use Rattle.free_map.specs.Free.{IsFree}
-use Rattle.free_map.specs.Runs.{Holds, InRuns}
+use Rattle.free_map.specs.Runs.{HasTrack, InRuns}
 use Rattle.vol_label.specs.declared.label.Label.{Label}
 use Rattle.volume_model.specs.declared.format.Format.TheVariants.{F4}
 use Rattle.volume_model.specs.declared.place.Placed.{Placed}
@@ -154,7 +154,7 @@ module _ {head : Head} {label : Label} {slots : Slots} {sliding : Bool} {loaded 
       (is.volume.space.free_are.exact track).0 (same_free track ∙ free_unused loaded.usable vtoc.run by_sets track by_layout)
 
   -- a track of a data set isn't one of the VTOC
-  pub rows_off_vtoc : (track : ℕ) → InRuns (runs_of_rows loaded loaded.rows) track → ¬ Holds is.vtoc.run track
+  pub rows_off_vtoc : (track : ℕ) → InRuns (runs_of_rows loaded loaded.rows) track → ¬ HasTrack is.vtoc.run track
   rows_off_vtoc track h held =
       let run = run_with by_sets track (to_sets track h) in
       none_shared run.0 vtoc.run track (All-contains (λ (r : Run). overlap r vtoc.run ≡ false) by_sets run.0 apart.off_vtoc run.1) run.2 held

@@ -8,7 +8,7 @@ use Rattle.ckd_image.specs.declared.track.TrackAt.{TrackAt}
 use Rattle.ckd_image.specs.Address.{IsAddress}
 use Rattle.ckd_image.specs.Device.{heads_of, slot_of}
 use Rattle.free_map.specs.declared.run.Run.{Run}
-use Rattle.free_map.specs.Runs.{Holds}
+use Rattle.free_map.specs.Runs.{HasTrack}
 use Rattle.vol_label.specs.declared.label.Label.{Label}
 use Rattle.vol_label.specs.Label.{IsInside}
 use Rattle.volume_model.specs.Dscbs.{extent_at}
@@ -40,11 +40,11 @@ read_slots run size said read slots now unit long same still are =
 -- the run of a VTOC is the one that its own slots say, as the one that was at hand says it
 pub run_stands : (image : Head) (pointer : Cchhr) (run : Run) (size track : ℕ) (read slots slot hand : List ℕ)
     → ((unit : Slots) → unit (track_at (heads_of image.device) pointer.at) ≡ slot → IsVtocRun image unit pointer run)
-    → track_at (heads_of image.device) pointer.at ≡ track → size ≡ slot_of image.device → slots ≡ read → hand ≡ slot → (Holds run track → slot_in run size read track ≡ hand)
+    → track_at (heads_of image.device) pointer.at ≡ track → size ≡ slot_of image.device → slots ≡ read → hand ≡ slot → (HasTrack run track → slot_in run size read track ≡ hand)
     → IsVtocRun image (slot_in run (slot_of image.device) slots) pointer run
 run_stands image pointer run size track read slots slot hand stands home long same told at_hand =
     let first : IsVtocRun image (λ _. slot) pointer run = stands (λ _. slot) refl in
-    let holds : Holds run track = subst (λ (n : ℕ). Holds run n) home (run_holds image (λ _. slot) pointer run first) in
+    let holds : HasTrack run track = subst (λ (n : ℕ). HasTrack run n) home (run_holds image (λ _. slot) pointer run first) in
     let there : slot_in run (slot_of image.device) slots track ≡ slot =
     ap (λ (l : List ℕ). slot_in run (slot_of image.device) l track) same ∙ (ap (λ (n : ℕ). slot_in run n read track) (sym long) ∙ (at_hand holds ∙ told)) in
     stands (slot_in run (slot_of image.device) slots) (ap (slot_in run (slot_of image.device) slots) home ∙ there)

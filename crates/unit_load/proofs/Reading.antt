@@ -1,7 +1,7 @@
 -- Reads one after another.
 use Rattle.std.proofs.Common.{◌∙◌, refl, arith}
 use Rattle.dasd_pool.specs.Disk.{none}
-use Rattle.dasd_pool.specs.Moments.{runs_then, runs_start}
+use Rattle.dasd_pool.proofs.Moments.{runs_then, runs_start}
 use Rattle.dasd_pool.specs.declared.pool.Pool.{Ghosts}
 use Rattle.redo_core.specs.Stops.{JournalView}
 use Rattle.unit_load.specs.Reads.{OnlyReads}

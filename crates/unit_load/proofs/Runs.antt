@@ -12,7 +12,7 @@ use Rattle.ckd_image.specs.Device.{heads_of, slot_of}
 use Rattle.ckd_image.specs.Head.{HasSlot}
 use Rattle.dasd_pool.specs.Calls.{size_in}
 use Rattle.free_map.specs.declared.run.Run.{Run}
-use Rattle.free_map.specs.Runs.{Holds}
+use Rattle.free_map.specs.Runs.{HasTrack}
 use Rattle.volume_model.specs.Sound.{Slots, limit_of}
 use Rattle.volume_model.specs.Space.{track_at, end_of, has_track}
 use Rattle.vtoc_check.specs.Front.{IsVtocRun}
@@ -37,10 +37,10 @@ run_blocks head slots pointer run blocks tracks is =
     let most : limit_of head is.bytes ≤ head.tracks = min-le_right _ head.tracks in
     omega (arith, within, most, tracks)
 
-track_in : (track : ℕ) (run : Run) → has_track track run ≡ true → Holds run track
+track_in : (track : ℕ) (run : Run) → has_track track run ≡ true → HasTrack run track
 track_in track run has =
     let parts = and_parts (nat_le run.first track) (nat_lt track (end_of run)) has in
     (leb-true run.first track parts.0, ltb-true track (end_of run) parts.1)
 
-pub run_holds : (head : Head) (slots : Slots) (pointer : Cchhr) (run : Run) → IsVtocRun head slots pointer run → Holds run (track_at (heads_of head.device) pointer.at)
+pub run_holds : (head : Head) (slots : Slots) (pointer : Cchhr) (run : Run) → IsVtocRun head slots pointer run → HasTrack run (track_at (heads_of head.device) pointer.at)
 run_holds head slots pointer run is = track_in (track_at (heads_of head.device) pointer.at) run (holds_pointer head slots pointer run is)

@@ -2,7 +2,7 @@
 
 ghost use Rattle.std.specs.Prelude.{◌≡◌, ◌≤◌, ◌<◌, ◌+◌, ◌*◌, ◌++◌, length, IfOk, IfErr, OnOk};
 ghost use Rattle.dasd_pool.specs.Calls.{size_in};
-ghost use Rattle.free_map.specs.Runs.{Holds};
+ghost use Rattle.free_map.specs.Runs.{HasTrack};
 ghost use Rattle.redo_core.specs.Reading.{journal_of};
 ghost use Rattle.vtoc_check.specs.Slots.{slot_in, AreSlotsOf};
 ghost use Rattle.unit_load.specs.Reads.{OnlyReads, IsReadStop, AddsSlot};
@@ -83,7 +83,7 @@ pub(crate) fn read_run<P: Pool>(
     requires few { (P.shape journal.old.pool).blocks unit ≤ 65535 }
     ensures reads { OnlyReads P.Pool journal.old journal.new }
     ensures long { IfOk result (λ slots. length slots.items ≡ run.len * (P.shape journal.old.pool).block_size unit) }
-    ensures at_hand { IfOk result (λ slots. Holds run hand.entry.track → slot_in run ((P.shape journal.old.pool).block_size unit) slots.items hand.entry.track ≡ hand.entry.slot.now) }
+    ensures at_hand { IfOk result (λ slots. HasTrack run hand.entry.track → slot_in run ((P.shape journal.old.pool).block_size unit) slots.items hand.entry.track ≡ hand.entry.slot.now) }
     ensures slots { P.tells → hand.entry.slot.now ≡ (P.disk journal.old.pool).state.contents unit hand.entry.track
         → IfOk result (λ slots. AreSlotsOf run ((P.shape journal.old.pool).block_size unit) slots.items ((P.disk journal.old.pool).state.contents unit)) }
     ensures stop { IfErr result (IsReadStop (P.faults journal.old.pool) (P.faults journal.new.pool)) }

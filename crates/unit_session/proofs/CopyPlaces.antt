@@ -9,7 +9,7 @@ use Rattle.std.proofs.lemmas.Option.{slice_get_within}
 use Rattle.std.proofs.lemmas.Simd.{map-map}
 use Rattle.ckd_image.specs.declared.device.Device.{Device}
 use Rattle.ckd_image.specs.declared.device.Device.TheVariants.{D3390, D3380}
-use Rattle.ckd_image.specs.Device.{heads_of}
+use Rattle.ckd_image.specs.Device.{heads_of, ceil_div}
 use Rattle.dasd_pool.specs.Disk.{Shape}
 use Rattle.dsn_filter.specs.declared.dsn.Dsn.{Dsn}
 use Rattle.free_map.specs.declared.run.Run.{Run}
@@ -18,7 +18,7 @@ use Rattle.free_map.specs.Runs.{InRuns}
 use Rattle.volume_model.specs.declared.extent.ExtentField.{ExtentField}
 use Rattle.volume_model.specs.Check.{track_0, records_of, extents_in}
 use Rattle.volume_model.specs.Directory.{DirectoryRow, rows_of}
-use Rattle.volume_model.specs.Space.{ceil_div, end_of, run_of}
+use Rattle.volume_model.specs.Space.{end_of, run_of}
 use Rattle.volume_model.specs.Unit as models
 use Rattle.vtoc_check.proofs.VtocRead.{limit_most}
 use Rattle.vtoc_core.specs.declared.volume.Row.{Row}

@@ -8,7 +8,7 @@ use Rattle.volume_model.proofs.Filters.{filter_keep, filter_skip}
 use Rattle.std.proofs.lemmas.List.Kept.{AllPairs-cons}
 use Rattle.std.proofs.lemmas.Option.{none-some, same_Some}
 use Rattle.free_map.specs.declared.run.Run.{Run}
-use Rattle.free_map.specs.Runs.{Holds, InRuns}
+use Rattle.free_map.specs.Runs.{HasTrack, InRuns}
 use Rattle.volume_model.specs.Dscbs.{numbers_below}
 use Rattle.volume_model.specs.Space.{overlap}
 use Rattle.volume_model.specs.Unit.{tracks_in}
@@ -164,7 +164,7 @@ add_distinct first (place ∷ places) distinct = (
   add_distinct first places distinct.1,
 )
 
-in_run : (run : Run) (track : ℕ) → Contains (tracks_in run) track → Holds run track
+in_run : (run : Run) (track : ℕ) → Contains (tracks_in run) track → HasTrack run track
 in_run run track there =
     let found = from_map (λ place. run.first + place) (numbers_below run.len) track there in
     let less : found.0 < run.len = in_below run.len found.0 found.1 in

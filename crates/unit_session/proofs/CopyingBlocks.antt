@@ -4,7 +4,7 @@ use Rattle.std.specs.List.{list_any}
 use Rattle.std.proofs.lemmas.Bool.{false≢true, ne_eqb}
 use Rattle.std.proofs.lemmas.Bool.Decides.{eqb_tells}
 use Rattle.dasd_pool.specs.Disk.{is_at}
-use Rattle.dasd_pool.specs.Moments.{runs_then, runs_start}
+use Rattle.dasd_pool.proofs.Moments.{runs_then, runs_start}
 use Rattle.dasd_pool.specs.declared.pool.Pool.{Ghosts}
 use Rattle.redo_core.specs.Stops.{JournalView}
 use Rattle.vtoc_layout.proofs.Distinct.{first_or_later, in_none, any_nothing}

@@ -12,7 +12,7 @@ use Rattle.unit_load.specs.Kept.{IsKept, AreKeptOf}
 use Rattle.unit_load.specs.State.{IsStateOf}
 use Rattle.unit_steps.specs.Loaded.{AreLoaded, KeepVtocs, AreVtocsOf}
 use Rattle.unit_session.specs.declared.copies.Source.{Source}
-use Rattle.unit_session.specs.Sessions.{IsFree}
+use Rattle.unit_session.specs.Sessions.{HasNothingOpen}
 use Rattle.unit_session.specs.Texts.{AreSeen}
 
 module _ {X : Type 0} where
@@ -84,7 +84,7 @@ module _ (units later : List UnitState) (vtocs after : List (List ℕ)) (unit : 
 -- ---- a pool that is as it was
 
 pub still_free : {shape now : Shape} {control later : Control} {fills others : List Bool} → now ≡ shape → later ≡ control → others ≡ fills
-    → IsFree shape control fills → IsFree now later others
+    → HasNothingOpen shape control fills → HasNothingOpen now later others
 still_free {shape} {now} {control} {later} {fills} {others} same still alike free = record {
   idle = still ∙ free.idle;
   closed = λ u less.

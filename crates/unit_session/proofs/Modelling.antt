@@ -35,7 +35,7 @@ use Rattle.unit_load.specs.declared.state.UnitState.{UnitState}
 use Rattle.unit_load.specs.declared.state.UnitState.TheVariants as states
 use Rattle.unit_load.specs.State.{IsStateOf}
 use Rattle.unit_steps.specs.Loaded.{HaveStates, AreLoaded, IsModel, AreModels}
-use Rattle.unit_session.specs.Sessions.{IsFree}
+use Rattle.unit_session.specs.Sessions.{HasNothingOpen}
 
 -- ---- one unit
 
@@ -145,7 +145,7 @@ all_models (found ∷ units) (model ∷ models) long each =
 -- ---- all units of an idle pool
 
 module _ (facts : Facts) (state : State) (room : ℕ) (control : Control) (fills : List Bool) (models : List UnitModel) (rest : IsAtRest facts.shape state room control fills)
-    (idle : IsFree facts.shape control fills) (settled : IsSettled facts state models) where
+    (idle : HasNothingOpen facts.shape control fills) (settled : IsSettled facts state models) where
   abbrev shape : Shape
   shape = facts.shape
 
@@ -190,24 +190,24 @@ module _ (facts : Facts) (state : State) (room : ℕ) (control : Control) (fills
 -- under a shape that is that of the facts
 module _ {facts : Facts} {shape : Shape} {state : State} {room : ℕ} {control : Control} {fills : List Bool} {models : List UnitModel}
     (same : facts.shape ≡ shape) (settled : IsSettled facts state models) where
-  pub model_at : (units : List UnitState) (u : ℕ) (found : UnitState) (model : UnitModel) → IsAtRest shape state room control fills → IsFree shape control fills
+  pub model_at : (units : List UnitState) (u : ℕ) (found : UnitState) (model : UnitModel) → IsAtRest shape state room control fills → HasNothingOpen shape control fills
       → AreLoaded shape state.contents units → u < journal_of shape → slice_get units u ≡ Some found → slice_get models u ≡ Some model → IsModel found model
   model_at units u found model =
-      let P : Shape → Type 0 = λ s. IsAtRest s state room control fills → IsFree s control fills → AreLoaded s state.contents units → u < journal_of s
+      let P : Shape → Type 0 = λ s. IsAtRest s state room control fills → HasNothingOpen s control fills → AreLoaded s state.contents units → u < journal_of s
       → slice_get units u ≡ Some found → slice_get models u ≡ Some model → IsModel found model in
       subst P same (λ rest free loaded less there at. own_model facts state room control fills models rest free settled units loaded u found model less there at)
 
   -- each is what its own blocks say
-  pub unit_at : (u : ℕ) (model : UnitModel) → IsAtRest shape state room control fills → IsFree shape control fills → u < journal_of shape → slice_get models u ≡ Some model
+  pub unit_at : (u : ℕ) (model : UnitModel) → IsAtRest shape state room control fills → HasNothingOpen shape control fills → u < journal_of shape → slice_get models u ≡ Some model
       → IsUnit false false own_place (shape.head u) (shape.blocks u) (state.contents u) model
   unit_at u model =
-      let P : Shape → Type 0 = λ s. IsAtRest s state room control fills → IsFree s control fills → u < journal_of s → slice_get models u ≡ Some model
+      let P : Shape → Type 0 = λ s. IsAtRest s state room control fills → HasNothingOpen s control fills → u < journal_of s → slice_get models u ≡ Some model
       → IsUnit false false own_place (s.head u) (s.blocks u) (state.contents u) model in
       subst P same (λ rest free less at. own_unit facts state room control fills models rest free settled u model less at)
 
-  pub models_at : (units : List UnitState) → IsAtRest shape state room control fills → IsFree shape control fills → HaveStates shape units → AreLoaded shape state.contents units
+  pub models_at : (units : List UnitState) → IsAtRest shape state room control fills → HasNothingOpen shape control fills → HaveStates shape units → AreLoaded shape state.contents units
       → AreModels units models
   models_at units =
-      let P : Shape → Type 0 = λ s. IsAtRest s state room control fills → IsFree s control fills → HaveStates s units → AreLoaded s state.contents units
+      let P : Shape → Type 0 = λ s. IsAtRest s state room control fills → HasNothingOpen s control fills → HaveStates s units → AreLoaded s state.contents units
       → AreModels units models in
       subst P same (λ rest free count loaded. own_models facts state room control fills models rest free settled units count loaded)

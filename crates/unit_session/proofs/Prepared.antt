@@ -30,7 +30,7 @@ use Rattle.unit_session.specs.declared.fault.PlanFault.{PlanFault}
 use Rattle.unit_session.specs.declared.fault.PlanFault.TheVariants as faults
 use Rattle.unit_session.specs.Copies.{AreCopiesOf, HaveTexts, IsLookFault, MayCopy, OnCopies, contents_of}
 use Rattle.unit_session.specs.Planned.{AreRenderFault, IsBar, IsLong, IsPlanFault, IsReady, MayBegin}
-use Rattle.unit_session.specs.Sessions.{IsFree, SessionView}
+use Rattle.unit_session.specs.Sessions.{HasNothingOpen, SessionView}
 use Rattle.unit_session.specs.Texts.{AreSeen}
 use Rattle.unit_session.proofs.CopyMay.{may_copy}
 use Rattle.unit_session.proofs.CopyPlaces.{kept_of}
@@ -75,7 +75,7 @@ module _ {P : Type 0} (pools : Ghosts P) (session : SessionView P) (plan : Plan)
 module _ {P : Type 0} (pools : Ghosts P) (old new : JournalView P) (names : List Serial) (units : List UnitState) (vtocs : List (List ℕ)) (reads : OnlyReads pools old new) where
   abbrev Stands : JournalView P → Option Source → Type 0
   Stands j seen =
-      IsFree (pools.shape j.pool) j.control j.fills × (length names ≡ journal_of (pools.shape j.pool)) × HaveStates (pools.shape j.pool) units × KeepVtocs (pools.shape j.pool) units vtocs
+      HasNothingOpen (pools.shape j.pool) j.control j.fills × (length names ≡ journal_of (pools.shape j.pool)) × HaveStates (pools.shape j.pool) units × KeepVtocs (pools.shape j.pool) units vtocs
       × (pools.tells → AreLoaded (pools.shape j.pool) (pools.disk j.pool).state.contents units) × (pools.tells → AreVtocsOf (pools.disk j.pool).state.contents units vtocs)
       × (pools.tells → AreSeen units (pools.disk j.pool).state.contents seen)
 

@@ -33,7 +33,7 @@ use Rattle.unit_steps.specs.Loaded.{HaveStates, AreLoaded, KeepVtocs}
 use Rattle.unit_steps.specs.Plans.{HasRow, tracks_in}
 use Rattle.unit_steps.proofs.Rows.{set_of, gone_set}
 use Rattle.unit_steps.proofs.Units.{IsOnlineUnit, online_unit}
-use Rattle.unit_session.specs.Sessions.{IsFree}
+use Rattle.unit_session.specs.Sessions.{HasNothingOpen}
 use Rattle.unit_session.specs.Texts.{HasTextOn, AreTracksAt}
 use Rattle.unit_session.proofs.CopyPlaces.{few_blocks, kept_of, row_below}
 use Rattle.unit_session.proofs.Modelling.{unit_at}
@@ -108,7 +108,7 @@ module _ {head : List ℕ} {blocks : ℕ} {slots : Slots} {volume : Volume} {mod
 -- what the tracks of a data set say is said of its texts
 pub texts_told : {facts : Facts} {shape : Shape} {state : State} {room : ℕ} {control : Control} {fills : List Bool} {models : List UnitModel}
     → facts.shape ≡ shape → IsSettled facts state models → (units : List UnitState) (unit : ℕ) (name : Dsn) (device : Device) (tracks : List ℕ)
-    → IsAtRest shape state room control fills → IsFree shape control fills → HaveStates shape units → AreLoaded shape state.contents units → AreTracksAt units unit name device tracks
+    → IsAtRest shape state room control fills → HasNothingOpen shape control fills → HaveStates shape units → AreLoaded shape state.contents units → AreTracksAt units unit name device tracks
     → (volume : OnlineVolume) (set : DataSet) → slice_get models unit ≡ Some (online volume) → Contains volume.sets set → IsNameOf name set.name
     → (told : Bool) → (IsTrue told ↔ All (HasTextOn (heads_of device) (state.contents unit)) tracks) → (IsTrue told ↔ All IsGood set.texts)
 texts_told {shape = shape} {state = state} same settled units unit name device tracks rest free have loaded at volume set there held named told says =

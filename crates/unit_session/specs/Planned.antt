@@ -5,7 +5,7 @@ use Rattle.dasd_pool.specs.Count.{Rose}
 use Rattle.dasd_pool.specs.Disk.{Image, Shape, IsSynced}
 use Rattle.dasd_pool.specs.declared.pool.Pool.{Ghosts}
 use Rattle.free_map.specs.declared.run.Run.{Run}
-use Rattle.free_map.specs.Runs.{Holds}
+use Rattle.free_map.specs.Runs.{HasTrack}
 use Rattle.redo_core.specs.declared.entries.Entry.{Entry}
 use Rattle.redo_core.specs.Reading.{journal_of, placed}
 use Rattle.vtoc_core.specs.declared.volume.Volume.{Volume}
@@ -149,7 +149,7 @@ HaveVolumes units vtocs changes =
 
 -- blocks of the tracks of a run in ascending order, each with a slot of so many bytes
 pub record BlocksAreOf (run : Run) (size : ℕ) (blocks : List Block) : Type 0 where
-  pub held : All (λ block. Holds run block.track) blocks
+  pub held : All (λ block. HasTrack run block.track) blocks
   pub long : All (λ block. length block.slot ≡ size) blocks
   pub ascending : AreAscending blocks
 

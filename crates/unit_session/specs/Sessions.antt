@@ -26,7 +26,7 @@ pub record BrokenView (P : Type 0) : Type 0 where
   pub pending : Option Step
 
 -- nothing is under way
-pub record IsFree (shape : Shape) (control : Control) (fills : List Bool) : Type 0 where
+pub record HasNothingOpen (shape : Shape) (control : Control) (fills : List Bool) : Type 0 where
   pub idle : control ≡ Idle
   pub closed : (u : ℕ) → u < journal_of shape → fills_of fills u ≡ false
 

@@ -43,14 +43,14 @@ impl<P: Pool> Model for Session<P> {
     ghost use Rattle.std.specs.Prelude.{◌≡◌, length};
     ghost use Rattle.redo_core.specs.Reading.{journal_of};
     ghost use Rattle.unit_steps.specs.Loaded.{AreLoaded, HaveStates, KeepVtocs, AreVtocsOf};
-    ghost use Rattle.unit_session.specs.Sessions.{SessionView, IsFree};
+    ghost use Rattle.unit_session.specs.Sessions.{SessionView, HasNothingOpen};
     ghost use Rattle.unit_session.specs.Texts.{AreSeen};
 
     ghost Value = { SessionView P };
 
     ghost view = { λ s. record { pool = s.journal.pool; room = s.journal.room; names = s.names.items; units = s.units.items; vtocs = s.vtocs.items } };
 
-    ghost invariant = { λ s. IsFree (P.shape s.journal.pool) s.journal.control s.journal.fills
+    ghost invariant = { λ s. HasNothingOpen (P.shape s.journal.pool) s.journal.control s.journal.fills
         × (length s.names.items ≡ journal_of (P.shape s.journal.pool))
         × HaveStates (P.shape s.journal.pool) s.units.items
         × KeepVtocs (P.shape s.journal.pool) s.units.items s.vtocs.items

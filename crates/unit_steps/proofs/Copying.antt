@@ -10,7 +10,7 @@ use Rattle.ckd_image.specs.Track.{IsTrackText}
 use Rattle.dasd_pool.specs.Disk.{Image}
 use Rattle.free_map.specs.declared.run.Run.{Run}
 use Rattle.free_map.specs.Free.{IsFree}
-use Rattle.free_map.specs.Runs.{Holds}
+use Rattle.free_map.specs.Runs.{HasTrack}
 use Rattle.vol_label.specs.declared.label.Label.{Label}
 use Rattle.volume_model.specs.declared.why.Why.{Why}
 use Rattle.volume_model.specs.declared.place.Vtoc.{Vtoc}
@@ -78,7 +78,7 @@ module _ (head : List ℕ) (blocks : ℕ) (old new : Slots) (volume : Volume) (i
   first_same : new 0 ≡ old 0
   first_same = same 0 (λ free. (unused 0 free).some refl)
 
-  vtoc_same : (track : ℕ) → Holds loaded.vtoc.run track → new track ≡ old track
+  vtoc_same : (track : ℕ) → HasTrack loaded.vtoc.run track → new track ≡ old track
   vtoc_same track held = same track (λ free. (unused track free).off held)
 
   place_same : (k : ℕ) → k < loaded.vtoc.run.len → new (loaded.vtoc.run.first + k) ≡ old (loaded.vtoc.run.first + k)
@@ -114,7 +114,7 @@ module _ (head : List ℕ) (blocks : ℕ) (old new : Slots) (volume : Volume) (i
 
   slots_kept : (slots : List ℕ) → AreSlotsOf volume.vtoc (slot_of volume.device) slots old → AreSlotsOf volume.vtoc (slot_of volume.device) slots new
   slots_kept slots are k less =
-      let held : Holds loaded.vtoc.run (volume.vtoc.first + k) = subst (λ (run : Run). Holds run (volume.vtoc.first + k)) loaded.volume.vtoc_is (omega arith, omega (arith, less)) in
+      let held : HasTrack loaded.vtoc.run (volume.vtoc.first + k) = subst (λ (run : Run). HasTrack run (volume.vtoc.first + k)) loaded.volume.vtoc_is (omega arith, omega (arith, less)) in
       vtoc_same (volume.vtoc.first + k) held ∙ are k less
 
 -- ---- units

@@ -8,7 +8,7 @@ use Rattle.ckd_image.specs.Device.{heads_of}
 use Rattle.dscb_rec.specs.declared.field.Extent.{Extent as Field}
 use Rattle.free_map.specs.declared.run.Run.{Run}
 use Rattle.free_map.specs.Free.{IsFree}
-use Rattle.free_map.specs.Runs.{Holds}
+use Rattle.free_map.specs.Runs.{HasTrack}
 use Rattle.volume_model.specs.declared.extent.ExtentField.{ExtentField}
 use Rattle.volume_model.specs.Reads.{AreTexts, IsDataSet, AreDataSets}
 use Rattle.volume_model.specs.Sound.{Slots}
@@ -121,7 +121,7 @@ abbrev pub AreSome : List Run → Type 0
 AreSome runs = All (λ run. 1 ≤ run.len) runs
 
 abbrev pub ShareNone : Run → Run → Type 0
-ShareNone one other = (track : ℕ) → Holds one track → ¬ Holds other track
+ShareNone one other = (track : ℕ) → HasTrack one track → ¬ HasTrack other track
 
 runs_some : (heads limit : ℕ) (extents : List Field) → All (λ extent. is_run heads limit (field_of extent) ≡ true) extents → AreSome (runs_in heads extents)
 runs_some heads limit extents ranges =

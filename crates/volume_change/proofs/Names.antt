@@ -12,7 +12,7 @@ use Rattle.std.proofs.lemmas.List.Elements.{recursion_from_All, All-from_recursi
 use Rattle.dsn_filter.specs.declared.dsn.Dsn.{Dsn}
 use Rattle.dsn_filter.specs.Dsn.{dsn_of, IsNameText, IsDsn}
 use Rattle.dsn_filter.specs.Qualifier.{IsLetter, IsInner, IsQualifier}
-use Rattle.dsn_filter.specs.Text.{capitals, joined}
+use Rattle.dsn_filter.specs.Text.{capitals, dotted}
 use Rattle.vol_label.specs.CodePage.{ascii_of, is_between}
 use Rattle.volume_model.specs.Pinned.{IsNameOf}
 
@@ -59,10 +59,10 @@ both_codes : (xs ys : List ℕ) → AllByRecursion HasCode xs → AllByRecursion
 both_codes [] ys h k = k
 both_codes (x ∷ xs) ys h k = (h.0, both_codes xs ys h.1 k)
 
-joined_codes : (qs : List (List ℕ)) → AllByRecursion IsQualifier qs → AllByRecursion HasCode (joined qs)
+joined_codes : (qs : List (List ℕ)) → AllByRecursion IsQualifier qs → AllByRecursion HasCode (dotted qs)
 joined_codes [] h = tt
 joined_codes (q ∷ []) h = qualifier_codes q h.0
-joined_codes (q ∷ r ∷ rs) h = both_codes q (46 ∷ joined (r ∷ rs)) (qualifier_codes q h.0) ((0x4B, refl), joined_codes (r ∷ rs) h.1)
+joined_codes (q ∷ r ∷ rs) h = both_codes q (46 ∷ dotted (r ∷ rs)) (qualifier_codes q h.0) ((0x4B, refl), joined_codes (r ∷ rs) h.1)
 
 text_codes : (text : List ℕ) → IsNameText text → (k : ℕ) → k < length text → HasCode (get_or (dsn_of text).text k 0)
 text_codes text name k lt =

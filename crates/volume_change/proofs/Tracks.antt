@@ -5,7 +5,7 @@ use Rattle.std.proofs.lemmas.List.Elements.{All-head, All-tail}
 use Rattle.dscb_rec.specs.declared.field.Extent.{Extent}
 use Rattle.free_map.specs.declared.run.Run.{Run}
 use Rattle.free_map.specs.Free.{Free, IsFree}
-use Rattle.free_map.specs.Runs.{Holds, InRuns, AreMaximalRuns}
+use Rattle.free_map.specs.Runs.{HasTrack, InRuns, AreMaximalRuns}
 use Rattle.volume_model.specs.Space.{run_of, end_of}
 use Rattle.vtoc_core.specs.Loaded.{field_of}
 use Rattle.volume_change.specs.Runs.{runs_in, IsFreeAfter}
@@ -44,7 +44,7 @@ decided (run ∷ runs) track =
       ]
     ]
   where
-    rest : ¬ (Holds run track) → (InRuns runs track ⊎ ¬ (InRuns runs track)) → InRuns (run ∷ runs) track ⊎ ¬ (InRuns (run ∷ runs) track)
+    rest : ¬ (HasTrack run track) → (InRuns runs track ⊎ ¬ (InRuns runs track)) → InRuns (run ∷ runs) track ⊎ ¬ (InRuns (run ∷ runs) track)
     rest out (inl there) = inl (inr there)
     rest out (inr not) = inr both
       where

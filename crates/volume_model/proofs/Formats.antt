@@ -5,48 +5,48 @@ use Rattle.std.proofs.lemmas.Bool.Decides.{nat_tests}
 use Rattle.dscb_rec.specs.declared.dscb.DscbRule.TheVariants as rules
 use Rattle.dscb_rec.specs.declared.dscb.DscbFault.{DscbFault}
 use Rattle.dscb_rec.specs.declared.dscb.DscbFault.TheVariants.{BadDscb}
-use Rattle.dscb_rec.specs.Dscb.{Fills, NamesNoFormat, IsWrong, IsDscbFault}
+use Rattle.dscb_rec.specs.Dscb.{IsFilled, NamesNoFormat, IsWrong, IsDscbFault}
 use Rattle.volume_model.specs.declared.format.Format.TheVariants.{Broken, Free, F1, F3, F4, F5}
-use Rattle.volume_model.specs.Dscbs.{fills, format_by, format_of}
+use Rattle.volume_model.specs.Dscbs.{is_filled, format_by, format_of}
 
-pub fills_true : (count value : ℕ) (bytes : List ℕ) → Fills count value bytes → count ≤ length bytes → fills count value bytes ≡ true
+pub fills_true : (count value : ℕ) (bytes : List ℕ) → IsFilled count value bytes → count ≤ length bytes → is_filled count value bytes ≡ true
 fills_true zero value bytes h long = refl
 fills_true (suc n) value [] h long = absurd (omega arith)
 fills_true (suc n) value (byte ∷ bytes) h long =
     let first : (byte == value) ≡ true = eq-eqb byte value (h 0 (omega arith)) in
-    let rest : fills n value bytes ≡ true = fills_true n value bytes (λ k lt. h (suc k) (omega arith)) (omega arith) in
+    let rest : is_filled n value bytes ≡ true = fills_true n value bytes (λ k lt. h (suc k) (omega arith)) (omega arith) in
     (λ i. first i && rest i)
 
 pub format_is_1 : (bytes : List ℕ) → get_or bytes 44 0 ≡ 0xF1 → format_of bytes ≡ F1
-format_is_1 bytes code = λ i. format_by (code i) (fills 4 0x03 bytes) (fills 44 0x04 bytes) (fills 4 0x05 bytes) (fills 140 0 bytes)
+format_is_1 bytes code = λ i. format_by (code i) (is_filled 4 0x03 bytes) (is_filled 44 0x04 bytes) (is_filled 4 0x05 bytes) (is_filled 140 0 bytes)
 
-pub format_is_4 : (bytes : List ℕ) → length bytes ≡ 140 → get_or bytes 44 0 ≡ 0xF4 → Fills 44 0x04 bytes → format_of bytes ≡ F4
+pub format_is_4 : (bytes : List ℕ) → length bytes ≡ 140 → get_or bytes 44 0 ≡ 0xF4 → IsFilled 44 0x04 bytes → format_of bytes ≡ F4
 format_is_4 bytes long code h =
     let four = fills_true 44 0x04 bytes h (omega arith) in
-    (λ i. format_by (code i) (fills 4 0x03 bytes) (four i) (fills 4 0x05 bytes) (fills 140 0 bytes))
+    (λ i. format_by (code i) (is_filled 4 0x03 bytes) (four i) (is_filled 4 0x05 bytes) (is_filled 140 0 bytes))
 
-pub format_is_5 : (bytes : List ℕ) → length bytes ≡ 140 → get_or bytes 44 0 ≡ 0xF5 → Fills 4 0x05 bytes → format_of bytes ≡ F5
+pub format_is_5 : (bytes : List ℕ) → length bytes ≡ 140 → get_or bytes 44 0 ≡ 0xF5 → IsFilled 4 0x05 bytes → format_of bytes ≡ F5
 format_is_5 bytes long code h =
     let five = fills_true 4 0x05 bytes h (omega arith) in
-    (λ i. format_by (code i) (fills 4 0x03 bytes) (fills 44 0x04 bytes) (five i) (fills 140 0 bytes))
+    (λ i. format_by (code i) (is_filled 4 0x03 bytes) (is_filled 44 0x04 bytes) (five i) (is_filled 140 0 bytes))
 
-pub format_is_free : (bytes : List ℕ) → length bytes ≡ 140 → Fills 140 0 bytes → format_of bytes ≡ Free
+pub format_is_free : (bytes : List ℕ) → length bytes ≡ 140 → IsFilled 140 0 bytes → format_of bytes ≡ Free
 format_is_free bytes long h =
     let code : get_or bytes 44 0 ≡ 0 = h 44 (omega arith) in
     let zeros = fills_true 140 0 bytes h (omega arith) in
-    (λ i. format_by (code i) (fills 4 0x03 bytes) (fills 44 0x04 bytes) (fills 4 0x05 bytes) (zeros i))
+    (λ i. format_by (code i) (is_filled 4 0x03 bytes) (is_filled 44 0x04 bytes) (is_filled 4 0x05 bytes) (zeros i))
 
-pub format_is_3 : (bytes : List ℕ) → length bytes ≡ 140 → get_or bytes 44 0 ≡ 0xF3 → Fills 4 0x03 bytes → format_of bytes ≡ F3
+pub format_is_3 : (bytes : List ℕ) → length bytes ≡ 140 → get_or bytes 44 0 ≡ 0xF3 → IsFilled 4 0x03 bytes → format_of bytes ≡ F3
 format_is_3 bytes long code h =
     let three = fills_true 4 0x03 bytes h (omega arith) in
-    (λ i. format_by (code i) (three i) (fills 44 0x04 bytes) (fills 4 0x05 bytes) (fills 140 0 bytes))
+    (λ i. format_by (code i) (three i) (is_filled 44 0x04 bytes) (is_filled 4 0x05 bytes) (is_filled 140 0 bytes))
 
 -- ---- a record that is none
 
-fills_false : (count value : ℕ) (bytes : List ℕ) (place : ℕ) → place < count → place < length bytes → get_or bytes place 0 ≢ value → fills count value bytes ≡ false
+fills_false : (count value : ℕ) (bytes : List ℕ) (place : ℕ) → place < count → place < length bytes → get_or bytes place 0 ≢ value → is_filled count value bytes ≡ false
 fills_false zero value bytes place lt within other = absurd (omega arith)
 fills_false (suc n) value [] place lt within other = absurd (omega arith)
-fills_false (suc n) value (byte ∷ bytes) zero lt within other = ap (λ (b : Bool). b && fills n value bytes) (not_same byte value other)
+fills_false (suc n) value (byte ∷ bytes) zero lt within other = ap (λ (b : Bool). b && is_filled n value bytes) (not_same byte value other)
   where
     not_same : (a b : ℕ) → a ≢ b → (a == b) ≡ false
     not_same a b apart = grind (arith, nat_tests)
@@ -60,7 +60,7 @@ fills_false (suc n) value (byte ∷ bytes) (suc place) lt within other =
 other_code : (code n : ℕ) → code ≡ n → 0 < n → code ≢ 0
 other_code code n is some none = omega (arith, is, some, none)
 
-no_zeros : (bytes : List ℕ) → length bytes ≡ 140 → get_or bytes 44 0 ≢ 0 → fills 140 0 bytes ≡ false
+no_zeros : (bytes : List ℕ) → length bytes ≡ 140 → get_or bytes 44 0 ≢ 0 → is_filled 140 0 bytes ≡ false
 no_zeros bytes long other = fills_false 140 0 bytes 44 (omega arith) (omega arith) other
 
 no_format : (code : ℕ) (three four five zeros : Bool) → NamesNoFormat code → zeros ≡ false → format_by code three four five zeros ≡ Broken
@@ -90,19 +90,19 @@ no_format code three four five zeros h none =
 
 pub format_is_broken : (bytes : List ℕ) (fault : DscbFault) → length bytes ≡ 140 → IsDscbFault bytes fault → format_of bytes ≡ Broken
 format_is_broken bytes (BadDscb byte why) long (rules.Format, named, h) =
-    no_format (get_or bytes 44 0) (fills 4 0x03 bytes) (fills 44 0x04 bytes) (fills 4 0x05 bytes) (fills 140 0 bytes) h.1 (no_zeros bytes long h.1.not_free)
+    no_format (get_or bytes 44 0) (is_filled 4 0x03 bytes) (is_filled 44 0x04 bytes) (is_filled 4 0x05 bytes) (is_filled 140 0 bytes) h.1 (no_zeros bytes long h.1.not_free)
 format_is_broken bytes (BadDscb byte why) long (rules.NotZero, named, h) =
     let zeros = fills_false 140 0 bytes byte h.1.within (omega (arith, long, h.1.within)) h.1.other in
-    (λ i. format_by (h.0 i) (fills 4 0x03 bytes) (fills 44 0x04 bytes) (fills 4 0x05 bytes) (zeros i))
+    (λ i. format_by (h.0 i) (is_filled 4 0x03 bytes) (is_filled 44 0x04 bytes) (is_filled 4 0x05 bytes) (zeros i))
 format_is_broken bytes (BadDscb byte why) long (rules.KeyId, named, h) = by_id h
   where
     by_id : IsWrong bytes rules.KeyId byte → format_of bytes ≡ Broken
     by_id (inl w) =
         let three = fills_false 4 0x03 bytes byte w.1.within (omega (arith, long, w.1.within)) w.1.other in
-        (λ i. format_by (w.0 i) (three i) (fills 44 0x04 bytes) (fills 4 0x05 bytes) (no_zeros bytes long (other_code (get_or bytes 44 0) _ w.0 (omega arith)) i))
+        (λ i. format_by (w.0 i) (three i) (is_filled 44 0x04 bytes) (is_filled 4 0x05 bytes) (no_zeros bytes long (other_code (get_or bytes 44 0) _ w.0 (omega arith)) i))
     by_id (inr (inl w)) =
         let four = fills_false 44 0x04 bytes byte w.1.within (omega (arith, long, w.1.within)) w.1.other in
-        (λ i. format_by (w.0 i) (fills 4 0x03 bytes) (four i) (fills 4 0x05 bytes) (no_zeros bytes long (other_code (get_or bytes 44 0) _ w.0 (omega arith)) i))
+        (λ i. format_by (w.0 i) (is_filled 4 0x03 bytes) (four i) (is_filled 4 0x05 bytes) (no_zeros bytes long (other_code (get_or bytes 44 0) _ w.0 (omega arith)) i))
     by_id (inr (inr w)) =
         let five = fills_false 4 0x05 bytes byte w.1.within (omega (arith, long, w.1.within)) w.1.other in
-        (λ i. format_by (w.0 i) (fills 4 0x03 bytes) (fills 44 0x04 bytes) (five i) (no_zeros bytes long (other_code (get_or bytes 44 0) _ w.0 (omega arith)) i))
+        (λ i. format_by (w.0 i) (is_filled 4 0x03 bytes) (is_filled 44 0x04 bytes) (five i) (no_zeros bytes long (other_code (get_or bytes 44 0) _ w.0 (omega arith)) i))

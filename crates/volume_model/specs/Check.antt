@@ -116,13 +116,13 @@ goes_on points earlier five None behind = ([], if points five then five ∷ [] e
 goes_on points earlier five (Some next) behind =
     if is_f5 (format_of next.bytes) && not (is_among earlier next) then behind next else ([], five ∷ [])
 
-abbrev pub joined : Placed → FiveChain → FiveChain
-joined five chain = (five ∷ chain.0, chain.1)
+abbrev pub linked : Placed → FiveChain → FiveChain
+linked five chain = (five ∷ chain.0, chain.1)
 
 abbrev pub five_chain : (Placed → Bool) → (Placed → Option Placed) → ℕ → List Placed → Placed → FiveChain
 five_chain points named zero earlier five = ([], [])
 five_chain points named (suc most) earlier five =
-    joined five (goes_on points (earlier ++ five ∷ []) five (named five) (λ next. five_chain points named most (earlier ++ five ∷ []) next))
+    linked five (goes_on points (earlier ++ five ∷ []) five (named five) (λ next. five_chain points named most (earlier ++ five ∷ []) next))
 
 abbrev pub chain_from : (Placed → Bool) → (Placed → Option Placed) → ℕ → Option Placed → FiveChain
 chain_from points named most None = ([], [])

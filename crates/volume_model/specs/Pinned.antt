@@ -4,8 +4,8 @@ use Rattle.dsn_filter.specs.declared.dsn.Dsn.{Dsn}
 use Rattle.dsn_filter.specs.Dsn.{IsDsn}
 use Rattle.vol_label.specs.CodePage.{ascii_of}
 use Rattle.volume_model.specs.Dscbs.{number_at}
-use Rattle.volume_model.specs.Space.{ceil_div}
 use Rattle.volume_model.specs.Unit.{Extent, DataSet}
+use Rattle.ckd_image.specs.Device.{ceil_div}
 
 -- 44 bytes are this name in the code page, filled up with blanks
 pub record IsNameOf (name : Dsn) (bytes : List ℕ) : Type 0 where
@@ -13,8 +13,9 @@ pub record IsNameOf (name : Dsn) (bytes : List ℕ) : Type 0 where
   pub characters : (k : ℕ) → k < name.len → ascii_of (slice_index bytes k) ≡ Some (slice_index name.text k)
   pub blanks : (k : ℕ) → name.len ≤ k → k < 44 → slice_index bytes k ≡ 0x40
 
-abbrev pub HasName : DataSet → Type 0
-HasName set = (name : Dsn) × IsDsn name × IsNameOf name set.name
+-- 44 bytes are a data set name in the code page
+abbrev pub HasName : List ℕ → Type 0
+HasName bytes = (name : Dsn) × IsDsn name × IsNameOf name bytes
 
 -- ---- the fields of a format 1
 
@@ -40,9 +41,9 @@ abbrev pub AreByCylinders : {X : Type 0} → (X → ℕ) → List X → Type 0
 AreByCylinders type_of extents = (extents ≢ []) × All (λ extent. type_of extent ≡ 0x81) extents
 
 -- an extent of another type, or of cylinders that aren't whole
-pub record HasOtherExtent (heads : ℕ) (set : DataSet) : Type 0 where
+pub record HasOtherExtent (heads : ℕ) (extents : List Extent) : Type 0 where
   pub extent : Extent
-  pub is_there : Contains set.extents extent
+  pub is_there : Contains extents extent
   pub not_tracks : ¬ IsOfTracks extent
   pub not_cylinders : ¬ IsOfCylinders heads extent
 
@@ -54,14 +55,14 @@ IsManaged fields = (bit_and (slice_index fields 78) 0x0E ≢ 0) ⊎ (bit_and (sl
 abbrev pub GoesOn : List ℕ → Type 0
 GoesOn fields = 1 < number_at fields 51
 
--- A data set is pinned, so that no command moves it.
-abbrev pub IsPinned : ℕ → DataSet → Type 0
-IsPinned heads set =
-    (¬ HasName set)
-    ⊎ ((¬ IsMovable (organization_in set.fields))
-    ⊎ (HasOtherExtent heads set
-    ⊎ ((16 < length set.extents)
-    ⊎ (IsManaged set.fields ⊎ GoesOn set.fields))))
+-- A data set is pinned by its name, its format 1 and its extents, so that no command moves it. What its tracks hold doesn't count.
+abbrev pub IsPinned : ℕ → List ℕ → List ℕ → List Extent → Type 0
+IsPinned heads name fields extents =
+    (¬ HasName name)
+    ⊎ ((¬ IsMovable (organization_in fields))
+    ⊎ (HasOtherExtent heads extents
+    ⊎ ((16 < length extents)
+    ⊎ (IsManaged fields ⊎ GoesOn fields))))
 
 -- ---- release
 

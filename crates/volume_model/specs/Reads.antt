@@ -10,7 +10,7 @@ use Rattle.ckd_image.specs.Track.{IsTrackText}
 use Rattle.vol_label.specs.declared.fault.LabelFault.TheVariants.{BadLabel}
 use Rattle.vol_label.specs.declared.label.Label.{Label}
 use Rattle.vol_label.specs.Label.{IsLabel, IsLabelFault}
-use Rattle.free_map.specs.Runs.{Holds, InRuns}
+use Rattle.free_map.specs.Runs.{HasTrack, InRuns}
 use Rattle.volume_model.specs.declared.why.Why.TheVariants as whys
 use Rattle.volume_model.specs.declared.extent.ExtentField.{ExtentField}
 use Rattle.volume_model.specs.declared.place.Breach.{Breach}
@@ -144,7 +144,7 @@ IsUnit filling sliding place head blocks slots (offline (whys.Vtoc track number 
 -- of an online volume all blocks but the tracks that hold nothing
 abbrev pub IsVitalTrack : (ℕ → ℕ) → OnlineVolume → ℕ → Type 0
 IsVitalTrack place volume block =
-    (volume.usable ≤ block) ⊎ ((block ≡ 0) ⊎ (Holds volume.vtoc block ⊎ ((track : ℕ) × InRuns (runs_of_sets volume.sets) track × (place track ≡ block))))
+    (volume.usable ≤ block) ⊎ ((block ≡ 0) ⊎ (HasTrack volume.vtoc block ⊎ ((track : ℕ) × InRuns (runs_of_sets volume.sets) track × (place track ≡ block))))
 
 -- of an unfinished restore track 0 and the track that its label names, and of another offline unit all blocks
 abbrev pub IsVital : (ℕ → ℕ) → List ℕ → ℕ → Slots → UnitModel → ℕ → Type 0

@@ -7,6 +7,7 @@ use Rattle.volume_model.specs.declared.place.Placed.{Placed}
 use Rattle.volume_model.specs.Dscbs.{format_of, is_f5, extents_of, entry_offsets, number_at}
 use Rattle.free_map.specs.declared.run.Run.{Run}
 use Rattle.std.specs.Prelude.{slice_index}
+use Rattle.ckd_image.specs.Device.{ceil_div}
 
 -- the track behind a run
 abbrev pub end_of : Run → ℕ
@@ -56,10 +57,6 @@ all_entries heads records = flat_map (λ placed. entries_of heads placed.bytes) 
 -- the greatest end of runs, and of track 0
 abbrev pub greatest_end : List Run → ℕ
 greatest_end runs = fold (λ end run. max end (end_of run)) 1 runs
-
--- n over d, rounded up
-abbrev pub ceil_div : ℕ → ℕ → ℕ
-ceil_div n d = (n + (d - 1)) / d
 
 -- The usable tracks. Where format 5 is valid they end behind the last track that is used or stated free; otherwise they
 -- are those of the volume without the alternate tracks, in whole cylinders, but no fewer than the used ones.

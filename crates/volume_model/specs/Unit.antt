@@ -4,11 +4,11 @@ use Rattle.std.specs.List.{flat_map}
 use Rattle.ckd_image.specs.declared.device.Device.{Device}
 use Rattle.ckd_image.specs.declared.track.Track.{Track}
 use Rattle.free_map.specs.declared.run.Run.{Run}
-use Rattle.free_map.specs.Runs.{Holds, InRuns, AreMaximalRuns}
+use Rattle.free_map.specs.Runs.{HasTrack, InRuns, AreMaximalRuns}
 use Rattle.vol_label.specs.declared.serial.Serial.{Serial}
 use Rattle.volume_model.specs.declared.why.Why.{Why}
 use Rattle.volume_model.specs.Dscbs.{numbers_below}
-use Rattle.volume_model.specs.Space.{ceil_div}
+use Rattle.ckd_image.specs.Device.{ceil_div}
 
 -- the text of a track: what its slot says, or the bytes of a slot that says nothing
 pub data Text : Type 0 where
@@ -71,7 +71,7 @@ runs_of_sets sets = flat_map (λ set. map run_in set.extents) sets
 pub record IsFreeTrack (volume : OnlineVolume) (track : ℕ) : Type 0 where
   pub usable : track < volume.usable
   pub not_0 : ¬ (track ≡ 0)
-  pub not_vtoc : ¬ Holds volume.vtoc track
+  pub not_vtoc : ¬ HasTrack volume.vtoc track
   pub not_set : ¬ InRuns (runs_of_sets volume.sets) track
 
 -- the runs of the free tracks

@@ -12,8 +12,9 @@ use Rattle.vtoc_layout.proofs.Distinct.{first_or_later, at_first, in_none, in_la
 use Rattle.vtoc_layout.proofs.FiveChains.{one_place, itself}
 use Rattle.vtoc_allot.specs.declared.held.Held.{Held}
 use Rattle.vtoc_allot.specs.declared.held.Wanted.{Wanted}
-use Rattle.vtoc_allot.specs.Allotted.{listed, one_if, is_at, held_places, held_count, wanted_count, given_back, new_ones, new_threes, new_fives, is_free, free_count, pool_of, without, TakesFirst, wants_first, IsHeld}
+use Rattle.vtoc_allot.specs.Allotted.{listed, one_if, is_at, held_places, held_count, wanted_count, given_back, new_ones, new_threes, new_fives, free_count, pool_of, without, TakesFirst, wants_first, IsHeld}
 use Rattle.vtoc_allot.proofs.Parts.{in_drop, distinct_drop}
+use Rattle.volume_model.specs.Dscbs.{is_free_record}
 
 abbrev place_of : Placed → Place
 place_of placed = placed.place
@@ -148,20 +149,20 @@ module _ (records : List Placed) (held : Held) (wanted : Wanted) (is : IsHeld re
   abbrev pub given : List Place
   given = given_back held wanted
 
-  holder : (z : Place) → Contains given z → (placed : Placed) × Contains records placed × (placed.place ≡ z) × (is_free placed ≡ false)
-  holder z h = All-contains (λ place. (placed : Placed) × Contains records placed × (placed.place ≡ place) × (is_free placed ≡ false)) (held_places held) z is.there (given_held held wanted z h)
+  holder : (z : Place) → Contains given z → (placed : Placed) × Contains records placed × (placed.place ≡ z) × (is_free_record placed ≡ false)
+  holder z h = All-contains (λ place. (placed : Placed) × Contains records placed × (placed.place ≡ place) × (is_free_record placed ≡ false)) (held_places held) z is.there (given_held held wanted z h)
 
   -- a record whose place is given back isn't free
-  given_used : (placed : Placed) → Contains records placed → is_at given placed.place ≡ true → is_free placed ≡ false
+  given_used : (placed : Placed) → Contains records placed → is_at given placed.place ≡ true → is_free_record placed ≡ false
   given_used placed there at =
       let used = holder placed.place (there_at given placed.place at) in
       let same : used.0 ≡ placed = one_of_map place_of records used.0 placed apart used.1 there used.2 in
-      ap is_free (sym same) ∙ used.3
+      ap is_free_record (sym same) ∙ used.3
 
   pub pool_counted : length (pool_of records given) ≡ free_count records + length given
   pool_counted =
-      length-map (filter (λ placed. is_free placed || is_at given placed.place) records) place_of
-      ∙ filter_either is_free (λ placed. is_at given placed.place) records given_used
+      length-map (filter (λ placed. is_free_record placed || is_at given placed.place) records) place_of
+      ∙ filter_either is_free_record (λ placed. is_at given placed.place) records given_used
       ∙ ap (λ (n : ℕ). free_count records + n)
       (given_counted records given apart (given_distinct held wanted is.apart) (λ z h. let used = holder z h in (used.0, used.1, used.2)))
 
@@ -178,7 +179,7 @@ module _ (records : List Placed) (held : Held) (wanted : Wanted) (is : IsHeld re
     where
       held_there : (z : Place) → Contains (held_places held) z → Contains (map place_of records) z
       held_there z h =
-          let used = All-contains (λ place. (placed : Placed) × Contains records placed × (placed.place ≡ place) × (is_free placed ≡ false)) (held_places held) z is.there h in
+          let used = All-contains (λ place. (placed : Placed) × Contains records placed × (placed.place ≡ place) × (is_free_record placed ≡ false)) (held_places held) z is.there h in
           subst (Contains (map place_of records)) used.2 (in_map place_of records used.0 used.1)
 
   given_long : length given + one_if wanted.one + one_if wanted.three + wanted.fives
@@ -206,7 +207,7 @@ module _ (records : List Placed) (held : Held) (wanted : Wanted) (is : IsHeld re
 -- ---- the pool once the first format 5 has its record
 
 pool_distinct : (records : List Placed) (given : List Place) → AreDistinct (map place_of records) → AreDistinct (pool_of records given)
-pool_distinct records given apart = distinct_map_filter place_of (λ placed. is_free placed || is_at given placed.place) records apart
+pool_distinct records given apart = distinct_map_filter place_of (λ placed. is_free_record placed || is_at given placed.place) records apart
 
 -- without one place there is one fewer at most
 one_fewer : (place : Place) (pool : List Place) → AreDistinct pool → length pool ≤ 1 + length (without place pool)

@@ -4,10 +4,9 @@ use Rattle.std.specs.List.{list_any}
 use Rattle.volume_model.specs.declared.place.Place.{Place}
 use Rattle.volume_model.specs.declared.place.Placed.{Placed}
 use Rattle.volume_model.specs.Directory.{same_place}
-use Rattle.volume_model.specs.Dscbs.{format_of}
+use Rattle.volume_model.specs.Dscbs.{is_free_record}
 use Rattle.vtoc_check.specs.declared.fault.VtocFault.{VtocFault}
 use Rattle.vtoc_check.specs.declared.fault.VtocFault.TheVariants.{VtocFull, NoMemory}
-use Rattle.vtoc_core.specs.Loaded.{is_free_dscb}
 use Rattle.vtoc_layout.specs.Layout.{AreDistinct}
 use Rattle.vtoc_allot.specs.declared.held.Held.{Held}
 use Rattle.vtoc_allot.specs.declared.held.Wanted.{Wanted}
@@ -62,15 +61,12 @@ new_fives held wanted = wanted.fives - length held.fives
 
 -- ---- records to take
 
-abbrev pub is_free : Placed → Bool
-is_free placed = is_free_dscb (format_of placed.bytes)
-
 abbrev pub free_count : List Placed → ℕ
-free_count records = length (filter is_free records)
+free_count records = length (filter is_free_record records)
 
 -- the places that are free, or are given back, in their order
 abbrev pub pool_of : List Placed → List Place → List Place
-pool_of records given = map (λ placed. placed.place) (filter (λ placed. is_free placed || is_at given placed.place) records)
+pool_of records given = map (λ placed. placed.place) (filter (λ placed. is_free_record placed || is_at given placed.place) records)
 
 -- the same without one place
 abbrev pub without : Place → List Place → List Place
@@ -119,7 +115,7 @@ pub record IsAllotted (records : List Placed) (second : Place) (held : Held) (wa
 -- What is held has places of its own, of records that aren't free.
 pub record IsHeld (records : List Placed) (held : Held) : Type 0 where
   pub apart : AreDistinct (held_places held)
-  pub there : All (λ place. (placed : Placed) × Contains records placed × (placed.place ≡ place) × (is_free placed ≡ false)) (held_places held)
+  pub there : All (λ place. (placed : Placed) × Contains records placed × (placed.place ≡ place) × (is_free_record placed ≡ false)) (held_places held)
 
 -- so many more are wanted than are held, and fewer are free
 pub record IsShort (records : List Placed) (held : Held) (wanted : Wanted) (need free : ℕ) : Type 0 where

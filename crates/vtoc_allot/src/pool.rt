@@ -2,11 +2,11 @@
 
 ghost use Rattle.std.specs.Prelude.{◌≡◌, ◌≤◌, ◌++◌, [], ◌∷◌, length, IfOk, OnOk};
 ghost use Rattle.volume_model.specs.Directory.{same_place};
-ghost use Rattle.vtoc_allot.specs.Allotted.{is_at as is_at_in, is_free as is_free_in, free_count, pool_of as pool_in, without as without_in};
+ghost use Rattle.vtoc_allot.specs.Allotted.{is_at as is_at_in, free_count, pool_of as pool_in, without as without_in};
 
 use ckd_image::{Listed, NoMemory};
 use std::alloc::Global;
-use volume_model::{Format, Place, Placed};
+use volume_model::{Place, Placed};
 
 /// Whether two places are one.
 pub(crate) fn is_same(a: Place, b: Place) -> bool
@@ -22,13 +22,6 @@ pub(crate) fn is_at(places: &[Place], place: Place) -> bool
     places.iter().any(|other| is_same(place, *other))
 }
 
-/// Whether a record is free.
-fn is_free(placed: &Placed) -> bool
-    ensures { result ≡ is_free_in placed.now }
-{
-    matches!(Format::of(&placed.bytes), Format::Free)
-}
-
 /// How many records are free.
 pub(crate) fn count_free(records: &[Placed]) -> u64
     ensures value { result ≡ free_count records.now }
@@ -36,7 +29,7 @@ pub(crate) fn count_free(records: &[Placed]) -> u64
 {
     let mut count = 0;
     for placed in records {
-        count += u64::from(is_free(placed));
+        count += u64::from(placed.is_free());
     }
     count
 }
@@ -45,7 +38,7 @@ pub(crate) fn count_free(records: &[Placed]) -> u64
 fn add_if_free(pool: &mut Listed<Place>, given: &[Place], placed: &Placed) -> Result<(), NoMemory>
     ensures { OnOk result (pool.new ≡ pool.old ++ pool_in (placed.now ∷ []) given.now) }
 {
-    if is_free(placed) || is_at(given, placed.place) {
+    if placed.is_free() || is_at(given, placed.place) {
         pool.push(placed.place)?;
     }
     Ok(())

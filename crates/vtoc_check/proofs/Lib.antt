@@ -19,3 +19,8 @@ pub mod Spaces
 pub mod Ends
 pub mod Joined
 pub mod VtocRead
+pub mod ByPlace
+pub mod Chains
+pub mod Walks
+pub mod Marking
+pub mod ReadUpTo

@@ -16,7 +16,7 @@ use Rattle.volume_model.specs.Check.{track_0, any_overlap, overlap_within, later
 use Rattle.vtoc_check.specs.Places.{blank}
 use Rattle.vtoc_check.specs.Reach.{record_in}
 use Rattle.vtoc_check.specs.Tracks.{HasTracks}
-use Rattle.vtoc_check.specs.ByPlace.{AreFound}
+use Rattle.vtoc_check.proofs.ByPlace.{AreFound}
 use Rattle.vtoc_check.proofs.Bits.{or_swap}
 use Rattle.vtoc_check.proofs.FirstFound.{filter_found, later_found, both_found}
 

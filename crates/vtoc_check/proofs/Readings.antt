@@ -8,8 +8,8 @@ use Rattle.ckd_image.specs.Track.{IsRecord}
 use Rattle.free_map.specs.declared.run.Run.{Run}
 use Rattle.volume_model.specs.Sound.{Slots, IsTrackReading, IsVtocTrack, IsReading, dscb_of}
 use Rattle.vtoc_check.specs.Places.{IsShort, AreShort}
-use Rattle.vtoc_check.specs.Readings.{AreReadUpTo}
 use Rattle.vtoc_check.specs.Slots.{slot_in}
+use Rattle.vtoc_check.proofs.ReadUpTo.{AreReadUpTo}
 
 abbrev no_track : Option (List (List ℕ))
 no_track = None

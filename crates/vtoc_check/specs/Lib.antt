@@ -2,10 +2,8 @@ pub mod Places
 pub mod Pointers
 pub mod Reach
 pub mod Tracks
-pub mod ByPlace
 pub mod Readings
 pub mod FiveChains
-pub mod Chains
 pub mod FiveRule
 pub mod Faults
 pub mod Slots

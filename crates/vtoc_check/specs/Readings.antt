@@ -12,8 +12,3 @@ pub record AreVtocRecords (recs : List Rec) : Type 0 where
   pub some : 1 ≤ length recs
   pub numbered : AreNumbered recs
   pub shaped : All IsDscbRecord recs
-
--- so many tracks are read, from one on
-pub record AreReadUpTo (heads : ℕ) (slots : Slots) (first count : ℕ) (tracks : List (Option (List (List ℕ)))) : Type 0 where
-  pub long : length tracks ≡ count
-  pub each : (k : ℕ) → k < count → IsTrackReading heads (first + k) (slots (first + k)) (slice_index_or tracks k None)

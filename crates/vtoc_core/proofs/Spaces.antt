@@ -5,19 +5,19 @@ use Rattle.std.specs.List.{list_any, list_all, fold, AllByRecursion}
 use Rattle.std.proofs.lemmas.Bool.Decides.{nat_tests}
 use Rattle.std.proofs.lemmas.List.Elements.{All-from_recursion, recursion_from_All}
 use Rattle.free_map.specs.declared.run.Run.{Run}
-use Rattle.free_map.specs.Runs.{Holds, InRuns, AreMaximalRuns}
+use Rattle.free_map.specs.Runs.{HasTrack, InRuns, AreMaximalRuns}
 use Rattle.volume_model.specs.Space.{end_of, has_track, greatest_end, is_used, is_free}
 use Rattle.volume_model.specs.Check.{track_0, any_overlap, overlap_within}
 
 -- ---- a track in runs, as a test and as a fact
 
-holds_true : (track : ℕ) (run : Run) → Holds run track → has_track track run ≡ true
+holds_true : (track : ℕ) (run : Run) → HasTrack run track → has_track track run ≡ true
 holds_true track run h = both track run.first (end_of run) h.0 h.1
   where
     both : (t a b : ℕ) → a ≤ t → t < b → (nat_le a t && nat_lt t b) ≡ true
     both t a b p q = grind (arith, nat_tests)
 
-true_holds : (track : ℕ) (run : Run) → has_track track run ≡ true → Holds run track
+true_holds : (track : ℕ) (run : Run) → has_track track run ≡ true → HasTrack run track
 true_holds track run e = (first track run.first (end_of run) e, behind track run.first (end_of run) e)
   where
     first : (t a b : ℕ) → (nat_le a t && nat_lt t b) ≡ true → a ≤ t

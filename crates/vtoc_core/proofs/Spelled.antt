@@ -17,7 +17,7 @@ use Rattle.dsn_filter.specs.declared.fault.NameFault.TheVariants.{BadName, BadPa
 use Rattle.dsn_filter.specs.Dsn.{dsn_of, IsNameText, IsDsn}
 use Rattle.dsn_filter.specs.NameFault.{IsNameFault}
 use Rattle.dsn_filter.specs.Qualifier.{IsLetter, IsInner, IsQualifier}
-use Rattle.dsn_filter.specs.Text.{capitals, joined}
+use Rattle.dsn_filter.specs.Text.{capitals, dotted}
 use Rattle.vol_label.specs.CodePage.{ascii_of}
 use Rattle.volume_model.specs.Pinned.{IsNameOf}
 
@@ -40,10 +40,10 @@ both_plain : (xs ys : List ℕ) → AllByRecursion IsNoBlank xs → AllByRecursi
 both_plain [] ys h k = k
 both_plain (x ∷ xs) ys h k = (h.0, both_plain xs ys h.1 k)
 
-joined_plain : (qs : List (List ℕ)) → AllByRecursion IsQualifier qs → AllByRecursion IsNoBlank (joined qs)
+joined_plain : (qs : List (List ℕ)) → AllByRecursion IsQualifier qs → AllByRecursion IsNoBlank (dotted qs)
 joined_plain [] h = tt
 joined_plain (q ∷ []) h = qualifier_plain q h.0
-joined_plain (q ∷ r ∷ rs) h = both_plain q (46 ∷ joined (r ∷ rs)) (qualifier_plain q h.0) (λ e. absurd (omega arith), joined_plain (r ∷ rs) h.1)
+joined_plain (q ∷ r ∷ rs) h = both_plain q (46 ∷ dotted (r ∷ rs)) (qualifier_plain q h.0) (λ e. absurd (omega arith), joined_plain (r ∷ rs) h.1)
 
 name_plain : (text : List ℕ) → IsNameText text → (k : ℕ) → k < length text → IsNoBlank (get_or (capitals text) k 0)
 name_plain text name k lt =

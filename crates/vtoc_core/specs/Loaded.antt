@@ -1,9 +1,7 @@
 -- A loaded volume as its VTOC says it.
-use Rattle.std.specs.Prelude.{◌≡◌, ℕ, ◌+◌, List, Bool, true, false, map, take}
+use Rattle.std.specs.Prelude.{◌≡◌, ℕ, ◌+◌, List, map, take}
 use Rattle.dscb_rec.specs.declared.field.Extent.{Extent}
 use Rattle.volume_model.specs.declared.extent.ExtentField.{ExtentField}
-use Rattle.volume_model.specs.declared.format.Format.{Format}
-use Rattle.volume_model.specs.declared.format.Format.TheVariants.{Free}
 use Rattle.volume_model.specs.Dscbs.{extents_of}
 use Rattle.volume_model.specs.Directory.{DirectoryRow}
 use Rattle.vtoc_core.specs.declared.volume.Row.{Row}
@@ -27,8 +25,3 @@ records_for row = 1 + row.threes
 -- the rows of a volume have the names of their format 1s
 abbrev pub HasItsName : Row → Type 0
 HasItsName row = row.name ≡ take 44 row.f1
-
--- a free record
-abbrev pub is_free_dscb : Format → Bool
-is_free_dscb Free = true
-is_free_dscb _ = false

@@ -11,7 +11,7 @@ use Rattle.volume_model.specs.declared.place.Placed.{Placed}
 use Rattle.volume_model.specs.declared.place.Vtoc.{Vtoc}
 use Rattle.volume_model.specs.Dscbs.{format_of, is_f5, pointer_in}
 use Rattle.volume_model.specs.Directory.{named_place, named_record, record_at, same_place}
-use Rattle.volume_model.specs.Check.{FiveChain, five_chain, chain_from, goes_on, joined, points as points_in, named_by, records_of, fives_of, is_among, first_of, or_else, first_five, same_target}
+use Rattle.volume_model.specs.Check.{FiveChain, five_chain, chain_from, goes_on, linked, points as points_in, named_by, records_of, fives_of, is_among, first_of, or_else, first_five, same_target}
 use Rattle.vtoc_layout.specs.FiveChain.{Names, EndsAt, IsFiveChain, walk_of}
 use Rattle.volume_model.proofs.Filters.{filter_skip, filter_keep}
 
@@ -106,8 +106,8 @@ module _ (points : Placed → Bool) (named : Placed → Option Placed) (fives : 
 
   -- a step of it, by what its pointer names
   step : (most : ℕ) (earlier : List Placed) (five : Placed) (found : Option Placed) → named five ≡ found
-      → from (suc most) earlier five ≡ joined five (goes_on points (earlier ++ five ∷ []) five found (λ next. from most (earlier ++ five ∷ []) next))
-  step most earlier five found is = ap (λ (o : Option Placed). joined five (goes_on points (earlier ++ five ∷ []) five o (λ next. from most (earlier ++ five ∷ []) next))) is
+      → from (suc most) earlier five ≡ linked five (goes_on points (earlier ++ five ∷ []) five found (λ next. from most (earlier ++ five ∷ []) next))
+  step most earlier five found is = ap (λ (o : Option Placed). linked five (goes_on points (earlier ++ five ∷ []) five o (λ next. from most (earlier ++ five ∷ []) next))) is
 
   abbrev chain_with : List Placed → List Placed → FiveChain
   chain_with chain wrong = (chain, wrong)
@@ -121,12 +121,12 @@ module _ (points : Placed → Bool) (named : Placed → Option Placed) (fives : 
   no_next : (most : ℕ) (earlier : List Placed) (five next : Placed) → named five ≡ Some next → passes earlier five next ≡ false → from (suc most) earlier five ≡ chain_with (five ∷ []) (five ∷ [])
   no_next most earlier five next some other =
       step most earlier five (Some next) some
-      ∙ ap (λ (b : Bool). joined five (if b then from most (earlier ++ five ∷ []) next else chain_with [] (five ∷ []))) other
+      ∙ ap (λ (b : Bool). linked five (if b then from most (earlier ++ five ∷ []) next else chain_with [] (five ∷ []))) other
 
-  a_next : (most : ℕ) (earlier : List Placed) (five next : Placed) → named five ≡ Some next → passes earlier five next ≡ true → from (suc most) earlier five ≡ joined five (from most (earlier ++ five ∷ []) next)
+  a_next : (most : ℕ) (earlier : List Placed) (five next : Placed) → named five ≡ Some next → passes earlier five next ≡ true → from (suc most) earlier five ≡ linked five (from most (earlier ++ five ∷ []) next)
   a_next most earlier five next some passed =
       step most earlier five (Some next) some
-      ∙ ap (λ (b : Bool). joined five (if b then from most (earlier ++ five ∷ []) next else chain_with [] (five ∷ []))) passed
+      ∙ ap (λ (b : Bool). linked five (if b then from most (earlier ++ five ∷ []) next else chain_with [] (five ∷ []))) passed
 
   not_both : (a b : Bool) → (a && not b) ≡ false → (a ≡ false) ⊎ (b ≡ true)
   not_both false b other = inl refl
@@ -167,7 +167,7 @@ module _ (points : Placed → Bool) (named : Placed → Option Placed) (fives : 
           record {
             rest = next ∷ later.rest;
             wrong = later.wrong;
-            is = a_next most earlier five next some passed ∙ ap (joined five) later.is;
+            is = a_next most earlier five next some passed ∙ ap (linked five) later.is;
             walks = ((some, parts.0), fresh, later.walks);
           }
         where
@@ -194,7 +194,7 @@ module _ (points : Placed → Bool) (named : Placed → Option Placed) (fives : 
       no_next most earlier five next some (both_fail (is_f5 (format_of next.bytes)) (is_among (earlier ++ five ∷ []) next) why) ∙ ap (chain_with (five ∷ [])) (sym one)
   only (suc most) earlier five (next ∷ more) wrong there new few walks =
       a_next most earlier five next walks.0.0 (pass earlier five next walks.0.1 walks.1)
-      ∙ ap (joined five)
+      ∙ ap (linked five)
       (only most (earlier ++ five ∷ []) next more wrong (inside five next walks.0) walks.1 (omega (arith, few, left_fewer earlier five fives there new)) walks.2)
 
   -- ---- a way, by the places of its records

@@ -7,7 +7,7 @@ use Rattle.std.proofs.lemmas.Bool.{both_ways, and_parts, and_right, cases_lt, eq
 use Rattle.std.proofs.lemmas.List.Elements.{All-contains}
 use Rattle.std.proofs.lemmas.List.Sorted.{Contains-permutation, IsPermutation-sym, IsPermutation-cons, IsPermutation-append, list_any-IsPermutation}
 use Rattle.free_map.specs.declared.run.Run.{Run}
-use Rattle.free_map.specs.Runs.{Holds, InRuns, AreApart as AreSpaced}
+use Rattle.free_map.specs.Runs.{HasTrack, InRuns, AreApart as AreSpaced}
 use Rattle.volume_model.specs.declared.place.Breach.{Breach}
 use Rattle.volume_model.specs.declared.place.Placed.{Placed}
 use Rattle.volume_model.specs.declared.place.Vtoc.{Vtoc}
@@ -53,15 +53,15 @@ has_some from (first ∷ runs) run h c = by (has_some (first.first + first.len +
     by later (inl same) = omega (arith, h.1, ap (λ (r : Run). r.len) same)
     by later (inr there) = later there
 
-pub held_in : (runs : List Run) (run : Run) (track : ℕ) → Contains runs run → Holds run track → InRuns runs track
+pub held_in : (runs : List Run) (run : Run) (track : ℕ) → Contains runs run → HasTrack run track → InRuns runs track
 held_in [] run track c h = absurd (in_none run c)
 held_in (first ∷ runs) run track c h = by (λ there. held_in runs run track there h) (first_or_later first run runs c)
   where
-    by : (Contains runs run → InRuns runs track) → ((first ≡ run) ⊎ Contains runs run) → Holds first track ⊎ InRuns runs track
-    by later (inl same) = let P : Run → Type 0 = λ r. Holds r track in inl (subst P (sym same) h)
+    by : (Contains runs run → InRuns runs track) → ((first ≡ run) ⊎ Contains runs run) → HasTrack first track ⊎ InRuns runs track
+    by later (inl same) = let P : Run → Type 0 = λ r. HasTrack r track in inl (subst P (sym same) h)
     by later (inr there) = inr (later there)
 
-held_has : (run : Run) (track : ℕ) → Holds run track → has_track track run ≡ true
+held_has : (run : Run) (track : ℕ) → HasTrack run track → has_track track run ≡ true
 held_has run track h = (λ i. le-leb run.first track h.0 i && lt-ltb track (end_of run) h.1 i)
 
 in_runs_any : (runs : List Run) (track : ℕ) → InRuns runs track → list_any (has_track track) runs ≡ true
@@ -74,7 +74,7 @@ in_runs_any (run ∷ runs) track (inr h) = ap (λ (b : Bool). has_track track ru
     or_true false = refl
 
 -- two runs with tracks that overlap have one in common
-shared_track : (a b : Run) → 1 ≤ a.len → 1 ≤ b.len → overlap a b ≡ true → (track : ℕ) × Holds a track × Holds b track
+shared_track : (a b : Run) → 1 ≤ a.len → 1 ≤ b.len → overlap a b ≡ true → (track : ℕ) × HasTrack a track × HasTrack b track
 shared_track a b p q e = by (cases_lt a.first b.first)
   where
     parts : (nat_lt a.first (end_of b) ≡ true) × (nat_lt b.first (end_of a) ≡ true)
@@ -86,7 +86,7 @@ shared_track a b p q e = by (cases_lt a.first b.first)
     after : b.first < end_of a
     after = ltb-true b.first (end_of a) parts.1
 
-    by : ((a.first < b.first) ⊎ (b.first ≤ a.first)) → (track : ℕ) × Holds a track × Holds b track
+    by : ((a.first < b.first) ⊎ (b.first ≤ a.first)) → (track : ℕ) × HasTrack a track × HasTrack b track
     by (inl less) = (b.first, (omega (arith, less), omega (arith, after)), (omega arith, omega (arith, q)))
     by (inr more) = (a.first, (omega arith, omega (arith, p)), (omega (arith, more), omega (arith, before)))
 
@@ -121,10 +121,10 @@ all_pass test (x ∷ xs) h = (λ i. h x (at_first x xs) i && all_pass test xs (�
 
 -- ---- used tracks
 
-used_0 : (vtoc : Run) (extents : List Run) (track : ℕ) → Holds track_0 track → is_used vtoc extents track ≡ true
+used_0 : (vtoc : Run) (extents : List Run) (track : ℕ) → HasTrack track_0 track → is_used vtoc extents track ≡ true
 used_0 vtoc extents track h = ap (λ (b : Bool). b || has_track track vtoc || list_any (has_track track) extents) (eq-eqb track 0 (omega (arith, h.1)))
 
-used_by_vtoc : (vtoc : Run) (extents : List Run) (track : ℕ) → Holds vtoc track → is_used vtoc extents track ≡ true
+used_by_vtoc : (vtoc : Run) (extents : List Run) (track : ℕ) → HasTrack vtoc track → is_used vtoc extents track ≡ true
 used_by_vtoc vtoc extents track h =
     ap (λ (b : Bool). (track == 0) || b || list_any (has_track track) extents) (held_has vtoc track h) ∙ either (track == 0) (list_any (has_track track) extents)
   where
@@ -132,7 +132,7 @@ used_by_vtoc vtoc extents track h =
     either true b = refl
     either false b = refl
 
-used_by_extent : (vtoc : Run) (extents : List Run) (track : ℕ) (run : Run) → Contains extents run → Holds run track → is_used vtoc extents track ≡ true
+used_by_extent : (vtoc : Run) (extents : List Run) (track : ℕ) (run : Run) → Contains extents run → HasTrack run track → is_used vtoc extents track ≡ true
 used_by_extent vtoc extents track run c h =
     ap (λ (b : Bool). (track == 0) || has_track track vtoc || b) (passes_any (has_track track) extents run c (held_has run track h)) ∙ either (track == 0) (has_track track vtoc)
   where
@@ -207,7 +207,7 @@ module _ (vtoc : Vtoc) (layout : Layout) (sized : IsSized vtoc) (is : IsLayoutOf
     some_extent : (run : Run) → Contains (extents_in vtoc) run → 1 ≤ run.len
     some_extent run c = All-contains HasTracks (extents_in vtoc) run (flat_all HasTracks (λ placed. runs_of vtoc.heads vtoc.limit placed.bytes) (λ placed. runs_have vtoc.heads vtoc.limit placed.bytes) (records_of vtoc)) c
 
-    off_used : (a b : Run) → Contains (entries_in vtoc) a → 1 ≤ b.len → ((track : ℕ) → Holds b track → is_used vtoc.run extents track ≡ true) → overlap a b ≡ false
+    off_used : (a b : Run) → Contains (entries_in vtoc) a → 1 ≤ b.len → ((track : ℕ) → HasTrack b track → is_used vtoc.run extents track ≡ true) → overlap a b ≡ false
     off_used a b c some used = by (overlap a b) refl
       where
         there : Contains entries a
@@ -222,7 +222,7 @@ module _ (vtoc : Vtoc) (layout : Layout) (sized : IsSized vtoc) (is : IsLayoutOf
     none_used : NoneShared (entries_in vtoc) (track_0 ∷ vtoc.run ∷ extents_in vtoc)
     none_used a b p q = first (first_or_later track_0 b (vtoc.run ∷ extents_in vtoc) q)
       where
-        at : (run : Run) → run ≡ b → 1 ≤ run.len → ((track : ℕ) → Holds run track → is_used vtoc.run extents track ≡ true) → overlap a b ≡ false
+        at : (run : Run) → run ≡ b → 1 ≤ run.len → ((track : ℕ) → HasTrack run track → is_used vtoc.run extents track ≡ true) → overlap a b ≡ false
         at run same some used = ap (overlap a) (sym same) ∙ off_used a run p some used
 
         second : ((vtoc.run ≡ b) ⊎ Contains (extents_in vtoc) b) → overlap a b ≡ false

@@ -9,12 +9,12 @@ use Rattle.volume_model.specs.declared.format.Format.TheVariants.{Broken, Free, 
 use Rattle.volume_model.specs.declared.place.Placed.{Placed}
 use Rattle.volume_model.specs.declared.place.Vtoc.{Vtoc}
 use Rattle.volume_model.specs.declared.rule.VtocRule.TheVariants as rules
-use Rattle.volume_model.specs.Dscbs.{format_of, is_f1, is_f3, is_f4, is_f5, is_broken}
+use Rattle.volume_model.specs.Dscbs.{format_of, is_f1, is_f3, is_f4, is_f5, is_broken, is_free_dscb}
 use Rattle.volume_model.specs.Directory.{DirectoryRow, same_place, row_of, rows_of, AreInOrder}
 use Rattle.volume_model.specs.Check.{breach, records_of, fives_of, breaches_of}
 use Rattle.vtoc_check.specs.Places.{AreShort}
 use Rattle.vtoc_core.specs.declared.volume.Row.{Row}
-use Rattle.vtoc_core.specs.Loaded.{row_in, records_for, is_free_dscb}
+use Rattle.vtoc_core.specs.Loaded.{row_in, records_for}
 use Rattle.vtoc_layout.proofs.Distinct.{in_none, in_filter, at_first, in_later}
 use Rattle.vtoc_load.specs.LoadedVtoc.{free_records_of}
 use Rattle.vtoc_load.specs.Counted.{fours_of}

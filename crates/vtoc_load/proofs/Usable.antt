@@ -7,13 +7,14 @@ use Rattle.free_map.specs.declared.run.Run.{Run}
 use Rattle.volume_model.specs.declared.place.Breach.{Breach}
 use Rattle.volume_model.specs.declared.place.Vtoc.{Vtoc}
 use Rattle.volume_model.specs.declared.rule.VtocRule.TheVariants as rules
-use Rattle.volume_model.specs.Space.{end_of, greatest_end, usable_of, ceil_div, is_used, has_track}
+use Rattle.volume_model.specs.Space.{end_of, greatest_end, usable_of, is_used, has_track}
 use Rattle.volume_model.specs.Dscbs.{numbers_below}
 use Rattle.volume_model.specs.Check.{track_0, any_overlap, overlap_within, states_free, records_of, extents_in, entries_in, usable_in, bad_free}
 use Rattle.vtoc_check.specs.Sized.{IsSized}
 use Rattle.vtoc_check.proofs.Joined.{extents_within, ends_by}
 use Rattle.vtoc_core.proofs.Spaces.{ends_within, all_front}
 use Rattle.vtoc_layout.proofs.FreeRules.{grows, at_most}
+use Rattle.ckd_image.specs.Device.{ceil_div}
 
 -- where each of these runs ends by a limit, their greatest end does
 within_all : (limit : ℕ) (runs : List Run) → 1 ≤ limit → All (λ run. end_of run ≤ limit) runs → greatest_end runs ≤ limit

@@ -9,7 +9,7 @@ use Rattle.ckd_image.specs.declared.head.Head.{Head}
 use Rattle.vol_label.specs.declared.label.Label.{Label}
 use Rattle.volume_model.specs.declared.place.Placed.{Placed}
 use Rattle.volume_model.specs.declared.place.Vtoc.{Vtoc}
-use Rattle.volume_model.specs.Dscbs.{format_of}
+use Rattle.volume_model.specs.Dscbs.{is_free_record}
 use Rattle.volume_model.specs.Directory.{DirectoryRow, AreInOrder, row_of, rows_of}
 use Rattle.volume_model.specs.Space.{is_free}
 use Rattle.volume_model.specs.Check.{records_of, fives_of, extents_in, usable_in, breaches_of}
@@ -18,11 +18,7 @@ use Rattle.volume_model.specs.Sound.{Slots}
 use Rattle.vtoc_check.specs.Places.{blank}
 use Rattle.vtoc_check.specs.Sized.{IsSized, IsVtocWith}
 use Rattle.vtoc_core.specs.declared.volume.Volume.{Volume}
-use Rattle.vtoc_core.specs.Loaded.{row_in, HasItsName, is_free_dscb}
-
--- a record that is no DSCB of a data set, of free space or of the VTOC itself
-abbrev pub is_free_record : Placed → Bool
-is_free_record placed = is_free_dscb (format_of placed.bytes)
+use Rattle.vtoc_core.specs.Loaded.{row_in, HasItsName}
 
 -- the free records of a VTOC
 abbrev pub free_records_of : Vtoc → List Placed

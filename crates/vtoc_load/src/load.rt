@@ -9,7 +9,8 @@ ghost use Rattle.vtoc_check.specs.Faults.{IsToldFault};
 ghost use Rattle.vtoc_check.specs.Front.{IsVtocRun};
 ghost use Rattle.vtoc_check.specs.Sized.{IsSized};
 ghost use Rattle.vtoc_check.specs.Slots.{slot_in, AreSlotsOf};
-ghost use Rattle.vtoc_load.specs.LoadedVtoc.{is_free_record as is_free_in, IsVolumeOf, IsLoadedVtoc};
+ghost use Rattle.vtoc_load.specs.LoadedVtoc.{IsVolumeOf, IsLoadedVtoc};
+ghost use Rattle.volume_model.specs.Dscbs.{is_free_record};
 
 use crate::rows::rows_in_order;
 use crate::space::space_of;
@@ -17,25 +18,18 @@ use ckd_image::{Device, Head, NoMemory};
 use free_map::Run;
 use std::alloc::Global;
 use vol_label::Label;
-use volume_model::{Format, Placed};
+use volume_model::Placed;
 use vtoc_check::{Directory, Found, VtocFault, check_vtoc, count_fives};
 use vtoc_core::Volume;
 
-/// Whether a record is free.
-fn is_free_record(placed: &Placed) -> bool
-    ensures { result ≡ is_free_in placed.now }
-{
-    matches!(Format::of(&placed.bytes), Format::Free)
-}
-
 /// How many of the records are free.
 fn count_free(records: &[Placed]) -> usize
-    ensures value { result ≡ length (filter is_free_in records.now) }
+    ensures value { result ≡ length (filter is_free_record records.now) }
     ensures most { result ≤ length records.now }
 {
     let mut count = 0;
     for placed in records {
-        count += usize::from(is_free_record(placed));
+        count += usize::from(placed.is_free());
     }
     count
 }

@@ -9,7 +9,6 @@ use Rattle.volume_model.specs.declared.place.Place.{Place}
 use Rattle.volume_model.specs.declared.place.Placed.{Placed}
 use Rattle.volume_model.specs.declared.place.Vtoc.{Vtoc}
 use Rattle.volume_model.specs.Check.{records_of}
-use Rattle.vtoc_core.specs.Loaded.{is_free_dscb}
 use Rattle.vtoc_check.specs.Sized.{IsSized}
 use Rattle.vtoc_layout.specs.Layout.{AreDistinct, SetRecords, Layout, IsLayoutOf, records_in_set, name_of}
 use Rattle.vtoc_layout.proofs.Apart.{all_from}
@@ -19,11 +18,12 @@ use Rattle.layout_edit.specs.Change.{place_of, zeroed, LayoutChange, edits_of, k
 use Rattle.vtoc_allot.specs.declared.held.Held.{Held}
 use Rattle.vtoc_allot.specs.declared.held.Wanted.{Wanted}
 use Rattle.vtoc_allot.specs.declared.places.Allotment.{Allotment}
-use Rattle.vtoc_allot.specs.Allotted.{is_free, held_places, IsHeld, IsAllotted}
+use Rattle.vtoc_allot.specs.Allotted.{held_places, IsHeld, IsAllotted}
 use Rattle.vtoc_plan.specs.Plan.{HoldsLayout, Putting, Wants, MayBePut, IsPlanned}
 use Rattle.vtoc_plan.proofs.Holding.{places_apart, records_held, held_are, is_held, held_there, in_gone, in_kept, distinct_sets, set_used}
 use Rattle.vtoc_plan.proofs.Places.{places, places_distinct, held_place, not_placed, places_there, allotted_are}
 use Rattle.vtoc_plan.proofs.Written.{zeroed_places, put_places, are_fives, fives_linked, put_records, names_apart}
+use Rattle.volume_model.specs.Dscbs.{is_free_record, is_free_dscb}
 
 module _ (vtoc : Vtoc) (layout : Layout) (front gone back : List SetRecords) (held : Held) (wanted : Wanted) (second : Place) (allotment : Allotment) (putting : List Putting)
     (parts : List (List Entry5)) (highest : Option Cchhr) (free : ℕ) (change : LayoutChange) (sized : IsSized vtoc) (is : IsLayoutOf vtoc layout) (sets_are : layout.sets ≡ front ++ (gone ++ back))
@@ -85,7 +85,7 @@ module _ (vtoc : Vtoc) (layout : Layout) (front gone back : List SetRecords) (he
       let same : at.0 ≡ placed = one_of_map place_of records at.0 placed apart (held_there vtoc layout front gone back sized is sets_are at.0 at.1) c at.2 in
       other (subst (Contains (records_held layout gone)) same at.1)
 
-  stays : (placed : Placed) → Contains records placed → is_free placed ≡ false → ¬ Contains (records_held layout gone) placed → ¬ Contains all placed.place
+  stays : (placed : Placed) → Contains records placed → is_free_record placed ≡ false → ¬ Contains (records_held layout gone) placed → ¬ Contains all placed.place
   stays placed c used other = not_placed records second held wanted allotment has apart made placed c used (not_held placed c other)
 
   four_other : ¬ Contains (records_held layout gone) layout.four

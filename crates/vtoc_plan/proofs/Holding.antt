@@ -7,7 +7,6 @@ use Rattle.volume_model.specs.declared.place.Place.{Place}
 use Rattle.volume_model.specs.declared.place.Placed.{Placed}
 use Rattle.volume_model.specs.declared.place.Vtoc.{Vtoc}
 use Rattle.volume_model.specs.Check.{records_of}
-use Rattle.vtoc_core.specs.Loaded.{is_free_dscb}
 use Rattle.vtoc_check.specs.Places.{number_of, IsAscending}
 use Rattle.vtoc_check.specs.Sized.{IsSized}
 use Rattle.vtoc_check.proofs.Order.{ascending, above}
@@ -18,9 +17,10 @@ use Rattle.vtoc_layout.proofs.Uses.{five_there, set_there, five_format, three_fo
 use Rattle.layout_edit.specs.Change.{place_of}
 use Rattle.layout_edit.proofs.Changes.{flat_three}
 use Rattle.vtoc_allot.specs.declared.held.Held.{Held}
-use Rattle.vtoc_allot.specs.Allotted.{is_free, held_places, IsHeld}
+use Rattle.vtoc_allot.specs.Allotted.{held_places, IsHeld}
 use Rattle.vtoc_plan.specs.Plan.{HoldsLayout}
 use Rattle.vtoc_plan.proofs.Lists.{distinct_images}
+use Rattle.volume_model.specs.Dscbs.{is_free_record, is_free_dscb}
 
 -- ---- places of records
 
@@ -95,19 +95,19 @@ module _ (vtoc : Vtoc) (layout : Layout) (front gone back : List SetRecords) (si
       by (inr q) = five_there vtoc layout sized is placed q
 
   -- a record of a data set isn't free
-  pub set_used : (placed : Placed) → Contains (flat_map records_in_set layout.sets) placed → is_free placed ≡ false
+  pub set_used : (placed : Placed) → Contains (flat_map records_in_set layout.sets) placed → is_free_record placed ≡ false
   set_used placed c =
       let at = from_flat records_in_set layout.sets placed c in
       by at.0 at.1 (first_or_later at.0.one placed at.0.threes at.2)
     where
-      by : (set : SetRecords) → Contains layout.sets set → ((set.one ≡ placed) ⊎ Contains set.threes placed) → is_free placed ≡ false
-      by set p (inl first) = ap is_free (sym first) ∙ ap is_free_dscb (set_is vtoc layout sized is set p).one_is
+      by : (set : SetRecords) → Contains layout.sets set → ((set.one ≡ placed) ⊎ Contains set.threes placed) → is_free_record placed ≡ false
+      by set p (inl first) = ap is_free_record (sym first) ∙ ap is_free_dscb (set_is vtoc layout sized is set p).one_is
       by set p (inr later) = ap is_free_dscb (three_format vtoc layout sized is set placed p later)
 
-  held_used : (placed : Placed) → Contains (records_held layout gone) placed → is_free placed ≡ false
+  held_used : (placed : Placed) → Contains (records_held layout gone) placed → is_free_record placed ≡ false
   held_used placed c = by (Contains-append_cases of_gone layout.fives placed c)
     where
-      by : (Contains of_gone placed ⊎ Contains layout.fives placed) → is_free placed ≡ false
+      by : (Contains of_gone placed ⊎ Contains layout.fives placed) → is_free_record placed ≡ false
       by (inl p) = set_used placed (in_gone placed p)
       by (inr q) = ap is_free_dscb (five_format vtoc layout sized is placed q)
 
@@ -116,13 +116,13 @@ module _ (vtoc : Vtoc) (layout : Layout) (front gone back : List SetRecords) (si
       let D : List Place → Type 0 = λ xs. AreDistinct xs in
       record {
         apart = subst D (sym places_are) (distinct_images place_of (records_of vtoc) (records_held layout gone) (places_apart vtoc sized) held_there held_distinct);
-        there = all_from (λ place. (placed : Placed) × Contains (records_of vtoc) placed × (placed.place ≡ place) × (is_free placed ≡ false)) (held_places held) there;
+        there = all_from (λ place. (placed : Placed) × Contains (records_of vtoc) placed × (placed.place ≡ place) × (is_free_record placed ≡ false)) (held_places held) there;
       }
     where
       places_are : held_places held ≡ map place_of (records_held layout gone)
       places_are = held_are layout gone held few holds
 
-      there : (place : Place) → Contains (held_places held) place → (placed : Placed) × Contains (records_of vtoc) placed × (placed.place ≡ place) × (is_free placed ≡ false)
+      there : (place : Place) → Contains (held_places held) place → (placed : Placed) × Contains (records_of vtoc) placed × (placed.place ≡ place) × (is_free_record placed ≡ false)
       there place c =
           let P : List Place → Type 0 = λ xs. Contains xs place in
           let at = from_map place_of (records_held layout gone) place (subst P places_are c) in

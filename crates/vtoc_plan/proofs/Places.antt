@@ -13,9 +13,10 @@ use Rattle.layout_edit.specs.Change.{place_of}
 use Rattle.vtoc_allot.specs.declared.held.Held.{Held}
 use Rattle.vtoc_allot.specs.declared.held.Wanted.{Wanted}
 use Rattle.vtoc_allot.specs.declared.places.Allotment.{Allotment}
-use Rattle.vtoc_allot.specs.Allotted.{listed, one_if, is_at, held_places, kept_one, kept_three, kept_fives, given_back, is_free, pool_of, without, TakesFirst, wants_first, IsHeld, IsAllotted}
+use Rattle.vtoc_allot.specs.Allotted.{listed, one_if, is_at, held_places, kept_one, kept_three, kept_fives, given_back, pool_of, without, TakesFirst, wants_first, IsHeld, IsAllotted}
 use Rattle.vtoc_allot.proofs.Pools.{at_there, there_at, given_distinct, given_held, distinct_map_filter}
 use Rattle.vtoc_plan.proofs.Lists.{swapped, with_back, middle_there, middle_turned, six_there, six_turned, six_back}
+use Rattle.volume_model.specs.Dscbs.{is_free_record}
 
 -- ---- what a first format 5 takes
 
@@ -100,13 +101,13 @@ module _ (records : List Placed) (second : Place) (held : Held) (wanted : Wanted
 
   -- ---- what is taken
 
-  in_pool : (z : Place) → Contains (pool_of records given) z → (placed : Placed) × Contains records placed × (placed.place ≡ z) × ((is_free placed ≡ true) ⊎ Contains given z)
+  in_pool : (z : Place) → Contains (pool_of records given) z → (placed : Placed) × Contains records placed × (placed.place ≡ z) × ((is_free_record placed ≡ true) ⊎ Contains given z)
   in_pool z c =
-      let at = from_map place_of (filter (λ placed. is_free placed || is_at given placed.place) records) z c in
-      let passed = from_filter (λ (placed : Placed). is_free placed || is_at given placed.place) records at.0 at.1 in
-      (at.0, passed.0, at.2, by at.0 at.2 (or_cases (is_free at.0) (is_at given at.0.place) passed.1))
+      let at = from_map place_of (filter (λ placed. is_free_record placed || is_at given placed.place) records) z c in
+      let passed = from_filter (λ (placed : Placed). is_free_record placed || is_at given placed.place) records at.0 at.1 in
+      (at.0, passed.0, at.2, by at.0 at.2 (or_cases (is_free_record at.0) (is_at given at.0.place) passed.1))
     where
-      by : (placed : Placed) → placed.place ≡ z → ((is_free placed ≡ true) ⊎ (is_at given placed.place ≡ true)) → (is_free placed ≡ true) ⊎ Contains given z
+      by : (placed : Placed) → placed.place ≡ z → ((is_free_record placed ≡ true) ⊎ (is_at given placed.place ≡ true)) → (is_free_record placed ≡ true) ⊎ Contains given z
       by placed at (inl e) = inl e
       by placed at (inr e) = inr (subst (Contains given) at (there_at given placed.place e))
 
@@ -121,22 +122,22 @@ module _ (records : List Placed) (second : Place) (held : Held) (wanted : Wanted
       let D : List Place → Type 0 = λ xs. AreDistinct xs in
       distinct_front new made.parts.left
       (subst D all_taken
-      (taken_distinct second (wants_first held wanted) (pool_of records given) first made.pool (distinct_map_filter place_of (λ placed. is_free placed || is_at given placed.place) records apart) made.first_is))
+      (taken_distinct second (wants_first held wanted) (pool_of records given) first made.pool (distinct_map_filter place_of (λ placed. is_free_record placed || is_at given placed.place) records apart) made.first_is))
 
   -- a place that is taken is that of a free record, or is given back
-  new_place : (z : Place) → Contains new z → (placed : Placed) × Contains records placed × (placed.place ≡ z) × ((is_free placed ≡ true) ⊎ Contains given z)
+  new_place : (z : Place) → Contains new z → (placed : Placed) × Contains records placed × (placed.place ≡ z) × ((is_free_record placed ≡ true) ⊎ Contains given z)
   new_place z c =
       let P : List Place → Type 0 = λ xs. Contains xs z in
       in_pool z (taken_there second (wants_first held wanted) (pool_of records given) first made.pool z made.first_is (subst P (sym all_taken) (in_front new made.parts.left z c)))
 
   kept_not_new : (z : Place) → Contains kept z → Contains new z → ⊥
   kept_not_new z p q =
-      let used = All-contains (λ place. (placed : Placed) × Contains records placed × (placed.place ≡ place) × (is_free placed ≡ false)) (held_places held) z is.there (kept_held z p) in
+      let used = All-contains (λ place. (placed : Placed) × Contains records placed × (placed.place ≡ place) × (is_free_record placed ≡ false)) (held_places held) z is.there (kept_held z p) in
       let of = new_place z q in
       by of.0 (one_of_map place_of records used.0 of.0 apart used.1 of.1 (used.2 ∙ sym of.2)) used.3 of.3
     where
-      by : {used : Placed} → (placed : Placed) → used ≡ placed → is_free used ≡ false → ((is_free placed ≡ true) ⊎ Contains given z) → ⊥
-      by placed same e (inl f) = both_ways (is_free placed) (ap is_free (sym same) ∙ e) f
+      by : {used : Placed} → (placed : Placed) → used ≡ placed → is_free_record used ≡ false → ((is_free_record placed ≡ true) ⊎ Contains given z) → ⊥
+      by placed same e (inl f) = both_ways (is_free_record placed) (ap is_free_record (sym same) ∙ e) f
       by placed same e (inr g) = not_both kept given z kept_and_given p g
 
   -- ---- what is freed
@@ -306,11 +307,11 @@ module _ (records : List Placed) (second : Place) (held : Held) (wanted : Wanted
       by (inr q) = of_given (new_or_freed z q)
 
   -- a record that isn't free, and isn't held, stays
-  pub not_placed : (placed : Placed) → Contains records placed → is_free placed ≡ false → ¬ Contains (held_places held) placed.place → ¬ Contains places placed.place
+  pub not_placed : (placed : Placed) → Contains records placed → is_free_record placed ≡ false → ¬ Contains (held_places held) placed.place → ¬ Contains places placed.place
   not_placed placed c used free c' = by (from_places placed.place c')
     where
-      taken : (other : Placed) → other ≡ placed → ((is_free other ≡ true) ⊎ Contains given placed.place) → ⊥
-      taken other same (inl e) = both_ways (is_free placed) used (ap is_free (sym same) ∙ e)
+      taken : (other : Placed) → other ≡ placed → ((is_free_record other ≡ true) ⊎ Contains given placed.place) → ⊥
+      taken other same (inl e) = both_ways (is_free_record placed) used (ap is_free_record (sym same) ∙ e)
       taken other same (inr g) = free (given_held held wanted placed.place g)
 
       by : (Contains kept placed.place ⊎ (Contains new placed.place ⊎ Contains freed placed.place)) → ⊥
@@ -327,7 +328,7 @@ module _ (records : List Placed) (second : Place) (held : Held) (wanted : Wanted
 
       of_held : Contains (held_places held) z → Contains (map place_of records) z
       of_held p =
-          let at = All-contains (λ place. (placed : Placed) × Contains records placed × (placed.place ≡ place) × (is_free placed ≡ false)) (held_places held) z is.there p in
+          let at = All-contains (λ place. (placed : Placed) × Contains records placed × (placed.place ≡ place) × (is_free_record placed ≡ false)) (held_places held) z is.there p in
           of_record at.0 at.1 at.2
 
       by : (Contains kept z ⊎ (Contains new z ⊎ Contains freed z)) → Contains (map place_of records) z

@@ -11,7 +11,7 @@ use Rattle.ckd_image.specs.declared.head.Head.{Head}
 use Rattle.ckd_image.specs.Device.{heads_of}
 use Rattle.free_map.specs.declared.run.Run.{Run}
 use Rattle.free_map.specs.Free.{IsFree}
-use Rattle.free_map.specs.Runs.{Holds, InRuns, AreMaximalRuns}
+use Rattle.free_map.specs.Runs.{HasTrack, InRuns, AreMaximalRuns}
 use Rattle.vol_label.specs.declared.label.Label.{Label}
 use Rattle.volume_model.specs.declared.place.Placed.{Placed}
 use Rattle.volume_model.specs.declared.place.Vtoc.{Vtoc}
@@ -106,12 +106,12 @@ module _ {head : Head} {label : Label} {unit : Slots} {before : Bool} {slots : L
           none = neither (runs front) (runs back) track (in_ahead run at.1 at.2) (in_behind run at.1 at.2);
         }
       where
-        in_ahead : (run : Run) → Contains (runs gone) run → Holds run track → ¬ InRuns (runs front) track
+        in_ahead : (run : Run) → Contains (runs gone) run → HasTrack run track → ¬ InRuns (runs front) track
         in_ahead run c held k =
             let other = run_with (runs front) track k in
             none_shared other.0 run track (apart_between (runs front) (runs gone ++ runs back) apart_parts other.0 run other.1 (in_front (runs gone) (runs back) run c)) other.2 held
 
-        in_behind : (run : Run) → Contains (runs gone) run → Holds run track → ¬ InRuns (runs back) track
+        in_behind : (run : Run) → Contains (runs gone) run → HasTrack run track → ¬ InRuns (runs back) track
         in_behind run c held k =
             let other = run_with (runs back) track k in
             none_shared run other.0 track (apart_between (runs gone) (runs back) (apart_back (runs front) (runs gone ++ runs back) apart_parts) run other.0 c other.1) held other.2

@@ -3,14 +3,14 @@ use Rattle.std.proofs.Common.{◌≡◌, ◌≢◌, ◌⊎◌, inl, inr, ℕ, �
 use Rattle.std.specs.List.{list_any}
 use Rattle.std.proofs.lemmas.Bool.{both_ways, and_parts, cases_lt, eq-eqb, eqb-true, lt-ltb, le-leb, ltb-true, leb-true}
 use Rattle.free_map.specs.declared.run.Run.{Run}
-use Rattle.free_map.specs.Runs.{Holds, InRuns}
+use Rattle.free_map.specs.Runs.{HasTrack, InRuns}
 use Rattle.volume_model.specs.Space.{end_of, has_track, overlap, is_used, is_free}
 use Rattle.vtoc_layout.proofs.Distinct.{at_first, in_later}
 
-holds_has : (run : Run) (track : ℕ) → Holds run track → has_track track run ≡ true
+holds_has : (run : Run) (track : ℕ) → HasTrack run track → has_track track run ≡ true
 holds_has run track h = λ i. le-leb run.first track h.0 i && lt-ltb track (end_of run) h.1 i
 
-has_holds : (run : Run) (track : ℕ) → has_track track run ≡ true → Holds run track
+has_holds : (run : Run) (track : ℕ) → has_track track run ≡ true → HasTrack run track
 has_holds run track e =
     let parts = and_parts (nat_le run.first track) (nat_lt track (end_of run)) e in
     (leb-true run.first track parts.0, ltb-true track (end_of run) parts.1)
@@ -28,7 +28,7 @@ any_in : (runs : List Run) (track : ℕ) → list_any (has_track track) runs ≡
 any_in [] track e = absurd (both_ways false refl e)
 any_in (run ∷ runs) track e = by (any_in runs track) (has_track track run) refl e
   where
-    by : (list_any (has_track track) runs ≡ true → InRuns runs track) → (b : Bool) → has_track track run ≡ b → (b || list_any (has_track track) runs) ≡ true → Holds run track ⊎ InRuns runs track
+    by : (list_any (has_track track) runs ≡ true → InRuns runs track) → (b : Bool) → has_track track run ≡ b → (b || list_any (has_track track) runs) ≡ true → HasTrack run track ⊎ InRuns runs track
     by later true has whole = inl (has_holds run track has)
     by later false has whole = inr (later whole)
 
@@ -39,7 +39,7 @@ in_or_not runs track = by (list_any (has_track track) runs) refl
     by true e = inl (any_in runs track e)
     by false e = inr (λ h. both_ways (list_any (has_track track) runs) e (in_any runs track h))
 
-pub run_with : (runs : List Run) (track : ℕ) → InRuns runs track → (run : Run) × Contains runs run × Holds run track
+pub run_with : (runs : List Run) (track : ℕ) → InRuns runs track → (run : Run) × Contains runs run × HasTrack run track
 run_with [] track h = absurd h
 run_with (run ∷ runs) track (inl h) = (run, at_first run runs, h)
 run_with (run ∷ runs) track (inr h) = let r = run_with runs track h in (r.0, in_later run r.0 runs r.1, r.2)
@@ -48,7 +48,7 @@ run_with (run ∷ runs) track (inr h) = let r = run_with runs track h in (r.0, i
 pub record IsUnused (usable : ℕ) (vtoc : Run) (runs : List Run) (track : ℕ) : Type 0 where
   pub below : track < usable
   pub some : track ≢ 0
-  pub off : ¬ Holds vtoc track
+  pub off : ¬ HasTrack vtoc track
   pub none : ¬ InRuns runs track
 
 is_false : (b : Bool) → (b ≡ true → ⊥) → b ≡ false
@@ -81,11 +81,11 @@ free_unused usable vtoc runs track is =
 
 -- ---- runs with a track in common
 
-pub none_shared : (a b : Run) (track : ℕ) → overlap a b ≡ false → Holds a track → Holds b track → ⊥
+pub none_shared : (a b : Run) (track : ℕ) → overlap a b ≡ false → HasTrack a track → HasTrack b track → ⊥
 none_shared a b track e p q =
     both_ways (overlap a b) e (λ i. lt-ltb a.first (end_of b) (omega (arith, p.0, q.1)) i && lt-ltb b.first (end_of a) (omega (arith, q.0, p.1)) i)
 
-shared_track : (a b : Run) → 1 ≤ a.len → 1 ≤ b.len → overlap a b ≡ true → (track : ℕ) × Holds a track × Holds b track
+shared_track : (a b : Run) → 1 ≤ a.len → 1 ≤ b.len → overlap a b ≡ true → (track : ℕ) × HasTrack a track × HasTrack b track
 shared_track a b p q e = by (cases_lt a.first b.first)
   where
     parts : (nat_lt a.first (end_of b) ≡ true) × (nat_lt b.first (end_of a) ≡ true)
@@ -97,10 +97,10 @@ shared_track a b p q e = by (cases_lt a.first b.first)
     after : b.first < end_of a
     after = ltb-true b.first (end_of a) parts.1
 
-    by : ((a.first < b.first) ⊎ (b.first ≤ a.first)) → (track : ℕ) × Holds a track × Holds b track
+    by : ((a.first < b.first) ⊎ (b.first ≤ a.first)) → (track : ℕ) × HasTrack a track × HasTrack b track
     by (inl less) = (b.first, (omega (arith, less), omega (arith, after)), (omega arith, omega (arith, q)))
     by (inr more) = (a.first, (omega arith, omega (arith, p)), (omega (arith, more), omega (arith, before)))
 
 -- runs with tracks and none in common don't overlap
-pub apart_if : (a b : Run) → 1 ≤ a.len → 1 ≤ b.len → ((track : ℕ) → Holds a track → Holds b track → ⊥) → overlap a b ≡ false
+pub apart_if : (a b : Run) → 1 ≤ a.len → 1 ≤ b.len → ((track : ℕ) → HasTrack a track → HasTrack b track → ⊥) → overlap a b ≡ false
 apart_if a b p q none = is_false (overlap a b) (λ e. let s = shared_track a b p q e in none s.0 s.1 s.2)

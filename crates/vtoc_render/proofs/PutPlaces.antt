@@ -18,10 +18,11 @@ use Rattle.layout_edit.specs.Change.{place_of}
 use Rattle.vtoc_allot.specs.declared.held.Held.{Held}
 use Rattle.vtoc_allot.specs.declared.held.Wanted.{Wanted}
 use Rattle.vtoc_allot.specs.declared.places.Allotment.{Allotment}
-use Rattle.vtoc_allot.specs.Allotted.{listed, held_count, is_free, free_count, IsHeld, IsAllotted}
+use Rattle.vtoc_allot.specs.Allotted.{listed, held_count, free_count, IsHeld, IsAllotted}
 use Rattle.vtoc_allot.proofs.Pools.{held_few}
 use Rattle.vtoc_plan.proofs.Places.{places_there, allotted_are}
 use Rattle.vtoc_making.specs.Places.{IsPlace}
+use Rattle.volume_model.specs.Dscbs.{is_free_record}
 
 -- ---- the places of records
 
@@ -66,7 +67,7 @@ few_records vtoc sized = counted (256 * vtoc.run.first) (records_of vtoc) (ascen
 -- what is free and what is held fits in 32 bits
 pub few_left : (records : List Placed) (held : Held) → length records ≤ 16777216 → IsHeld records held → AreDistinct (map place_of records) → free_count records + held_count held < 4294967296
 few_left records held few is apart =
-    omega (arith, few, held_few records held (record { one = true; three = true; fives = 0 }) is apart, length-filter_both is_free (λ (placed : Placed). not (is_free placed)) (λ placed. refl) records)
+    omega (arith, few, held_few records held (record { one = true; three = true; fives = 0 }) is apart, length-filter_both is_free_record (λ (placed : Placed). not (is_free_record placed)) (λ placed. refl) records)
 
 pub few_fives : (runs : ℕ) → runs ≤ 65535 → fives_for runs ≤ 65535
 few_fives runs few = omega (arith, few)

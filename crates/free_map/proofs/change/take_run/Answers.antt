@@ -1,7 +1,7 @@
 use Rattle.std.proofs.Common.{◌≡◌, ◌+◌, ◌<◌, ◌≤◌, ℕ, List, length, get_or, take, All, subst}
 use Rattle.std.proofs.lemmas.Result.{on_ok_weaker}
 use Rattle.free_map.specs.declared.run.Run.{Run}
-use Rattle.free_map.specs.Runs.{Holds, InRuns, AreApart}
+use Rattle.free_map.specs.Runs.{HasTrack, InRuns, AreApart}
 use Rattle.free_map.proofs.Apart.{Covers}
 use Rattle.free_map.proofs.Takes.{cover_found, takes}
 use Rattle.free_map.proofs.change.take_run.Goals as goal
@@ -10,7 +10,7 @@ use Rattle.free_map.proofs.change.take_run.Goals as goal
 abbrev IsFound : List Run → ℕ → Run → Type 0
 IsFound runs place run = (d : Run) → (place < length runs) × Covers run.first run.len (get_or runs place d)
 
-covering : (runs seen : List Run) (place : ℕ) (run : Run) → seen ≡ runs → AreApart 0 runs → 1 ≤ run.len → ((t : ℕ) → Holds run t → InRuns runs t)
+covering : (runs seen : List Run) (place : ℕ) (run : Run) → seen ≡ runs → AreApart 0 runs → 1 ≤ run.len → ((t : ℕ) → HasTrack run t → InRuns runs t)
     → All (λ before. before.first + before.len < run.first + 1) (take place seen)
     → ((d : Run) → place < length seen → run.first + 1 ≤ (get_or seen place d).first + (get_or seen place d).len) → IsFound runs place run
 covering runs seen place run same apart some free before at d =

@@ -2,7 +2,7 @@ use Rattle.std.proofs.Common.{ℕ, ◌≡◌, ◌-◌, refl, ap, ◌∙◌, arit
 use Rattle.std.specs.Prelude.{replicate}
 use Rattle.redo_core.specs.Format.{wide}
 use Rattle.dasd_pool.specs.Disk.{is_at, none}
-use Rattle.dasd_pool.specs.Moments.{runs_then}
+use Rattle.dasd_pool.proofs.Moments.{runs_then}
 use Rattle.redo_core.specs.Steps.{of_journal}
 use Rattle.redo_core.proofs.Formatting.{in_journal}
 use Rattle.redo_core.proofs.format.clear_registration.Goals as goal

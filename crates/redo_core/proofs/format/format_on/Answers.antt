@@ -1,7 +1,7 @@
 use Rattle.std.proofs.Common.{◌≡◌, ◌-◌, ◌+◌, ◌*◌, length, refl, arith}
 use Rattle.std.specs.Prelude.{replicate}
 use Rattle.dasd_pool.specs.Disk.{Runs, none}
-use Rattle.dasd_pool.specs.Moments.{runs_then}
+use Rattle.dasd_pool.proofs.Moments.{runs_then}
 use Rattle.redo_core.specs.Format.{wide}
 use Rattle.redo_core.specs.Reading.{journal_of}
 use Rattle.redo_core.specs.Steps.{of_journal}

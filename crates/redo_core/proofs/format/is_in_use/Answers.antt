@@ -1,6 +1,6 @@
 use Rattle.std.proofs.Common.{refl}
 use Rattle.dasd_pool.specs.Disk.{none}
-use Rattle.dasd_pool.specs.Moments.{runs_then}
+use Rattle.dasd_pool.proofs.Moments.{runs_then}
 use Rattle.redo_core.proofs.format.is_in_use.Goals as goal
 
 pub returns-clause-runs : goal.returns-clause-runs

@@ -1,7 +1,7 @@
 use Rattle.std.proofs.Common.{◌≡◌, ◌+◌, inl, refl, sym, ◌∙◌, subst, arith}
 use Rattle.std.proofs.lemmas.Bool.{false≢true}
 use Rattle.dasd_pool.specs.Disk.{none}
-use Rattle.dasd_pool.specs.Moments.{runs_then}
+use Rattle.dasd_pool.proofs.Moments.{runs_then}
 use Rattle.redo_core.specs.declared.fault.JournalFault.{JournalFault}
 use Rattle.redo_core.specs.Reading.{journal_of}
 use Rattle.redo_core.specs.Faults.{IsShort, IsFormatFault, MayFormat}

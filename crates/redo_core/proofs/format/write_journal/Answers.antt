@@ -1,6 +1,6 @@
 use Rattle.std.proofs.Common.{refl}
 use Rattle.dasd_pool.specs.Disk.{Runs, is_at, none}
-use Rattle.dasd_pool.specs.Moments.{runs_then}
+use Rattle.dasd_pool.proofs.Moments.{runs_then}
 use Rattle.redo_core.specs.Steps.{of_journal}
 use Rattle.redo_core.proofs.Formatting.{in_journal}
 use Rattle.redo_core.proofs.format.write_journal.Goals as goal

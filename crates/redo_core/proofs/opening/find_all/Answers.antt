@@ -1,6 +1,6 @@
 use Rattle.std.proofs.Common.{◌∙◌, refl, sym}
 use Rattle.dasd_pool.specs.Disk.{Runs, none}
-use Rattle.dasd_pool.specs.Moments.{runs_then}
+use Rattle.dasd_pool.proofs.Moments.{runs_then}
 use Rattle.redo_core.specs.declared.fault.JournalRule.TheVariants as rules
 use Rattle.redo_core.specs.Faults.{zeroed}
 use Rattle.redo_core.proofs.Faulting.{fails_rule, body_at, control_at}

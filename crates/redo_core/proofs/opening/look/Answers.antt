@@ -1,6 +1,6 @@
 use Rattle.std.proofs.Common.{ℕ, ◌≡◌, ◌≤◌, ◌+◌, List, refl, sym, ap, ◌∙◌, subst, arith}
 use Rattle.dasd_pool.specs.Disk.{Image, Shape, State, IsSynced, none}
-use Rattle.dasd_pool.specs.Moments.{runs_then}
+use Rattle.dasd_pool.proofs.Moments.{runs_then}
 use Rattle.vol_label.specs.declared.serial.Serial.{Serial}
 use Rattle.redo_core.specs.Format.{wide}
 use Rattle.redo_core.specs.Reading.{journal_of, overlay, fills_of, Reading, Reads}

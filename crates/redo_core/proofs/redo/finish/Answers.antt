@@ -1,5 +1,5 @@
 use Rattle.std.proofs.Common.{◌≤◌, length, arith}
-use Rattle.dasd_pool.specs.Moments.{weaken}
+use Rattle.dasd_pool.proofs.Moments.{weaken}
 use Rattle.redo_core.specs.Reading.{body_for}
 use Rattle.redo_core.specs.Steps.{HoldsNew, HoldsSame}
 use Rattle.redo_core.proofs.Openings.{holds_same}

@@ -1,15 +1,15 @@
 use Rattle.std.proofs.Common.{ℕ, ◌+◌, ◌<◌, ◌≤◌, ◌⊎◌, List, [], ◌∷◌, length, get_or, take, inl, inr, subst, sym, arith}
 use Rattle.std.proofs.lemmas.List.{take_more, take_all}
 use Rattle.free_map.specs.declared.run.Run.{Run}
-use Rattle.free_map.specs.Runs.{Holds, InRuns}
+use Rattle.free_map.specs.Runs.{HasTrack, InRuns}
 use Rattle.free_map.proofs.Gaps.{in_append}
 use Rattle.rows_free.proofs.tests.apart.Goals as goal
 use Rattle.rows_free.proofs.tests.apart.Goals.{else-free-end-via-then-free-end+else-run-end, else-free-end-via-else-free-end}
 
 -- one run more that has no track of another
-one_more : (runs : List Run) (i : ℕ) (d run : Run) → i < length runs → ((t : ℕ) → Holds run t → ¬ InRuns (take i runs) t)
+one_more : (runs : List Run) (i : ℕ) (d run : Run) → i < length runs → ((t : ℕ) → HasTrack run t → ¬ InRuns (take i runs) t)
     → (run.first + run.len ≤ (get_or runs i d).first) ⊎ ((get_or runs i d).first + (get_or runs i d).len ≤ run.first)
-    → (t : ℕ) → Holds run t → ¬ InRuns (take (i + 1) runs) t
+    → (t : ℕ) → HasTrack run t → ¬ InRuns (take (i + 1) runs) t
 one_more runs i d run lt before far t h in_more =
     let In : List Run → Type 0 = λ some. InRuns some t in
     elim (in_append (take i runs) (get_or runs i d ∷ []) t (subst In (take_more runs i d lt) in_more)) [

@@ -1,7 +1,7 @@
 use Rattle.std.proofs.Common.{◌<◌, ℕ, refl, sym, ap, subst, ◌∙◌, arith}
 use Rattle.std.proofs.lemmas.Result.{on_ok_weaker}
 use Rattle.dasd_pool.specs.Disk.{Shape, none, is_at}
-use Rattle.dasd_pool.specs.Moments.{runs_then}
+use Rattle.dasd_pool.proofs.Moments.{runs_then}
 use Rattle.ckd_image.specs.Address.{address_of}
 use Rattle.vtoc_write.proofs.Texts.{short_slot}
 use Rattle.unit_session.proofs.CopyingTexts.{to_is_target, target_below, source_below, few_cylinders, text_copied}

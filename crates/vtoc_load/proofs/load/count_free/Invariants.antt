@@ -1,6 +1,6 @@
 use Rattle.std.proofs.Common.{◌≡◌, ◌≤◌, length, filter, take}
-use Rattle.vtoc_load.specs.LoadedVtoc.{is_free_record}
 use Rattle.vtoc_load.proofs.load.count_free.Given as goal
+use Rattle.volume_model.specs.Dscbs.{is_free_record}
 
 abbrev pub invariant-loop-placed : goal.invariant-loop-placed
 invariant-loop-placed l = record {

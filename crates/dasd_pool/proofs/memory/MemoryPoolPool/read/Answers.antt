@@ -1,6 +1,6 @@
 use Rattle.dasd_pool.specs.Disk.{none}
 use Rattle.dasd_pool.specs.Memory.{disk_of}
-use Rattle.dasd_pool.specs.Moments.{runs_from}
+use Rattle.dasd_pool.proofs.Moments.{runs_from}
 use Rattle.dasd_pool.proofs.Effects.{elapses_call, touches_same}
 use Rattle.dasd_pool.proofs.memory.MemoryPoolPool.read.Goals as goal
 

@@ -1,6 +1,6 @@
 use Rattle.dasd_pool.specs.Disk.{is_at}
 use Rattle.dasd_pool.specs.Memory.{disk_of, state_of, is_full, fails}
-use Rattle.dasd_pool.specs.Moments.{runs_from}
+use Rattle.dasd_pool.proofs.Moments.{runs_from}
 use Rattle.dasd_pool.proofs.Effects.{elapses_call, touches_write}
 use Rattle.dasd_pool.proofs.memory.MemoryPoolPool.write.Goals as goal
 

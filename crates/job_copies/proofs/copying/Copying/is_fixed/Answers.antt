@@ -12,18 +12,18 @@ use Rattle.job_copies.proofs.Tests.{either_first, either_second}
 use Rattle.job_copies.proofs.copying.Copying.is_fixed.Goals as goal
 
 abbrev Other : Case → Type 0
-Other case = (other : DataSet) × Replaces case other × IsPinned (heads_of case.to.device) other
+Other case = (other : DataSet) × Replaces case other × IsPinned (heads_of case.to.device) other.name other.fields other.extents
 
 pub returns-then-is_pinned-clause-fixed : goal.returns-then-is_pinned-clause-fixed
 returns-then-is_pinned-clause-fixed c case are =
     either_first (Other case)
-    (subst (λ (heads : ℕ). IsTrue c.is_pinned.result ↔ IsPinned heads case.set) (sym (ap heads_of are.from_is.device_is))
+    (subst (λ (heads : ℕ). IsTrue c.is_pinned.result ↔ IsPinned heads case.set.name case.set.fields case.set.extents) (sym (ap heads_of are.from_is.device_is))
     (c.is_pinned.ensures case.set (origin_described c.requires.may are c.row.result.now c.row.ensures))) c.if-is_pinned.true
 
 pub returns-else-is_pinned-clause-fixed : goal.returns-else-is_pinned-clause-fixed
 returns-else-is_pinned-clause-fixed c case are =
     either_second (Other case)
-    (subst (λ (heads : ℕ). IsTrue c.is_pinned.result ↔ IsPinned heads case.set) (sym (ap heads_of are.from_is.device_is))
+    (subst (λ (heads : ℕ). IsTrue c.is_pinned.result ↔ IsPinned heads case.set.name case.set.fields case.set.extents) (sym (ap heads_of are.from_is.device_is))
     (c.is_pinned.ensures case.set (origin_described c.requires.may are c.row.result.now c.row.ensures))) c.if-is_pinned.false
     c.is_replaced_pinned.result (c.is_replaced_pinned.ensures case are)
 

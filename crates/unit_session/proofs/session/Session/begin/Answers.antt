@@ -4,7 +4,7 @@ use Rattle.dasd_pool.specs.Disk.{Shape}
 use Rattle.vol_label.specs.declared.serial.Serial.{Serial}
 use Rattle.redo_core.specs.Reading.{journal_of}
 use Rattle.move_core.proofs.Running.{rose_since, run_less, run_opened, run_refused, run_still, run_then}
-use Rattle.unit_session.specs.Sessions.{IsFree}
+use Rattle.unit_session.specs.Sessions.{HasNothingOpen}
 use Rattle.unit_session.proofs.Beginning.{pool_cause, opened_reads}
 use Rattle.unit_session.proofs.Loading.{still_free, still_rest, still_loaded, still_kept, still_vtocs}
 use Rattle.unit_session.proofs.Modelling.{models_at}
@@ -24,7 +24,7 @@ invariant_of-result g c =
     let reads = c.loaded.ensures.reads in
     let found = c.in-Ok-loaded.ensures in
     let volumes = ap (λ (s : Shape). journal_of s) (sym reads.shape) in
-    let free : IsFree (g.P.Pool.shape c.args.pool) c.in-Ok.journal.control c.in-Ok.journal.fills = record { idle = does.idle.0; closed = does.idle.1 } in (
+    let free : HasNothingOpen (g.P.Pool.shape c.args.pool) c.in-Ok.journal.control c.in-Ok.journal.fills = record { idle = does.idle.0; closed = does.idle.1 } in (
       still_free (reads.shape ∙ does.shape) reads.status.control reads.status.fills free,
       ap (λ (l : List Serial). length l) found.names ∙ c.requires.each ∙ ap (λ (s : Shape). journal_of s) (sym does.shape) ∙ volumes,
       found.count ∙ volumes,
@@ -46,7 +46,7 @@ returns-in-Ok-loaded-clause-units g c told facts models same settled =
     let reads = c.loaded.ensures.reads in
     let found = c.in-Ok-loaded.ensures in
     let units = c.in-Ok-loaded.found.units.items in
-    let free : IsFree (g.P.Pool.shape c.args.pool) c.in-Ok.journal.control c.in-Ok.journal.fills = record { idle = does.idle.0; closed = does.idle.1 } in
+    let free : HasNothingOpen (g.P.Pool.shape c.args.pool) c.in-Ok.journal.control c.in-Ok.journal.fills = record { idle = does.idle.0; closed = does.idle.1 } in
     models_at same settled units
     (still_rest reads.shape (reads.same told) (still_rest does.shape refl (does.rest told)))
     (still_free (reads.shape ∙ does.shape) refl refl free)
