@@ -4,7 +4,7 @@ use Rattle.std.specs.List.{AllZip}
 use Rattle.std.proofs.lemmas.List.{get_or-map, length-map}
 use Rattle.std.proofs.lemmas.List.Elements.{All-cons, All-nil}
 use Rattle.std.specs.Prelude.{nat_le, Option, Some, None}
-use Rattle.std.proofs.lemmas.Bool.{false≢true, leb-true}
+use Rattle.std.proofs.lemmas.Bool.{leb-true}
 use Rattle.by_rules.specs.declared.day.Day.{Day}
 use Rattle.by_rules.specs.Words.{is_decimal, decimal, number_up_to}
 use Rattle.dasd_pool.specs.Disk.{Shape}
@@ -26,6 +26,7 @@ use Rattle.adr_top.specs.Asked.{AskFor, Agrees, HasUnits, serials_of}
 use Rattle.adr_top.specs.Ends.{given, IsAsked, EndsRun}
 use Rattle.adr_top.specs.Parts.{IsLawful, IsRefused, EndsAsked}
 use Rattle.adr_top.specs.Texts.{SourceSeen, IsUncalled}
+use Rattle.ckd_image.proofs.Bools.{and_second}
 
 -- ---- the serials that words name
 
@@ -77,14 +78,10 @@ most_if : (b : Bool) (m n limit : ℕ) → (b ≡ true → m ≤ limit) → cond
 most_if true m n limit less is = let small = less refl in let same : 1 + m ≡ 1 + n = ap (λ (o : Option ℕ). number_in o) is in omega (arith, same, small)
 most_if false m n limit less is = let same : 0 ≡ 1 + n = ap (λ (o : Option ℕ). number_in o) is in absurd (omega (arith, same))
 
-both_second : (b c : Bool) → (b && c) ≡ true → c ≡ true
-both_second true c is = is
-both_second false c is = absurd (false≢true is)
-
 number_most : (limit n : ℕ) (word : List ℕ) → number_up_to limit word ≡ Some n → n ≤ limit
 number_most limit n word is =
     most_if (is_decimal word && nat_le (decimal word) limit) (decimal word) n limit
-    (λ both. leb-true (decimal word) limit (both_second (is_decimal word) (nat_le (decimal word) limit) both)) is
+    (λ both. leb-true (decimal word) limit (and_second (is_decimal word) (nat_le (decimal word) limit) both)) is
 
 pub asked_lawful : (shape : Shape) (options : List GivenOption) (run : Run) (outs ins : List DdName) → IsRun options run → Agrees run shape.units outs ins → IsLawful shape run
 asked_lawful shape options (Jobs volumes journal sysin path out_words in_words) outs ins is agrees = names_of shape _ volumes is.units_are agrees.0

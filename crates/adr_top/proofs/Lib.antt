@@ -1,6 +1,6 @@
-pub mod Asked
-pub mod Codes
-pub mod Endings
-pub mod Named
-pub mod Opened
-pub mod Prepared
+mod Asked
+mod Codes
+mod Endings
+mod Named
+mod Opened
+mod Prepared

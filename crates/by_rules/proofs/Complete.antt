@@ -1,5 +1,5 @@
 -- What the grammar spells is read.
-use Rattle.std.proofs.Common.{◌≡◌, ◌⊎◌, inl, inr, ℕ, ◌+◌, ◌<◌, ◌≤◌, List, [], ◌∷◌, ◌++◌, length, refl, sym, ap, ◌∙◌, Bool, true, false, arith, Option, Some, None, append_assoc, length-append}
+use Rattle.std.proofs.Common.{◌≡◌, ◌⊎◌, inl, inr, ℕ, ◌+◌, ◌<◌, ◌≤◌, List, [], ◌∷◌, ◌++◌, length, refl, sym, ap, ◌∙◌, true, false, arith, Option, Some, None, append_assoc, length-append}
 use Rattle.std.specs.Prelude.{◌==◌}
 use Rattle.std.specs.Option.{option_and_then}
 use Rattle.std.specs.Str.{bytes_eq}
@@ -16,6 +16,7 @@ use Rattle.by_rules.specs.Token.{Symbol, Open, Close, Comma}
 use Rattle.by_rules.specs.Words.{value_of}
 use Rattle.by_rules.specs.Grammar.{is_date, is_equality, star, most_criteria, IsValue, IsMembers, IsOperand, IsCriterion, IsSequence, Spell}
 use Rattle.by_rules.specs.Reading.{Machine, next, run, start}
+use Rattle.std.proofs.lemmas.Bool.{cases_Bool}
 
 -- one list of tokens behind another
 pub run-append : (machine : Machine) (a b : List Symbol) → run machine (a ++ b) ≡ option_and_then (λ (after : Machine). run after b) (run machine a)
@@ -31,10 +32,6 @@ run_then machine after a b e = run-append machine a b ∙ ap (option_and_then (�
 
 abbrev pub at : State → List Criterion → List Value → Machine
 at state criteria list = record { state = state; criteria = criteria; values = list }
-
-bool_cases : (b : Bool) → (b ≡ true) ⊎ (b ≡ false)
-bool_cases true = inl refl
-bool_cases false = inr refl
 
 -- the word is a star
 pub is_star : (word : List ℕ) → bytes_eq word star ≡ true → word ≡ star
@@ -54,7 +51,7 @@ star_is_no_date keys.Multivolume d = cc
 
 no_star : (key : Key) (word : List ℕ) (value : Value) → is_date key ≡ true → value_of key word ≡ Some value → bytes_eq word star ≡ false
 no_star key word value d says =
-    elim (bool_cases (bytes_eq word star)) [
+    elim (cases_Bool (bytes_eq word star)) [
       | inl yes' ↦ let none : value_of key word ≡ None = ap (value_of key) (is_star word yes') ∙ star_is_no_date key d in cc
       | inr no' ↦ no'
     ]
@@ -71,12 +68,12 @@ alone_value : (test : Test) (criteria : List Criterion) (list : List Value) (val
     → run (at (states.Operand test) criteria list) tokens ≡ Some (at (states.Whole test) criteria (list ++ value ∷ []))
 alone_value test criteria list value tokens (inl w) = rw (w.text, w.says) refl
 alone_value test criteria list value tokens (inr (d, inl t)) =
-    elim (bool_cases (is_equality test.op)) [
+    elim (cases_Bool (is_equality test.op)) [
       | inl equal ↦ rw (t.text, d, equal, t.says) refl
       | inr other ↦ rw (t.text, d, other, t.says) refl
     ]
 alone_value test criteria list value tokens (inr (d, inr t)) =
-    elim (bool_cases (is_equality test.op)) [
+    elim (cases_Bool (is_equality test.op)) [
       | inl equal ↦ rw (t.text, d, equal, t.says, t.date) refl
       | inr other ↦ rw (t.text, d, other, t.says, t.date) refl
     ]
@@ -106,7 +103,7 @@ operand_run : (test : Test) (criteria : List Criterion) (list : List Value) (tok
 operand_run test criteria list tokens (inl a) =
     alone_value test criteria [] a.value tokens a.text ∙ ap (λ (all : List Value). Some (at (states.Whole test) criteria all)) (sym a.one)
 operand_run test criteria list tokens (inr l) =
-    elim (bool_cases (is_date test.key)) [
+    elim (cases_Bool (is_date test.key)) [
       | inl date ↦ ap (run (at (states.Operand test) criteria [])) l.text
           ∙ rw (date, l.equality) (run_then (at (states.Bracket test) criteria []) (at (states.Member test) criteria list) l.members (Close ∷ [])
           (members_from (states.Bracket test) test criteria [] list l.members (λ value text v. first_value test criteria [] value text date v) l.each))

@@ -1,11 +1,11 @@
-pub mod Calendar
-pub mod Comparing
-pub mod Numbers
-pub mod Tokens
+mod Calendar
+mod Comparing
+mod Numbers
+mod Tokens
 pub mod Complete
 pub mod Sound
 pub mod Refusing
-pub mod Shifts
+mod Shifts
 pub mod Reader
-pub mod TokenLaws
-pub mod OnePlace
+mod TokenLaws
+mod OnePlace

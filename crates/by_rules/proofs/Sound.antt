@@ -148,7 +148,7 @@ sequence_more (first ∷ second ∷ list) front criterion current tail (one, res
 sequence_more (first ∷ second ∷ list) front criterion current tail (one, rest, inr e, o, others) c gap =
     (one, rest ++ tail, inr (ap (λ (t : List Symbol). t ++ tail) e ∙ append_assoc one (Comma ∷ rest) tail), o, sequence_more (second ∷ list) rest criterion current tail others c gap)
 
-criterion_more : (list : List Criterion) (done : List Symbol) (criterion : Criterion) (current : List Symbol) → IsBefore list done → IsCriterion criterion current → IsSequence (list ++ criterion ∷ []) (done ++ current)
+pub criterion_more : (list : List Criterion) (done : List Symbol) (criterion : Criterion) (current : List Symbol) → IsBefore list done → IsCriterion criterion current → IsSequence (list ++ criterion ∷ []) (done ++ current)
 criterion_more list done criterion current (inl none) c = rw (none.0, none.1) c
 criterion_more list done criterion current (inr (inl s)) c = sequence_more list done criterion current current s c (inl refl)
 criterion_more list done criterion current (inr (inr s)) c =

@@ -5,11 +5,9 @@ use Rattle.std.specs.List.{list_all, AllByRecursion}
 use Rattle.std.proofs.lemmas.Bool.Decides.{Decides-eqb}
 use Rattle.std.proofs.lemmas.List.Elements.{All-from_recursion}
 use Rattle.by_rules.specs.Token.{Symbol, Open, Close, Comma, Word, Other, is_word_byte, sign_of, put_front, tokens_of, bytes_of, text_of, IsToken, BeginWithNoWord, AreApart}
-use Rattle.by_rules.proofs.Tokens.{if_true, IsSign, sign_by, put_sign, put_last}
-
-pub bool_cases : (b : Bool) → (b ≡ true) ⊎ (b ≡ false)
-bool_cases true = inl refl
-bool_cases false = inr refl
+use Rattle.by_rules.proofs.Tokens.{IsSign, sign_by, put_sign, put_last}
+use Rattle.std.proofs.lemmas.Bool.{cases_Bool, and_from}
+use Rattle.ckd_image.proofs.Bools.{if_true}
 
 -- a byte's sign, by what the byte is
 abbrev sign_at : Bool → Bool → Bool → ℕ → Symbol
@@ -47,7 +45,7 @@ front_word byte (Comma ∷ rest) w = alone w tt (put_last byte Comma rest w tt)
 front_word byte (Other b ∷ rest) w = alone w tt (put_last byte (Other b) rest w tt)
 
 front : (byte : ℕ) (rest : List Symbol) → Front byte rest
-front byte rest = elim (bool_cases (is_word_byte byte)) [ inl w ↦ front_word byte rest w | inr n ↦ sign n (put_sign byte rest n) ]
+front byte rest = elim (cases_Bool (is_word_byte byte)) [ inl w ↦ front_word byte rest w | inr n ↦ sign n (put_sign byte rest n) ]
 
 front_cover : (byte : ℕ) (rest : List Symbol) → Front byte rest → text_of (put_front byte rest) ≡ byte ∷ text_of rest
 front_cover byte rest (sign n e) = ap text_of e ∙ ap (λ (b : List ℕ). b ++ text_of rest) (sign_bytes (byte == 40) (byte == 41) (byte == 44) byte refl refl refl)
@@ -58,18 +56,15 @@ pub tokens_cover : (text : List ℕ) → text_of (tokens_of text) ≡ text
 tokens_cover [] = refl
 tokens_cover (byte ∷ text) = front_cover byte (tokens_of text) (front byte (tokens_of text)) ∙ ap (λ (t : List ℕ). byte ∷ t) (tokens_cover text)
 
-both : (a b : Bool) → a ≡ true → b ≡ true → (a && b) ≡ true
-both a b p q = rw (p, q) refl
-
 front_each : (byte : ℕ) (rest : List Symbol) → Front byte rest → AllByRecursion IsToken rest → AllByRecursion IsToken (put_front byte rest)
 front_each byte rest (sign n e) h = let P : List Symbol → Type 0 = λ s. AllByRecursion IsToken s in
     subst P (sym e) (sign_is (byte == 40) (byte == 41) (byte == 44) byte refl refl refl n, h)
 front_each byte rest (joins word more w r e) h =
     let P : List Symbol → Type 0 = λ s. AllByRecursion IsToken s in
     let was = subst P r h in
-    subst P (sym e) (((λ f. cc), both (is_word_byte byte) (list_all is_word_byte word) w was.0.1), was.1)
+    subst P (sym e) (((λ f. cc), and_from (is_word_byte byte) (list_all is_word_byte word) w was.0.1), was.1)
 front_each byte rest (alone w n e) h = let P : List Symbol → Type 0 = λ s. AllByRecursion IsToken s in
-    subst P (sym e) (((λ f. cc), both (is_word_byte byte) true w refl), h)
+    subst P (sym e) (((λ f. cc), and_from (is_word_byte byte) true w refl), h)
 
 each_by : (text : List ℕ) → AllByRecursion IsToken (tokens_of text)
 each_by [] = tt

@@ -1,14 +1,9 @@
 -- Reading tokens one after the other.
-use Rattle.std.proofs.Common.{◌≡◌, ℕ, List, [], ◌∷◌, ◌++◌, refl, sym, ap, ◌∙◌, Bool, true, false}
+use Rattle.std.proofs.Common.{◌≡◌, ℕ, List, [], ◌∷◌, ◌++◌, sym, ap, ◌∙◌, Bool, true, false}
 use Rattle.std.specs.Prelude.{◌&&◌, ◌==◌, if◌then◌else◌}
 use Rattle.std.specs.List.{list_all}
 use Rattle.by_rules.specs.Token.{Symbol, Open, Close, Comma, Word, Other, is_word_byte, sign_of, put_front, tokens_of, begins_word}
-
-pub if_true : {X : Type 0} (b : Bool) (x y : X) → b ≡ true → (if b then x else y) ≡ x
-if_true b x y h = rw h
-
-if_false : {X : Type 0} (b : Bool) (x y : X) → b ≡ false → (if b then x else y) ≡ y
-if_false b x y h = rw h
+use Rattle.ckd_image.proofs.Bools.{if_true, if_false, and_first, and_second}
 
 abbrev pub IsSign : Symbol → Type 0
 IsSign (Word word) = ⊥
@@ -42,14 +37,6 @@ last_byte byte [] h n = ap (λ (t : Symbol). t ∷ []) (if_true (is_word_byte by
 last_byte byte (next ∷ rest) h n =
     let split = put_sign next (tokens_of rest) n in
     ap (put_front byte) split ∙ put_last byte (sign_of next) (tokens_of rest) h (sign_by (next == 40) (next == 41) (next == 44) next) ∙ ap (λ (ts : List Symbol). Word (byte ∷ []) ∷ ts) (sym split)
-
-and_first : (a b : Bool) → (a && b) ≡ true → a ≡ true
-and_first true b h = refl
-and_first false b h = cc
-
-and_second : (a b : Bool) → (a && b) ≡ true → b ≡ true
-and_second true b h = h
-and_second false b h = cc
 
 -- a word, as far as it goes, is a token
 pub word_first : (byte : ℕ) (word rest : List ℕ) → list_all is_word_byte (byte ∷ word) ≡ true → begins_word rest ≡ false → tokens_of ((byte ∷ word) ++ rest) ≡ Word (byte ∷ word) ∷ tokens_of rest

@@ -19,7 +19,7 @@ use Rattle.ckd_image.proofs.Records.{same_address}
 
 -- ---- fields
 
-same_two : (m n : ℕ) → m ≤ 65535 → n ≤ 65535 → m / 256 % 256 ≡ n / 256 % 256 → m % 256 ≡ n % 256 → m ≡ n
+pub same_two : (m n : ℕ) → m ≤ 65535 → n ≤ 65535 → m / 256 % 256 ≡ n / 256 % 256 → m % 256 ≡ n % 256 → m ≡ n
 same_two m n p q high low = omega arith
 
 same_count : (a b : Count) → a.at ≡ b.at → a.r ≡ b.r → a.key ≡ b.key → a.body ≡ b.body → a ≡ b
@@ -73,7 +73,7 @@ split_same (a ∷ k) (b ∷ l) x y len e =
 
 -- ---- records
 
-same_record : (a b : Rec) → a.r ≡ b.r → a.key ≡ b.key → a.body ≡ b.body → a ≡ b
+pub same_record : (a b : Rec) → a.r ≡ b.r → a.key ≡ b.key → a.body ≡ b.body → a ≡ b
 same_record a b p q r =
     let r-is : a ≡ record { r = b.r; key = a.key; body = a.body } = ap (λ (t : ℕ). record { r = t; key = a.key; body = a.body }) p in
     let key-is : record { r = b.r; key = a.key; body = a.body } ≡ record { r = b.r; key = b.key; body = a.body } = ap (λ (t : List ℕ). record { r = b.r; key = t; body = a.body }) q in

@@ -3,8 +3,7 @@ use Rattle.std.proofs.Common.{◌≡◌, inl, inr, ℕ, zero, suc, ◌<◌, ◌�
 use Rattle.std.specs.Prelude.{◌==◌, ◌&&◌, ◌||◌, not, nat_lt, nat_le, if◌then◌else◌, Result, is_err}
 use Rattle.std.specs.declared.alloc.Global.{Global}
 use Rattle.std.specs.List.{list_any}
-use Rattle.std.proofs.lemmas.Bool.{cases_lt, lt-ltb, le-ltb, le-leb, lt-leb, and_from, and_right, false≢true}
-use Rattle.std.proofs.Math.Bool.{or-true}
+use Rattle.std.proofs.lemmas.Bool.{cases_lt, lt-ltb, le-ltb, le-leb, lt-leb, and_from, and_right, false≢true, or_right}
 use Rattle.std.proofs.lemmas.List.Elements.{All-push}
 use Rattle.dasd_pool.specs.declared.calls.Call.{Call}
 use Rattle.dasd_pool.specs.declared.calls.Call.TheVariants.{Read, Sync}
@@ -51,9 +50,6 @@ shown_after : (keep now : ℕ) (units : List UnitText) (marked new : State) (cal
     → shown now units new later ≡ (if filled keep calls then shown keep units marked calls else effect (shown keep units marked calls))
 shown_after keep now units marked new calls later call effect same more goes does =
     (λ i. shown (same i) units new (more i)) ∙ shown_call keep units marked new calls call effect goes does
-
-or_true : (x y : Bool) → y ≡ true → (x || y) ≡ true
-or_true x y is = ap (λ (t : Bool). x || t) is ∙ or-true x
 
 either_same : (t : Bool) (state : State) → (if t then state else state) ≡ state
 either_same true state = refl
@@ -102,7 +98,7 @@ module _ (units : List UnitText) (texts : List (List ℕ)) (kept later : KeptVie
       settle true f state implies = ap (λ (g : Bool). sync_step g state) (sym (implies refl))
 
       full : filled kept.keep kept.calls ≡ true → failed ≡ true
-      full is = told ∙ or_true (list_any (λ n. n == failures.count) failures.told.items) (filled kept.keep kept.calls) is
+      full is = told ∙ or_right (list_any (λ n. n == failures.count) failures.told.items) (filled kept.keep kept.calls) is
 
 -- a call that was counted
 pub is_call : {T E : Type 0} (units : List UnitText) (texts texts_new : List (List ℕ)) (kept later : KeptView) (marks marks_new : List (List Bool)) (failures after_it : Failures) (seen : MemoryView) (result : Result T E) (failed : Bool)
@@ -157,7 +153,7 @@ write_current state false failed unit block buf image new implies held goes u b 
 
 -- a pool with no room fails
 pub full_fails : (pool : MemoryView) → is_full pool ≡ true → fails pool ≡ true
-full_fails pool is = or_true (list_any (λ n. n == pool.count) pool.failing) (is_full pool) is
+full_fails pool is = or_right (list_any (λ n. n == pool.count) pool.failing) (is_full pool) is
 
 -- The disk after a call.
 elapses_by : (keep : ℕ) (units : List UnitText) (marked new : State) (calls : List Call) (call : Call)

@@ -1,10 +1,11 @@
 pub mod Bytes
-pub mod OneMore
-pub mod Texts
+mod OneMore
+mod Texts
 pub mod Tearing
-pub mod Reading
-pub mod Marking
-pub mod Effects
-pub mod Ordered
-pub mod Whole
+mod Reading
+mod Marking
+mod Effects
+mod Ordered
+mod Whole
 pub mod Moments
+pub mod Streams

@@ -1,7 +1,6 @@
 -- A DD name as it is kept.
 use Rattle.std.specs.Prelude.{◌≡◌, ◌-◌, ℕ, List, ◌++◌, length, replicate}
 use Rattle.dsn_filter.specs.Text.{capitals}
-use Rattle.dsn_filter.specs.OneQualifier.{IsQualifierText}
 use Rattle.dd_names.specs.declared.dd.DdName.{DdName}
 
 -- what is kept of a text: its capitals, and zeros behind them

@@ -14,13 +14,15 @@ use Rattle.vtoc_core.proofs.Written.{same_format}
 use Rattle.vtoc_core.specs.Edit.{no_entry, AreEntriesPut}
 use Rattle.vtoc_core.proofs.Edits.{offset_within}
 use Rattle.vtoc_core.proofs.Stated.{entries_told}
-use Rattle.vtoc_core.proofs.Overs.{get_before, get_within, get_behind, long_over}
+use Rattle.vtoc_core.proofs.Overs.{get_before, get_within, get_behind}
 use Rattle.dscb_made.specs.Slots.{slot_of, first_offset, further_offset, IsThere, IsBeside, AreSlotsPut}
 use Rattle.dscb_made.specs.Pointers.{pointer_text, IsPointerPut}
 use Rattle.dscb_made.specs.Made.{IsFormat1With, IsFormat3With, IsFormat5With}
-use Rattle.dscb_made.proofs.SlotsPut.{same_extent, less_or_not, low, high}
+use Rattle.dscb_made.proofs.SlotsPut.{same_extent, low, high}
 use Rattle.dscb_made.proofs.PointerPut.{no_pointer}
 use Rattle.dscb_made.proofs.Reading.{kept, read_is_told}
+use Rattle.std.proofs.lemmas.Bool.{cases_lt}
+use Rattle.ckd_image.proofs.Overs.{over_length}
 
 -- lists of bytes are the same where each byte is
 pub same_bytes : (a b : List ℕ) → length a ≡ length b → ((k : ℕ) → k < length a → get_or a k 0 ≡ get_or b k 0) → a ≡ b
@@ -41,7 +43,7 @@ long_pointer (Some place) = refl
 module _ (extents : List Extent) (next : Option Cchhr) (there : All IsThere extents) (old filled new : List ℕ) (long : length old ≡ 140) (pointer : IsPointerPut next filled new) where
   module _ (long_filled : length filled ≡ 140) where
     pub long_new : length new ≡ 140
-    long_new = ap length pointer.made ∙ long_over 135 (pointer_text next) filled (omega (arith, long_filled, long_pointer next)) ∙ long_filled
+    long_new = ap length pointer.made ∙ over_length 135 (pointer_text next) filled (omega (arith, long_filled, long_pointer next)) ∙ long_filled
 
     -- what is before the pointer stays
     pub before : (k : ℕ) → k < 135 → get_or new k 0 ≡ get_or filled k 0
@@ -51,7 +53,7 @@ module _ (extents : List Extent) (next : Option Cchhr) (there : All IsThere exte
 
   module _ (counted : List ℕ) (format : format_of old ≡ F1) (count : counted ≡ over 59 (length extents ∷ []) old) (slots : AreSlotsPut first_offset 0 3 extents counted filled) where
     long_counted : length counted ≡ 140
-    long_counted = ap length count ∙ long_over 59 (length extents ∷ []) old (omega (arith, long)) ∙ long
+    long_counted = ap length count ∙ over_length 59 (length extents ∷ []) old (omega (arith, long)) ∙ long
 
     long_filled_1 : length filled ≡ 140
     long_filled_1 = slots.long ∙ long_counted
@@ -149,10 +151,10 @@ identified mark code first second is made = record {
 }
   where
     long_first : length first ≡ 140
-    long_first = ap length is ∙ long_over 0 (replicate 4 mark) (replicate 140 0) (omega arith)
+    long_first = ap length is ∙ over_length 0 (replicate 4 mark) (replicate 140 0) (omega arith)
 
     long_second : length second ≡ 140
-    long_second = ap length made ∙ long_over 44 (code ∷ []) first (omega (arith, long_first)) ∙ long_first
+    long_second = ap length made ∙ over_length 44 (code ∷ []) first (omega (arith, long_first)) ∙ long_first
 
 -- ---- format 3
 
@@ -175,11 +177,11 @@ module _ (extents : List Extent) (there : All IsThere extents) (few : length ext
 
   format_3 : format_of new ≡ F3
   format_3 =
-      format_is_3 new long_3 (slots.kept 44 (λ place less. beside_code place less (less_or_not place 4)) ∙ is.code_is)
-      (λ k less. slots.kept k (λ place within. beside_low place k within less (less_or_not place 4)) ∙ is.front k less)
+      format_is_3 new long_3 (slots.kept 44 (λ place less. beside_code place less (cases_lt place 4)) ∙ is.code_is)
+      (λ k less. slots.kept k (λ place within. beside_low place k within less (cases_lt place 4)) ∙ is.front k less)
 
   zero_behind : (k : ℕ) → 135 ≤ k → get_or new k 0 ≡ 0
-  zero_behind k more = slots.kept k (λ place within. beside_high place k within more (less_or_not place 4)) ∙ is.behind k (omega (arith, more))
+  zero_behind k more = slots.kept k (λ place within. beside_high place k within more (cases_lt place 4)) ∙ is.behind k (omega (arith, more))
 
   pub format_3_made : IsFormat3With extents new
   format_3_made = record {
@@ -201,7 +203,7 @@ module _ (entries : List Entry5) (next : Option Cchhr) (fit : All IsEntry5 entri
   long_filled_5 = put.long ∙ is.long
 
   long_5 : length new ≡ 140
-  long_5 = ap length pointer.made ∙ long_over 135 (pointer_text next) filled (omega (arith, long_filled_5, long_pointer next)) ∙ long_filled_5
+  long_5 = ap length pointer.made ∙ over_length 135 (pointer_text next) filled (omega (arith, long_filled_5, long_pointer next)) ∙ long_filled_5
 
   before_5 : (k : ℕ) → k < 135 → get_or new k 0 ≡ get_or filled k 0
   before_5 k less = ap (λ (bytes : List ℕ). get_or bytes k 0) pointer.made ∙ get_before 135 (pointer_text next) filled k (omega (arith, long_filled_5, long_pointer next)) less

@@ -1,5 +1,5 @@
 -- A pointer that is written.
-use Rattle.std.proofs.Common.{◌≡◌, ℕ, ◌+◌, ◌*◌, ◌/◌, ◌%◌, ◌<◌, List, length, get_or, Bool, true, false, cond, ◌==◌, ◌&&◌, Option, Some, None, IfSome, refl, ap, ◌∙◌, arith}
+use Rattle.std.proofs.Common.{◌≡◌, ℕ, ◌+◌, ◌*◌, ◌/◌, ◌%◌, ◌<◌, List, length, get_or, Bool, false, cond, ◌==◌, ◌&&◌, Option, Some, None, IfSome, ap, ◌∙◌, arith}
 use Rattle.std.proofs.lemmas.Bool.Decides.{nat_tests}
 use Rattle.ckd_image.specs.declared.track.Cchhr.{Cchhr}
 use Rattle.ckd_image.specs.Address.{cchhr_text, IsCchhr}
@@ -8,6 +8,7 @@ use Rattle.volume_model.specs.Dscbs.{pointer_in}
 use Rattle.vtoc_core.proofs.Overs.{get_within}
 use Rattle.vtoc_core.proofs.Written.{two_bytes}
 use Rattle.dscb_made.specs.Pointers.{pointer_text, IsPlaceOfRecord, IsPointerPut}
+use Rattle.std.proofs.Math.Bool.{and-false}
 
 -- the pointer of five bytes
 abbrev pointer_by : ℕ → ℕ → ℕ → ℕ → ℕ → Option Cchhr
@@ -18,10 +19,6 @@ pointer_from : (bytes : List ℕ) (a b c d e : ℕ) → get_or bytes 135 0 ≡ a
     → pointer_in bytes ≡ pointer_by a b c d e
 pointer_from bytes a b c d e p q r s t = (λ i. pointer_by (p i) (q i) (r i) (s i) (t i))
 
-never : (a : Bool) → (a && false) ≡ false
-never true = refl
-never false = refl
-
 numbered : (n : ℕ) → (n ≡ 0 → ⊥) → (n == 0) ≡ false
 numbered n e = grind (arith, nat_tests)
 
@@ -29,7 +26,7 @@ some_pointer : (place : Cchhr) → IsCchhr place → IsPlaceOfRecord place
     → pointer_by (place.at.cylinder / 256 % 256) (place.at.cylinder % 256) (place.at.head / 256 % 256) (place.at.head % 256) place.r ≡ Some place
 some_pointer place fits there =
     (λ i. cond (((cylinder i == 0) && (head i == 0)) && numbered place.r there i) none (Some (record { at = record { cylinder = cylinder i; head = head i }; r = place.r })))
-    ∙ ap (λ (b : Bool). cond b none (Some place)) (never ((place.at.cylinder == 0) && (place.at.head == 0)))
+    ∙ ap (λ (b : Bool). cond b none (Some place)) (and-false ((place.at.cylinder == 0) && (place.at.head == 0)))
   where
     none : Option Cchhr
     none = None

@@ -1,6 +1,5 @@
 -- The extents that are read from slots which were written.
 use Rattle.std.proofs.Common.{◌≡◌, ◌≢◌, ◌⊎◌, ℕ, zero, suc, ◌+◌, ◌<◌, ◌≤◌, List, [], ◌∷◌, ◌++◌, length, map, filter, take, drop, get_or, Bool, true, false, cond, not, ◌==◌, All, Option, refl, sym, ap, ◌∙◌, arith, inl, inr, length-drop, take-suc}
-use Rattle.std.specs.Prelude.{nat_lt}
 use Rattle.std.proofs.lemmas.Bool.Decides.{nat_tests}
 use Rattle.std.proofs.lemmas.List.{take_all, get_or-drop, map-append, append-nil}
 use Rattle.std.proofs.lemmas.List.Elements.{filter-append}
@@ -10,6 +9,7 @@ use Rattle.volume_model.specs.declared.extent.ExtentField.{ExtentField}
 use Rattle.volume_model.specs.Dscbs.{numbers_below, extent_at}
 use Rattle.vtoc_core.specs.Loaded.{field_of}
 use Rattle.dscb_made.specs.Slots.{no_extent, numbered, slot_of, IsThere}
+use Rattle.std.proofs.lemmas.Bool.{cases_lt}
 
 abbrev pub kept : ExtentField → Bool
 kept field = not (field.kind == 0)
@@ -64,13 +64,6 @@ none_told extents from n past =
     ∙ append-nil (told_below extents from n)
     ∙ ap (map field_of) (take_all n (drop from extents) few ∙ sym (take_all (suc n) (drop from extents) (omega (arith, few))))
 
-less_or_not : (m n : ℕ) → (m < n) ⊎ (n ≤ m)
-less_or_not m n = by (nat_lt m n) refl
-  where
-    by : (b : Bool) → nat_lt m n ≡ b → (m < n) ⊎ (n ≤ m)
-    by true e = inl (grind (arith, nat_tests))
-    by false e = inr (grind (arith, nat_tests))
-
 one_more : (extents : List Extent) (from n : ℕ) → All IsThere extents → ((from + n < length extents) ⊎ (length extents ≤ from + n))
     → last (told_below extents from n) (field_of (slot_of extents (from + n))) ≡ told_below extents from (suc n)
 one_more extents from n there (inl less) = one_told extents from n there less
@@ -83,4 +76,4 @@ read_is_told bytes offset extents from count there reads zero few = refl
 read_is_told bytes offset extents from count there reads (suc n) few =
     one_read bytes offset n
     ∙ (λ i. last (read_is_told bytes offset extents from count there reads n (omega (arith, few)) i) (reads n (omega (arith, few)) i))
-    ∙ one_more extents from n there (less_or_not (from + n) (length extents))
+    ∙ one_more extents from n there (cases_lt (from + n) (length extents))

@@ -10,8 +10,10 @@ use Rattle.dscb_rec.specs.Field.{extent_text, IsExtent}
 use Rattle.volume_model.specs.Dscbs.{extent_at}
 use Rattle.vtoc_core.specs.Loaded.{field_of}
 use Rattle.vtoc_core.proofs.Extents.{field_read}
-use Rattle.vtoc_core.proofs.Overs.{get_before, get_within, get_behind, long_over}
+use Rattle.vtoc_core.proofs.Overs.{get_before, get_within, get_behind}
 use Rattle.dscb_made.specs.Slots.{slot_of, first_offset, further_offset, IsBeside, IsSlotPut, AreSlotsPut}
+use Rattle.std.proofs.lemmas.Bool.{cases_lt}
+use Rattle.ckd_image.proofs.Overs.{over_length}
 
 -- ---- one slot
 
@@ -72,13 +74,6 @@ none_put offset from extents old = record {
   kept = λ k beside. refl;
 }
 
-pub less_or_not : (m n : ℕ) → (m < n) ⊎ (n ≤ m)
-less_or_not m n = by (nat_lt m n) refl
-  where
-    by : (b : Bool) → nat_lt m n ≡ b → (m < n) ⊎ (n ≤ m)
-    by true e = inl (grind (arith, nat_tests))
-    by false e = inr (grind (arith, nat_tests))
-
 module _ (offset : ℕ → ℕ) (from total count : ℕ) (offsets : AreOffsets offset total) (less : count < total) (extents : List Extent) (old mid new : List ℕ) (long : length old ≡ 140) (extent : Extent)
     (is : extent ≡ slot_of extents (from + count)) (put : IsSlotPut (offset count) extent mid new) (h : AreSlotsPut offset from count extents old mid) where
   fits : offset count + 10 ≤ length mid
@@ -109,9 +104,9 @@ module _ (offset : ℕ → ℕ) (from total count : ℕ) (offsets : AreOffsets o
 
   pub one_more : AreSlotsPut offset from (count + 1) extents old new
   one_more = record {
-    long = ap length put.made ∙ long_over (offset count) (extent_text extent) mid fits ∙ h.long;
-    reads = λ place last. read place (less_or_not place count) last;
-    spelled = λ place byte last in_slot. spell place byte in_slot (less_or_not place count) last;
+    long = ap length put.made ∙ over_length (offset count) (extent_text extent) mid fits ∙ h.long;
+    reads = λ place last. read place (cases_lt place count) last;
+    spelled = λ place byte last in_slot. spell place byte in_slot (cases_lt place count) last;
     kept = λ k beside. still k (beside count (omega arith)) ∙ h.kept k (λ place earlier. beside place (omega (arith, earlier)));
   }
 
@@ -144,6 +139,6 @@ further_rising a b less (inr p) (inr q) = omega (arith, high a p, high b q, less
 
 pub further_offsets : AreOffsets further_offset 13
 further_offsets = record {
-  within = λ place less. further_within place less (less_or_not place 4);
-  rising = λ a b less last. further_rising a b less (less_or_not a 4) (less_or_not b 4);
+  within = λ place less. further_within place less (cases_lt place 4);
+  rising = λ a b less last. further_rising a b less (cases_lt a 4) (cases_lt b 4);
 }

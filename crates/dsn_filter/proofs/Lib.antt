@@ -1,9 +1,9 @@
 pub mod Joins
-pub mod Rows
+mod Rows
 pub mod Forms
 pub mod Scanned
 pub mod Parts
 pub mod Named
 pub mod Renamed
 pub mod OneReading
-pub mod OneWord
+mod OneWord

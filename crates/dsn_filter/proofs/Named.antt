@@ -10,6 +10,7 @@ use Rattle.dsn_filter.specs.Dsn.{text_of, dsn_of, IsDsn}
 use Rattle.dsn_filter.proofs.Joins.{Dotless, IsForm, some_bytes}
 use Rattle.dsn_filter.proofs.Forms.{name_form, pattern_form, qualifier_short}
 use Rattle.dsn_filter.proofs.Parts.{qualifiers_joined, few_joined}
+use Rattle.std.proofs.lemmas.Str.Ascii.{uppercase-uppercase}
 
 -- a text is read as what it spells
 pub spelled_is : (Form : List ℕ → Type 0) → IsForm Form → (spelled : List (List ℕ)) (text : List ℕ) → IsSpelled Form spelled text → qualifiers (capitals text) ≡ spelled
@@ -29,6 +30,17 @@ pattern_spelled text capital len parts (spelled, h) is kept read =
 
 pub text_is : (name : Dsn) (text : List ℕ) → name ≡ dsn_of text → text_of name ≡ capitals text
 text_is name text is = ap text_of is ∙ kept_text text
+
+-- ---- capitals stay
+
+pub capitals_again : (text : List ℕ) → capitals (capitals text) ≡ capitals text
+capitals_again [] = refl
+capitals_again (c ∷ text) =
+    let first = uppercase-uppercase c in
+    let rest = capitals_again text in cc
+
+pub same_text : (name : Dsn) → IsDsn name → capitals (text_of name) ≡ text_of name
+same_text name (text, right, is) = ap capitals (text_is name text is) ∙ capitals_again text ∙ sym (text_is name text is)
 
 pub name_short : (name : Dsn) (text : List ℕ) → IsDsn name → text ≡ text_of name → All (λ (q : List ℕ). length q ≤ 8) (qualifiers text)
 name_short name text (spelling, (spelled, h), is) at =

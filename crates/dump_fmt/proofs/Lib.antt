@@ -1,5 +1,5 @@
-pub mod Places
+mod Places
 pub mod Fronts
 pub mod Sizes
-pub mod Taken
-pub mod Written
+mod Taken
+mod Written

@@ -6,7 +6,6 @@ use Rattle.std.proofs.lemmas.List.Elements.{All-contains, Contains-push, filter-
 use Rattle.std.proofs.lemmas.List.Filters.{length-filter_both}
 use Rattle.std.proofs.lemmas.List.Sums.{sum_by-append}
 use Rattle.ckd_image.specs.declared.device.Device.{Device}
-use Rattle.ckd_image.specs.declared.device.Device.TheVariants.{D3390, D3380}
 use Rattle.ckd_image.specs.declared.track.TrackAt.{TrackAt}
 use Rattle.ckd_image.specs.declared.track.Rec.{Rec}
 use Rattle.ckd_image.specs.declared.track.Track.{Track as Text}
@@ -22,25 +21,22 @@ use Rattle.dump_fmt.specs.Front.{Front, Adds, IsFront, IsOfKind, IsCutSlot, all_
 use Rattle.dump_fmt.specs.Counting.{FitsCounts, AreCounted}
 use Rattle.dump_fmt.specs.Writing.{IsDue}
 use Rattle.dump_fmt.proofs.Fronts.{push_not_empty}
+use Rattle.ckd_image.proofs.Devices.{shorter_slot}
 
 -- ---- fields
 
-slot_short : (device : Device) → slot_of device ≤ 65535
-slot_short D3390 = omega arith
-slot_short D3380 = omega arith
-
-recs_short : (at : TrackAt) (recs : List Rec) → length recs ≤ length (records_text at recs)
+pub recs_short : (at : TrackAt) (recs : List Rec) → length recs ≤ length (records_text at recs)
 recs_short at [] = omega arith
 recs_short at (rec ∷ recs) = omega (arith, recs_short at recs, length-append (record_text at rec) (records_text at recs))
 
-few_records : (device : Device) (track : Text) → StandsOn device track → length track.recs ≤ 65535
+pub few_records : (device : Device) (track : Text) → StandsOn device track → length track.recs ≤ 65535
 few_records device track stands =
     let at : TrackAt = record { cylinder = 0; head = 0 } in
     let home = home_text at track.flag in
     let zero = zero_text at track.r0 in
     let records = records_text at track.recs in
     let short : length (((home ++ zero) ++ records) ++ end_mark) ≤ slot_of device = stands.short at in
-    let slot = slot_short device in
+    let slot = shorter_slot device in
     let some = recs_short at track.recs in
     omega (arith, some, short, slot, length-append ((home ++ zero) ++ records) end_mark, length-append (home ++ zero) records, length-append home zero)
 
@@ -56,7 +52,7 @@ slot_fits : (full : Bool) (head : DumpHead) (front next : Front) (bytes : List �
 slot_fits true head front next bytes is kind =
     let slots = subst (λ (f : Front). All (IsCutSlot head.device) f.slots) is kind.slots in
     let cut = All-contains (IsCutSlot head.device) (front.slots ++ bytes ∷ []) bytes slots (Contains-push front.slots bytes) in
-    omega (arith, cut.0, slot_short head.device)
+    omega (arith, cut.0, shorter_slot head.device)
 slot_fits false head front next bytes is kind = absurd (push_not_empty front.slots bytes (sym (ap (λ (f : Front). f.slots) is) ∙ kind.no_slots))
 
 pub fits_fields : (head : DumpHead) (front : Front) (piece : Piece) (next : Front) → Adds front piece next → IsFront head next → FitsFields piece

@@ -1,5 +1,5 @@
 -- What outputs take, piece after piece.
-use Rattle.std.proofs.Common.{◌≡◌, ◌≢◌, inl, inr, ℕ, ◌+◌, ◌-◌, ◌^◌, ◌<◌, ◌≤◌, List, ◌++◌, length, take, Option, Some, None, sym, ap, subst, ◌∙◌, arith, append_assoc, length-append, take_all}
+use Rattle.std.proofs.Common.{◌≡◌, ◌≢◌, inl, inr, ℕ, ◌+◌, ◌-◌, ◌^◌, ◌<◌, ◌≤◌, List, ◌++◌, length, take, Option, sym, ap, subst, ◌∙◌, arith, length-append}
 use Rattle.std.proofs.lemmas.List.{take-append-le}
 use Rattle.std.proofs.Math.Seq.{take-append-add}
 use Rattle.dasd_pool.specs.Count.{Rose}
@@ -7,20 +7,12 @@ use Rattle.dasd_pool.specs.Stream.{Appends, AppendsSome}
 use Rattle.dump_fmt.specs.declared.outs.OutState.{OutState}
 use Rattle.dump_fmt.specs.declared.outs.OutState.TheVariants as states
 use Rattle.dump_fmt.specs.Outs.{OutSeen, marked, HoldsAll, HoldsFront, HasTaken, IsSentTo, IsEnded, IsFinished}
+use Rattle.dasd_pool.proofs.Streams.{rose_since, appends_then, appends_some_then, all_some}
 
 -- ---- counts and bytes
 
 rose_later : (a m b : ℕ) → Rose a m → m ≤ b → Rose a b
 rose_later a m b rose later = λ short. let before : m < 2 ^ 64 - 1 = omega (arith, short, later) in omega (arith, rose before, later)
-
-later_rose : (a m b : ℕ) → a ≤ m → Rose m b → Rose a b
-later_rose a m b later rose = λ short. omega (arith, rose short, later)
-
-appends_both : (old mid new : Option (List ℕ)) (x y : List ℕ) → Appends old mid x → Appends mid new y → Appends old new (x ++ y)
-appends_both None mid new x y first then' = subst (λ (o : Option (List ℕ)). Appends o new y) first then'
-appends_both (Some old) mid new x y first then' =
-    let last : new ≡ Some ((old ++ x) ++ y) = subst (λ (o : Option (List ℕ)). Appends o new y) first then' in
-    last ∙ ap (λ (t : List ℕ). Some t) (append_assoc old x y)
 
 appends_same : (old new : Option (List ℕ)) (x y : List ℕ) → x ≡ y → Appends old new x → Appends old new y
 appends_same old new x y same took = subst (Appends old new) same took
@@ -31,15 +23,8 @@ take_left n x y within = take-append-le n x y within
 take_right : (n : ℕ) (x y : List ℕ) → take (length x + n) (x ++ y) ≡ x ++ take n y
 take_right n x y = take-append-add x y n
 
-some_after : (old mid new : Option (List ℕ)) (x y : List ℕ) → Appends old mid x → AppendsSome mid new y → AppendsSome old new (x ++ y)
-some_after old mid new x y first part =
-    (length x + part.0, omega (arith, part.1, length-append x y), appends_same old new (x ++ take part.0 y) _ (sym (take_right part.0 x y)) (appends_both old mid new x (take part.0 y) first part.2))
-
 some_more : (old new : Option (List ℕ)) (x y : List ℕ) → AppendsSome old new x → AppendsSome old new (x ++ y)
 some_more old new x y part = (part.0, omega (arith, part.1, length-append x y), appends_same old new (take part.0 x) _ (sym (take_left part.0 x y part.1)) part.2)
-
-some_all : (old new : Option (List ℕ)) (x : List ℕ) → Appends old new x → AppendsSome old new x
-some_all old new x took = (length x, omega arith, appends_same old new x _ (sym (take_all (length x) x (omega arith))) took)
 
 -- ---- outputs
 
@@ -54,15 +39,15 @@ sent_behind text piece a m b name all sent = elim sent.taken [
     taken = inl (record {
       state_is = more.state_is ∙ all.state_is;
       later = omega (arith, all.later, more.later);
-      took = appends_both a.held m.held b.held text piece all.took more.took;
+      took = appends_then a.held m.held b.held text piece all.took more.took;
     });
   }
   | inr lost ↦ record {
     name = sent.name ∙ name;
     taken = inr (record {
       state_is = lost.state_is;
-      cause = later_rose a.faults m.faults b.faults all.later lost.cause;
-      took = some_after a.held m.held b.held text piece all.took lost.took;
+      cause = rose_since a.faults m.faults b.faults all.later lost.cause;
+      took = appends_some_then a.held m.held b.held text piece all.took lost.took;
     });
   }
 ]
@@ -101,7 +86,7 @@ ended_on text a m b name all done =
       | inl whole ↦ record { name = done.name ∙ name; taken = inl (record { state_is = whole; later = omega (arith, all.later, done.later); took = took }) }
       | inr lost ↦ record {
         name = done.name ∙ name;
-        taken = inr (record { state_is = lost.0; cause = later_rose a.faults m.faults b.faults all.later lost.1; took = some_all a.held b.held text took });
+        taken = inr (record { state_is = lost.0; cause = rose_since a.faults m.faults b.faults all.later lost.1; took = all_some a.held b.held text took });
       }
     ]
 

@@ -3,25 +3,17 @@ use Rattle.std.proofs.Common.{ℕ, ◌+◌, ◌≤◌, Bool, true, false, if◌t
 use Rattle.std.specs.List.{flat_map, enumerate_from, AllByRecursion}
 use Rattle.std.proofs.lemmas.List.Elements.{recursion_from_All, All-nil, All-cons, All-append, All-map, All-weaker, All-push}
 use Rattle.ckd_image.specs.declared.device.Device.{Device}
-use Rattle.ckd_image.specs.declared.device.Device.TheVariants.{D3390, D3380}
 use Rattle.ckd_image.specs.declared.track.TrackAt.{TrackAt}
-use Rattle.ckd_image.specs.declared.track.Rec.{Rec}
 use Rattle.ckd_image.specs.declared.track.Track.{Track as Text}
 use Rattle.ckd_image.specs.Device.{slot_of}
-use Rattle.ckd_image.specs.Track.{record_text, records_text, home_text, zero_text, end_mark}
+use Rattle.ckd_image.specs.Track.{records_text, home_text, zero_text, end_mark}
 use Rattle.dump_fmt.specs.declared.piece.DumpHead.{DumpHead}
 use Rattle.dump_fmt.specs.declared.piece.Piece.TheVariants.{Part, Track, PartEnd, Dropped, Slot}
 use Rattle.dump_fmt.specs.Parts.{DumpPart, StandsOn, IsPart, is_whole, begun_pieces, part_pieces}
 use Rattle.dump_fmt.specs.Front.{Front, IsFront, IsOfKind, IsCutSlot, all_parts, front_pieces, current_pieces, slot_pieces}
 use Rattle.dump_read.proofs.Delimited.{IsBounded}
-
-slot_short : (device : Device) → slot_of device ≤ 65535
-slot_short D3390 = omega arith
-slot_short D3380 = omega arith
-
-recs_short : (at : TrackAt) (recs : List Rec) → length recs ≤ length (records_text at recs)
-recs_short at [] = omega arith
-recs_short at (rec ∷ recs) = omega (arith, recs_short at recs, length-append (record_text at rec) (records_text at recs))
+use Rattle.ckd_image.proofs.Devices.{shorter_slot}
+use Rattle.dump_fmt.proofs.Sizes.{recs_short}
 
 bounded_track : (device : Device) (track : Text) → StandsOn device track → IsBounded (Track track)
 bounded_track device track stands =
@@ -30,7 +22,7 @@ bounded_track device track stands =
     let zeros = zero_text at track.r0 in
     let records = records_text at track.recs in
     let short : length (((home ++ zeros) ++ records) ++ end_mark) ≤ slot_of device = stands.short at in
-    let slot = slot_short device in
+    let slot = shorter_slot device in
     let some = recs_short at track.recs in
     (stands.sound, omega (arith, some, short, slot, length-append ((home ++ zeros) ++ records) end_mark, length-append (home ++ zeros) records, length-append home zeros))
 
@@ -62,7 +54,7 @@ pub bounded_slots : (device : Device) (n : ℕ) (slots : List (List ℕ)) → n 
     → All IsBounded (map (λ slot. Slot slot.0 slot.1) (enumerate_from n slots))
 bounded_slots device n [] few is = All-nil IsBounded
 bounded_slots device n (slot ∷ slots) few is =
-    All-cons IsBounded (Slot n slot) (map (λ slot. Slot slot.0 slot.1) (enumerate_from (n + 1) slots)) (omega arith, (let a = is.0.0 in let b = slot_short device in omega arith))
+    All-cons IsBounded (Slot n slot) (map (λ slot. Slot slot.0 slot.1) (enumerate_from (n + 1) slots)) (omega arith, (let a = is.0.0 in let b = shorter_slot device in omega arith))
     (bounded_slots device (n + 1) slots (omega arith) is.1)
 
 pub bounded_kind : (full : Bool) (head : DumpHead) (front : Front) → head.tracks ≤ 65535 → IsOfKind full head front → All IsBounded (front_pieces front)

@@ -3,22 +3,11 @@ use Rattle.std.proofs.Common.{◌≡◌, ℕ, zero, suc, ◌+◌, ◌-◌, ◌�
 use Rattle.std.proofs.lemmas.List.{take-append-drop, length-take}
 use Rattle.ckd_image.specs.Bytes.{Begins}
 use Rattle.dump_read.specs.Fields.{GoesOn, IsFirstWrong, IsFieldFront}
+use Rattle.ckd_image.proofs.OneText.{split_same}
 
 pub none_is : (w : List ℕ) → length w ≡ 0 → w ≡ []
 none_is [] none = refl
 none_is (x ∷ w) none = absurd (omega arith)
-
--- texts of one length at the front are the same
-pub apart : (v w xs ys : List ℕ) → length v ≡ length w → v ++ xs ≡ w ++ ys → (v ≡ w) × (xs ≡ ys)
-apart [] [] xs ys same e = (refl, e)
-apart [] (y ∷ w) xs ys same e = absurd (omega arith)
-apart (x ∷ v) [] xs ys same e = absurd (omega arith)
-apart (x ∷ v) (y ∷ w) xs ys same e =
-    let tail : v ++ xs ≡ w ++ ys = cc in
-    let head : x ≡ y = cc in
-    let more = apart v w xs ys (omega arith) tail in
-    let first : v ≡ w = more.0 in
-    (cc, more.1)
 
 -- bytes no longer than the first text are a front of it
 pub within_first : (bytes v rest : List ℕ) → length bytes ≤ length v → Begins bytes (v ++ rest) → Begins bytes v
@@ -53,7 +42,7 @@ module _ {X : Type 0} (May : X → Type 0) (text : X → List ℕ) (Rest : X →
   pub then_only : (x : X) (xs : List ℕ) → May x → ((y : X) (r : List ℕ) → May y → text x ≡ text y → Rest y r → Rest x r)
       → GoesOn (Then May text Rest) (text x ++ xs) → GoesOn (Rest x) xs
   then_only x xs may agree (whole, is, (more, e)) =
-      let same = apart (text x) (text is.value) (xs ++ more) is.rest (long x may ∙ sym (long is.value is.may)) (sym (append_assoc (text x) xs more) ∙ sym e ∙ is.spelled) in
+      let same = split_same (text x) (text is.value) (xs ++ more) is.rest (long x may ∙ sym (long is.value is.may)) (sym (append_assoc (text x) xs more) ∙ sym e ∙ is.spelled) in
       (is.rest, agree is.value is.rest is.may same.0 is.behind, (more, sym same.1))
 
   -- the front of the field alone

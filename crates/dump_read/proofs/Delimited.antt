@@ -12,8 +12,8 @@ use Rattle.ckd_image.proofs.Texts.{SelfDelimiting, texts_split}
 use Rattle.dump_fmt.specs.declared.piece.Piece.{Piece}
 use Rattle.dump_fmt.specs.declared.piece.Piece.TheVariants.{Part, Track, PartEnd, Dropped, Slot}
 use Rattle.dump_fmt.specs.Pieces.{dumped_record, dumped_records, dumped_track, piece_text, pieces_text}
-use Rattle.dump_read.proofs.Chains.{apart}
 use Rattle.dump_read.proofs.Numbers.{one_number}
+use Rattle.ckd_image.proofs.OneText.{split_same, same_record}
 
 -- the numbers of a piece fit their bytes, and what has a fixed length has it
 abbrev pub IsBounded : Piece → Type 0
@@ -31,12 +31,6 @@ two_bytes m n few less e =
     let low : m % 256 ≡ n % 256 = cc in
     omega arith
 
-same_record : (a b : Rec) → a.r ≡ b.r → a.key ≡ b.key → a.body ≡ b.body → a ≡ b
-same_record a b p q r =
-    let r-is : a ≡ record { r = b.r; key = a.key; body = a.body } = ap (λ (t : ℕ). record { r = t; key = a.key; body = a.body }) p in
-    let key-is : record { r = b.r; key = a.key; body = a.body } ≡ record { r = b.r; key = b.key; body = a.body } = ap (λ (t : List ℕ). record { r = b.r; key = t; body = a.body }) q in
-    r-is ∙ key-is ∙ ap (λ (t : List ℕ). record { r = b.r; key = b.key; body = t }) r
-
 pub record_apart : (a b : Rec) (x y : List ℕ) → IsRecord a → IsRecord b → dumped_record a ++ x ≡ dumped_record b ++ y → (a ≡ b) × (x ≡ y)
 record_apart a b x y p q e =
     let number : a.r ≡ b.r = cc in
@@ -47,8 +41,8 @@ record_apart a b x y p q e =
     let other = q.body_fits in
     let bodies : length a.body ≡ length b.body = omega arith in
     let tails : (a.key ++ a.body) ++ x ≡ (b.key ++ b.body) ++ y = cc in
-    let k = apart a.key b.key (a.body ++ x) (b.body ++ y) keys (sym (append_assoc a.key a.body x) ∙ tails ∙ append_assoc b.key b.body y) in
-    let d = apart a.body b.body x y bodies k.1 in
+    let k = split_same a.key b.key (a.body ++ x) (b.body ++ y) keys (sym (append_assoc a.key a.body x) ∙ tails ∙ append_assoc b.key b.body y) in
+    let d = split_same a.body b.body x y bodies k.1 in
     (same_record a b number k.0 d.0, d.1)
 
 -- as many records of each
@@ -76,9 +70,9 @@ track_apart : (a b : Text) (x y : List ℕ) → IsTrack a → IsTrack b → leng
 track_apart a b x y p q few less e =
     let flags : a.flag ≡ b.flag = cc in
     let tails : (a.r0 ++ (big_bytes 2 (length a.recs) ++ dumped_records a.recs)) ++ x ≡ (b.r0 ++ (big_bytes 2 (length b.recs) ++ dumped_records b.recs)) ++ y = cc in
-    let zeros = apart a.r0 b.r0 ((big_bytes 2 (length a.recs) ++ dumped_records a.recs) ++ x) ((big_bytes 2 (length b.recs) ++ dumped_records b.recs) ++ y) (p.zero ∙ sym q.zero)
+    let zeros = split_same a.r0 b.r0 ((big_bytes 2 (length a.recs) ++ dumped_records a.recs) ++ x) ((big_bytes 2 (length b.recs) ++ dumped_records b.recs) ++ y) (p.zero ∙ sym q.zero)
     (sym (append_assoc a.r0 _ x) ∙ tails ∙ append_assoc b.r0 _ y) in
-    let counts = apart (big_bytes 2 (length a.recs)) (big_bytes 2 (length b.recs)) (dumped_records a.recs ++ x) (dumped_records b.recs ++ y) refl zeros.1 in
+    let counts = split_same (big_bytes 2 (length a.recs)) (big_bytes 2 (length b.recs)) (dumped_records a.recs ++ x) (dumped_records b.recs ++ y) refl zeros.1 in
     let recs = records_apart a.recs b.recs x y (recursion_from_All IsRecord a.recs p.records) (recursion_from_All IsRecord b.recs q.records) (two_bytes (length a.recs) (length b.recs) few less counts.0) counts.1 in
     (same_track a b flags zeros.0 recs.0, recs.1)
 
@@ -91,8 +85,8 @@ part_apart : (f1 f2 : List ℕ) (tracks tracks2 kind kind2 : ℕ) (x y : List �
     → piece_text (Part f1 tracks kind) ++ x ≡ piece_text (Part f2 tracks2 kind2) ++ y → (Part f1 tracks kind ≡ Part f2 tracks2 kind2) × (x ≡ y)
 part_apart f1 f2 tracks tracks2 kind kind2 x y p q e =
     let tails : (f1 ++ (big_bytes 4 tracks ++ (kind ∷ []))) ++ x ≡ (f2 ++ (big_bytes 4 tracks2 ++ (kind2 ∷ []))) ++ y = cc in
-    let first = apart f1 f2 (big_bytes 4 tracks ++ (kind ∷ x)) (big_bytes 4 tracks2 ++ (kind2 ∷ y)) (p.0 ∙ sym q.0) (sym (append_assoc f1 _ x) ∙ tails ∙ append_assoc f2 _ y) in
-    let second = apart (big_bytes 4 tracks) (big_bytes 4 tracks2) (kind ∷ x) (kind2 ∷ y) refl first.1 in
+    let first = split_same f1 f2 (big_bytes 4 tracks ++ (kind ∷ x)) (big_bytes 4 tracks2 ++ (kind2 ∷ y)) (p.0 ∙ sym q.0) (sym (append_assoc f1 _ x) ∙ tails ∙ append_assoc f2 _ y) in
+    let second = split_same (big_bytes 4 tracks) (big_bytes 4 tracks2) (kind ∷ x) (kind2 ∷ y) refl first.1 in
     let f-is : f1 ≡ f2 = first.0 in
     let t-is : tracks ≡ tracks2 = one_number tracks tracks2 p.1 q.1 second.0 in
     let last : kind ∷ x ≡ kind2 ∷ y = second.1 in
@@ -104,11 +98,11 @@ slot_apart : (number number2 : ℕ) (bytes bytes2 x y : List ℕ) → IsBounded 
     → piece_text (Slot number bytes) ++ x ≡ piece_text (Slot number2 bytes2) ++ y → (Slot number bytes ≡ Slot number2 bytes2) × (x ≡ y)
 slot_apart number number2 bytes bytes2 x y p q e =
     let tails : big_bytes 4 number ++ (big_bytes 4 (length bytes) ++ (bytes ++ x)) ≡ big_bytes 4 number2 ++ (big_bytes 4 (length bytes2) ++ (bytes2 ++ y)) = cc in
-    let first = apart (big_bytes 4 number) (big_bytes 4 number2) _ _ refl tails in
-    let second = apart (big_bytes 4 (length bytes)) (big_bytes 4 (length bytes2)) _ _ refl first.1 in
+    let first = split_same (big_bytes 4 number) (big_bytes 4 number2) _ _ refl tails in
+    let second = split_same (big_bytes 4 (length bytes)) (big_bytes 4 (length bytes2)) _ _ refl first.1 in
     let n-is : number ≡ number2 = one_number number number2 p.0 q.0 first.0 in
     let long : length bytes ≡ length bytes2 = one_number (length bytes) (length bytes2) p.1 q.1 second.0 in
-    let third = apart bytes bytes2 x y long second.1 in
+    let third = split_same bytes bytes2 x y long second.1 in
     let b-is : bytes ≡ bytes2 = third.0 in
     (cc, third.1)
 

@@ -18,7 +18,8 @@ use Rattle.dump_read.specs.Reading.{HasRead, HasCome, HeldSuch}
 use Rattle.dump_read.specs.Ending.{both_counts, right_digest, count_fault, IsEnd, IsCountStop, IsFixedStop, IsEndFault, IsBadCount, IsMoreBehind, IsShortEnd, HasDigest}
 use Rattle.dump_read.proofs.Chains.{Then, wrong_here, wrong_behind, cut_behind, field_goes, wrong_as, goes_as, wrong_with}
 use Rattle.dump_read.proofs.Words.{whole_front}
-use Rattle.dump_read.proofs.Fed.{takes_more, read_more}
+use Rattle.dump_read.proofs.Fed.{read_more}
+use Rattle.dasd_pool.proofs.Streams.{takes_then}
 
 -- ---- the counts
 
@@ -108,7 +109,7 @@ pub come_more : (old new : TapeSeen) (before after : Feed) (bytes buf : List ℕ
     → Takes (coming before.window old.left) (coming after.window new.left) (take count buf) → after.offset ≡ min (before.offset + count) largest_offset → HasCome new after (bytes ++ take count buf)
 come_more old new before after bytes buf count is same within took offset = record {
   taken = subst (λ (h : Option (List ℕ)). Takes h (coming after.window new.left) (bytes ++ take count buf)) (sym same)
-      (takes_more old.held (coming before.window old.left) (coming after.window new.left) bytes (take count buf) is.taken took);
+      (takes_then old.held (coming before.window old.left) (coming after.window new.left) bytes (take count buf) is.taken took);
   offset =
       let len : length (take count buf) ≡ count = length-take count buf ∙ (let e : min count (length buf) ≡ count = omega arith in e) in
       let a = is.offset in

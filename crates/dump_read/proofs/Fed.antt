@@ -12,6 +12,7 @@ use Rattle.dump_read.specs.Tape.{TapeSeen}
 use Rattle.dump_read.specs.Feed.{coming, largest_offset}
 use Rattle.dump_read.specs.Reading.{HasRead, HeldSuch}
 use Rattle.dump_read.proofs.Words.{whole_front}
+use Rattle.dasd_pool.proofs.Streams.{takes_then}
 
 takes_none : (held left : Option (List ℕ)) → held ≡ left → Takes held (coming [] left) []
 takes_none None left same = subst (λ (o : Option (List ℕ)). coming [] o ≡ None) same refl
@@ -29,16 +30,12 @@ takes_behind old new bytes piece left whole is there took =
     let more : Takes (Some left) new piece = subst (λ (o : Option (List ℕ)). Takes o new piece) there took in
     (more.0, more.1, is ∙ ap (λ (t : List ℕ). bytes ++ t) more.2 ∙ sym (append_assoc bytes piece more.0))
 
-pub takes_more : (held old new : Option (List ℕ)) (bytes piece : List ℕ) → Takes held old bytes → Takes old new piece → Takes held new (bytes ++ piece)
-takes_more None old new bytes piece first then' = subst (λ (o : Option (List ℕ)). Takes o new piece) first then'
-takes_more (Some whole) old new bytes piece first then' = takes_behind old new bytes piece first.0 whole first.2 first.1 then'
-
 pub read_more : (old new : TapeSeen) (before after : Feed) (bytes piece : List ℕ) → HasRead old before bytes → new.held ≡ old.held
     → Takes (coming before.window old.left) (coming after.window new.left) piece → after.offset ≡ min (before.offset + length piece) largest_offset
     → ((message : List ℕ) → Holds256 before.digest message → Holds256 after.digest (message ++ piece)) → HasRead new after (bytes ++ piece)
 read_more old new before after bytes piece is same took offset holds = record {
   taken = subst (λ (h : Option (List ℕ)). Takes h (coming after.window new.left) (bytes ++ piece)) (sym same)
-      (takes_more old.held (coming before.window old.left) (coming after.window new.left) bytes piece is.taken took);
+      (takes_then old.held (coming before.window old.left) (coming after.window new.left) bytes piece is.taken took);
   offset = let a = is.offset in let b = length-append bytes piece in omega arith;
   digest = holds bytes is.digest;
 }

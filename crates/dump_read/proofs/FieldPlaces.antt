@@ -17,12 +17,12 @@ use Rattle.dump_read.specs.Faults.{why_of, IsFieldAt}
 use Rattle.dump_read.specs.PartText as parts
 use Rattle.dump_read.specs.SlotText as slots
 use Rattle.dump_read.specs.TrackText as tracks
-use Rattle.dump_read.proofs.Chains.{apart}
 use Rattle.dump_read.proofs.Delimited.{IsBounded}
 use Rattle.dump_read.proofs.Languages.{part_is, track_is, slot_is}
 use Rattle.dump_read.proofs.Lifted.{first_byte}
 use Rattle.dump_read.proofs.Numbers.{one_number}
 use Rattle.dump_read.proofs.TrackPlaces.{field_place, one_field_place, place_in_track}
+use Rattle.ckd_image.proofs.OneText.{split_same}
 
 -- ---- a field is one of the piece that stands there
 
@@ -76,8 +76,8 @@ module _ (piece : Piece) (rest behind : List ℕ) (bound : IsBounded piece) (e :
       by n bytes fits same left long slot_fields.Length has = omega (arith, long, has)
       by n bytes fits same left long slot_fields.Bytes (few, (more, there)) =
           let numbers : big_bytes 4 n ++ (big_bytes 4 (length bytes) ++ (bytes ++ behind)) ≡ big_bytes 4 number ++ (big_bytes 4 count ++ more) = sym left ∙ there in
-          let first = apart (big_bytes 4 n) (big_bytes 4 number) (big_bytes 4 (length bytes) ++ (bytes ++ behind)) (big_bytes 4 count ++ more) refl numbers in
-          let second = apart (big_bytes 4 (length bytes)) (big_bytes 4 count) (bytes ++ behind) more refl first.1 in
+          let first = split_same (big_bytes 4 n) (big_bytes 4 number) (big_bytes 4 (length bytes) ++ (bytes ++ behind)) (big_bytes 4 count ++ more) refl numbers in
+          let second = split_same (big_bytes 4 (length bytes)) (big_bytes 4 count) (bytes ++ behind) more refl first.1 in
           omega (arith, long, one_number (length bytes) count fits.1 (omega (arith, few)) second.0)
 
   no_end : ¬ Begins (0x5A ∷ []) rest

@@ -30,7 +30,6 @@ use Rattle.dump_read.specs.SlotText.{slot_text, IsSlotText}
 use Rattle.dump_read.specs.Standing.{StandsAt, last_name}
 use Rattle.dump_read.specs.TrackText.{IsTrackBytes}
 use Rattle.dump_read.proofs.Allowed.{track_lacks}
-use Rattle.dump_read.proofs.Chains.{apart}
 use Rattle.dump_read.proofs.Counts.{tracks_in, all_none}
 use Rattle.dump_read.proofs.Delimited.{pieces_delimited}
 use Rattle.dump_read.proofs.Going.{not_full, logical, logical_by, of_logical, slots_by, of_slots, last_is}
@@ -41,8 +40,10 @@ use Rattle.dump_read.proofs.OnWay.{Precedes}
 use Rattle.dump_read.proofs.Ordered.{behind_each, last_behind}
 use Rattle.dump_read.proofs.Shapes.{fronts_go_on, pieces_stand_behind, shapes_go_on}
 use Rattle.dump_read.proofs.StandingAt.{under_of}
-use Rattle.dump_read.proofs.TrackTop.{slot_bounds, records_of}
+use Rattle.dump_read.proofs.TrackTop.{slot_bounds}
 use Rattle.dump_read.proofs.Words.{whole_front}
+use Rattle.ckd_image.proofs.OneText.{split_same}
+use Rattle.dump_fmt.proofs.Sizes.{few_records}
 
 -- ---- what a mark says of the piece
 
@@ -201,8 +202,8 @@ part_long before text is = omega (arith, ap length is.spelled, length-append is.
 pub part_adds : (head : DumpHead) (front : Front) (standing : Standing) (f1 : List ℕ) (tracks kind : ℕ) → IsGoing head front → StandsAt head front standing → MayBegin head front (byte_of marks.Part)
     → IsPartText standing.name (f1 ++ (big_bytes 4 tracks ++ (kind ∷ []))) → length f1 ≡ 140 → tracks < 2 ^ 32 → IsGoing head (with_current front (Some (begun f1 tracks kind)))
 part_adds head front standing f1 tracks kind going stands may is long small =
-    let first = apart f1 is.f1 (big_bytes 4 tracks ++ (kind ∷ [])) (big_bytes 4 is.tracks ++ (is.kind ∷ [])) (long ∙ sym is.placeless.long) is.spelled in
-    let second = apart (big_bytes 4 tracks) (big_bytes 4 is.tracks) (kind ∷ []) (is.kind ∷ []) refl first.1 in
+    let first = split_same f1 is.f1 (big_bytes 4 tracks ++ (kind ∷ [])) (big_bytes 4 is.tracks ++ (is.kind ∷ [])) (long ∙ sym is.placeless.long) is.spelled in
+    let second = split_same (big_bytes 4 tracks) (big_bytes 4 is.tracks) (kind ∷ []) (is.kind ∷ []) refl first.1 in
     let number : tracks ≡ is.tracks = one_number tracks is.tracks small (omega (arith, is.few)) second.0 in
     let last : kind ∷ [] ≡ is.kind ∷ [] = second.1 in
     let same : kind ≡ is.kind = cc in
@@ -280,12 +281,6 @@ track_comes head front going shape rest some e = elim (shapes_go_on head front s
       let (track, adds, begins) = track_of front goes.next goes.piece rest goes.adds goes.begins in
       (dumped_track track, track_piece head front goes.next track adds goes.going, begins)
 ]
-
-few_records : (device : Device) (track : Text) → StandsOn device track → length track.recs ≤ 65535
-few_records device track on =
-    let bounds = slot_bounds device in
-    let records = records_of device (slot_of device - 29) track (omega (arith, bounds.0)) on in
-    omega (arith, records.0, bounds.1)
 
 pub track_apart : (device : Device) (a b : List ℕ) → IsTrackBytes device a → IsTrackBytes device b → Begins a b → a ≡ b
 track_apart device a b (first, on, is) (second, also, there) (more, e) =
@@ -372,8 +367,8 @@ slot_long number bytes = omega arith
 pub slots_long : (device : Device) (number count : ℕ) (bytes rest : List ℕ) → length bytes ≤ slot_of device → count < 2 ^ 32 → slot_text number bytes ≡ big_bytes 4 number ++ (big_bytes 4 count ++ rest)
     → length bytes ≡ count
 slots_long device number count bytes rest few small e =
-    let first = apart (big_bytes 4 number) (big_bytes 4 number) (big_bytes 4 (length bytes) ++ bytes) (big_bytes 4 count ++ rest) refl e in
-    let second = apart (big_bytes 4 (length bytes)) (big_bytes 4 count) bytes rest refl first.1 in
+    let first = split_same (big_bytes 4 number) (big_bytes 4 number) (big_bytes 4 (length bytes) ++ bytes) (big_bytes 4 count ++ rest) refl e in
+    let second = split_same (big_bytes 4 (length bytes)) (big_bytes 4 count) bytes rest refl first.1 in
     one_number (length bytes) count (omega (arith, few, (slot_bounds device).1)) small second.0
 
 pub slots_apart : (device : Device) (number : ℕ) (a b : List ℕ) → IsSlotText device number a → IsSlotText device number b → Begins a b → a ≡ b

@@ -3,7 +3,8 @@ use Rattle.std.proofs.Common.{◌≡◌, ℕ, ◌+◌, ◌<◌, List, ◌++◌, 
 use Rattle.ckd_image.specs.Bytes.{Begins}
 use Rattle.dump_read.specs.Fields.{GoesOn, IsFirstWrong}
 use Rattle.dump_read.specs.TrackFields.{IsCut}
-use Rattle.dump_read.proofs.Chains.{Then, apart, front_of_more, behind_front}
+use Rattle.dump_read.proofs.Chains.{Then, front_of_more, behind_front}
+use Rattle.ckd_image.proofs.OneText.{split_same}
 
 -- these texts stand behind this front, and no others
 pub record Leaves (Is : List ℕ → Type 0) (front : List ℕ) (Rest : List ℕ → Type 0) : Type 0 where
@@ -52,7 +53,7 @@ module _ {X : Type 0} (May : X → Type 0) (text : X → List ℕ) (Rest : X →
   leaves_field x may agree = record {
     on = λ t is. record { value = x; may = may; rest = t; behind = is; spelled = refl };
     only = λ t is.
-        let same = apart (text x) (text is.value) t is.rest (long x may ∙ sym (long is.value is.may)) is.spelled in
+        let same = split_same (text x) (text is.value) t is.rest (long x may ∙ sym (long is.value is.may)) is.spelled in
         subst (Rest x) (sym same.1) (agree is.value is.rest is.may same.0 is.behind);
   }
 

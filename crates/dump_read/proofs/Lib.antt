@@ -1,26 +1,26 @@
 pub mod Chains
 pub mod Numbers
-pub mod Serials
+mod Serials
 pub mod Words
-pub mod Headers
-pub mod Stopping
+mod Headers
+mod Stopping
 pub mod Fed
 pub mod Delimited
 pub mod Bounds
-pub mod OneDump
-pub mod Ends
+mod OneDump
+mod Ends
 pub mod Names
-pub mod PartFields
+mod PartFields
 pub mod PartChain
-pub mod PartStops
+mod PartStops
 pub mod Shapes
 pub mod Leaves
-pub mod TrackChain
+mod TrackChain
 pub mod TrackRecords
 pub mod TrackTop
-pub mod Windows
-pub mod Slots
-pub mod Labels
+mod Windows
+mod Slots
+mod Labels
 pub mod Counts
 pub mod Going
 pub mod Stages
@@ -30,21 +30,21 @@ pub mod Ordered
 pub mod More
 pub mod Allowed
 pub mod Lifted
-pub mod Reaches
+mod Reaches
 pub mod Languages
-pub mod LiftedHeads
+mod LiftedHeads
 pub mod Ahead
-pub mod PartEnds
-pub mod Beginning
-pub mod Marking
-pub mod ReadParts
-pub mod ReadSlots
-pub mod ReadEnds
+mod PartEnds
+mod Beginning
+mod Marking
+mod ReadParts
+mod ReadSlots
+mod ReadEnds
 pub mod ReadAll
-pub mod OneFront
-pub mod Lacking
-pub mod Faulted
-pub mod TrackPlaces
-pub mod FieldPlaces
-pub mod NothingWrong
-pub mod OneWrong
+mod OneFront
+mod Lacking
+mod Faulted
+mod TrackPlaces
+mod FieldPlaces
+mod NothingWrong
+mod OneWrong

@@ -21,11 +21,11 @@ use Rattle.dump_read.specs.FaultLaws.{NothingIsWrong}
 use Rattle.dump_read.specs.Faults.{HasOtherDigest, IsDumpFault}
 use Rattle.dump_read.specs.Fields.{GoesOn}
 use Rattle.dump_read.specs.Shape.{IsOfShape, HasByteName, IsShape, IsSomeShape}
-use Rattle.dump_read.proofs.Chains.{apart}
 use Rattle.dump_read.proofs.Counts.{all_none, front_all}
 use Rattle.dump_read.proofs.Faulted.{HasEnded, ended_by, wrong_none, more_none, not_short, piece_behind, no_piece_ended}
 use Rattle.dump_read.proofs.OneFront.{are_slots}
 use Rattle.dump_read.proofs.Stages.{end_piece}
+use Rattle.ckd_image.proofs.OneText.{split_same}
 
 -- ---- a dump is a shape
 
@@ -88,7 +88,7 @@ dump_shape whole head front is bytes =
 
 -- of one shape the digest is that which it is
 pub same_digest : (one other kept found : List ℕ) → length kept ≡ 32 → length found ≡ 32 → one ++ kept ≡ other ++ found → (one ≡ other) × (kept ≡ found)
-same_digest one other kept found long right e = apart one other kept found (omega (arith, ap length e, length-append one kept, length-append other found, long, right)) e
+same_digest one other kept found long right e = split_same one other kept found (omega (arith, ap length e, length-append one kept, length-append other found, long, right)) e
 
 right_digest : (whole : List ℕ) (head other : DumpHead) (front last : Front) (kept found : List ℕ) → IsShape head front (sha256 (digested_text head front)) whole → HasOtherDigest other last kept found whole → kept ≡ found
 right_digest whole head other front last kept found is has =

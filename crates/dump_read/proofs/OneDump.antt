@@ -9,10 +9,10 @@ use Rattle.dump_fmt.specs.Pieces.{pieces_text}
 use Rattle.dump_fmt.specs.Front.{Front, front_pieces}
 use Rattle.dump_fmt.specs.Text.{front_text, counts_text, digested_text, dump_text, IsDumpText}
 use Rattle.dump_read.specs.DumpLaws.{NoneBeginsAnother, OnePieces}
-use Rattle.dump_read.proofs.Chains.{apart}
 use Rattle.dump_read.proofs.Fed.{long_header}
 use Rattle.dump_read.proofs.Delimited.{pieces_split}
 use Rattle.dump_read.proofs.Bounds.{bounded}
+use Rattle.ckd_image.proofs.OneText.{split_same}
 
 -- the parts of a dump text, one behind the other
 in_parts : (head : DumpHead) (front : Front) (more : List ℕ)
@@ -35,12 +35,12 @@ same_dumps head other front behind more text another is also e =
     let digest : List ℕ = sha256 (digested_text head front) in
     let second : List ℕ = sha256 (digested_text other behind) in
     let spelled = sym (in_parts head front more) ∙ whole ∙ in_parts other behind [] in
-    let headers = apart (header_text head) (header_text other) (pieces_text (front_pieces front) ++ (counts_text front ++ (digest ++ more)))
+    let headers = split_same (header_text head) (header_text other) (pieces_text (front_pieces front) ++ (counts_text front ++ (digest ++ more)))
     (pieces_text (front_pieces behind) ++ (counts_text behind ++ (second ++ [])))
     (long_header head is.sound.is_front.header ∙ sym (long_header other also.sound.is_front.header)) spelled in
     let pieces = pieces_split (front_pieces front) (front_pieces behind) (counts_text front ++ (digest ++ more)) (counts_text behind ++ (second ++ [])) (bounded head front is.sound.is_front)
     (bounded other behind also.sound.is_front) (_, refl) (_, refl) headers.1 in
-    let counts = apart (counts_text front) (counts_text behind) (digest ++ more) (second ++ []) refl pieces.1 in
+    let counts = split_same (counts_text front) (counts_text behind) (digest ++ more) (second ++ []) refl pieces.1 in
     let digested : digested_text head front ≡ digested_text other behind =
     ap (λ (t : List ℕ). (t ++ pieces_text (front_pieces front)) ++ counts_text front) headers.0
     ∙ ap (λ (p : List Piece). (header_text other ++ pieces_text p) ++ counts_text front) pieces.0

@@ -16,7 +16,6 @@ use Rattle.dump_fmt.specs.Text.{front_text, counts_text}
 use Rattle.dump_fmt.proofs.Fronts.{pieces_more}
 use Rattle.dump_read.specs.Shape.{AreSlots, IsShapeFront, IsGoing, MayEndPart, HasByteName, MayClose, IsSomeShape}
 use Rattle.dump_read.proofs.Bounds as bounds
-use Rattle.dump_read.proofs.Chains.{apart}
 use Rattle.dump_read.proofs.Counts.{all_none}
 use Rattle.dump_read.proofs.Delimited.{IsBounded, pieces_delimited, no_trailer}
 use Rattle.dump_read.proofs.Fed.{long_header}
@@ -25,6 +24,7 @@ use Rattle.dump_read.proofs.Numbers.{one_number}
 use Rattle.dump_read.proofs.OnWay.{between, within}
 use Rattle.dump_read.proofs.Shapes.{in_parts, alike, front_alike, closes_alike, pieces_of_parts, bounded, no_slots_by, fronts_go_on, shapes_go_on}
 use Rattle.dump_read.proofs.Stages.{StandsBehind, pieces_front, on_way}
+use Rattle.ckd_image.proofs.OneText.{split_same}
 
 -- ---- headers of one text
 
@@ -36,11 +36,11 @@ vtoc_small false tracks vtoc few is = omega (arith, is)
 pub same_vtoc : (head other : DumpHead) → IsDumpHead head → IsDumpHead other → header_text head ≡ header_text other → head.vtoc ≡ other.vtoc
 same_vtoc head other sound right e =
     let volume : (h : DumpHead) → IsDumpHead h → length (volume_text h) ≡ 20 = λ h is. omega (arith, is.serial.1.six, length-append h.serial.text (big_bytes 4 h.tracks)) in
-    let days = apart (volume_text head) (volume_text other) (day_text head) (day_text other) (volume head sound ∙ sym (volume other right)) e in
-    let years = apart (big_bytes 2 head.day.year) (big_bytes 2 other.day.year) (big_bytes 2 head.day.day ++ (big_bytes 4 head.vtoc ++ replicate 4 0))
+    let days = split_same (volume_text head) (volume_text other) (day_text head) (day_text other) (volume head sound ∙ sym (volume other right)) e in
+    let years = split_same (big_bytes 2 head.day.year) (big_bytes 2 other.day.year) (big_bytes 2 head.day.day ++ (big_bytes 4 head.vtoc ++ replicate 4 0))
     (big_bytes 2 other.day.day ++ (big_bytes 4 other.vtoc ++ replicate 4 0)) refl days.1 in
-    let day = apart (big_bytes 2 head.day.day) (big_bytes 2 other.day.day) (big_bytes 4 head.vtoc ++ replicate 4 0) (big_bytes 4 other.vtoc ++ replicate 4 0) refl years.1 in
-    let vtocs = apart (big_bytes 4 head.vtoc) (big_bytes 4 other.vtoc) (replicate 4 0) (replicate 4 0) refl day.1 in
+    let day = split_same (big_bytes 2 head.day.day) (big_bytes 2 other.day.day) (big_bytes 4 head.vtoc ++ replicate 4 0) (big_bytes 4 other.vtoc ++ replicate 4 0) refl years.1 in
+    let vtocs = split_same (big_bytes 4 head.vtoc) (big_bytes 4 other.vtoc) (replicate 4 0) (replicate 4 0) refl day.1 in
     one_number head.vtoc other.vtoc (vtoc_small head.full head.tracks head.vtoc sound.tracks.1 sound.vtoc) (vtoc_small other.full other.tracks other.vtoc right.tracks.1 right.vtoc) vtocs.0
 
 -- ---- the front of a dump with which a shape begins is going
@@ -90,7 +90,7 @@ pub front_going : (head : DumpHead) (front : Front) (shape rest : List ℕ) → 
 front_going head front shape rest is (other, last, digest, whole) e =
     let end : List ℕ = counts_text last ++ digest in
     let spelled = sym (append_assoc (header_text head) (pieces_text (front_pieces front)) rest) ∙ sym e ∙ whole.spelled ∙ in_parts other last digest in
-    let headers = apart (header_text head) (header_text other) (pieces_text (front_pieces front) ++ rest) (pieces_text (front_pieces last) ++ end)
+    let headers = split_same (header_text head) (header_text other) (pieces_text (front_pieces front) ++ rest) (pieces_text (front_pieces last) ++ end)
     (long_header head is.header ∙ sym (long_header other whole.is_front.header)) spelled in
     let same = alike head other is.header whole.is_front.header headers.0 in
     let before = pieces_front (front_pieces front) (front_pieces last) rest end (bounds.bounded head front is) (bounded other last whole.is_front) (_, refl) headers.1 in
@@ -180,7 +180,7 @@ pub two_fronts : (whole : List ℕ) (head other : DumpHead) (front last : Front)
     → whole ≡ front_text head front ++ rest → whole ≡ front_text other last ++ end → AreFronts head other front last rest end
 two_fronts whole head other front last rest end going on e f =
     let spelled = sym (append_assoc (header_text head) (pieces_text (front_pieces front)) rest) ∙ sym e ∙ f ∙ append_assoc (header_text other) (pieces_text (front_pieces last)) end in
-    let headers = apart (header_text head) (header_text other) (pieces_text (front_pieces front) ++ rest) (pieces_text (front_pieces last) ++ end)
+    let headers = split_same (header_text head) (header_text other) (pieces_text (front_pieces front) ++ rest) (pieces_text (front_pieces last) ++ end)
     (long_header head going.is_front.header ∙ sym (long_header other on.is_front.header)) spelled in
     record {
       headers = headers.0;

@@ -22,11 +22,11 @@ use Rattle.dump_read.specs.PartText.{IsPartText}
 use Rattle.dump_read.specs.SlotText.{slot_text, IsSlotText, HasLength, place_of}
 use Rattle.dump_read.specs.TrackFields.{size_of}
 use Rattle.dump_read.specs.TrackText.{IsTrackBytes, EndsAtRecord, IsFieldBehind, length_of}
-use Rattle.dump_read.proofs.Chains.{apart}
 use Rattle.dump_read.proofs.Delimited.{two_bytes, record_apart}
 use Rattle.dump_read.proofs.Languages.{part_long, slot_long, slots_long, end_long}
 use Rattle.dump_read.proofs.Lifted.{Reaches}
 use Rattle.dump_read.proofs.TrackTop.{slot_bounds, records_of}
+use Rattle.ckd_image.proofs.OneText.{split_same}
 
 -- ---- parts and ends have one length
 
@@ -93,8 +93,8 @@ record_more device front text is (track, on, spelled) (more, e) =
     let counted : List ℕ = big_bytes 2 (length track.recs) ++ dumped_records track.recs in
     let whole : track.flag ∷ (track.r0 ++ counted) ≡ is.flag ∷ ((is.r0 ++ behind) ++ more) = sym spelled ∙ e ∙ ap (λ (t : List ℕ). t ++ more) is.spelled in
     let tails : track.r0 ++ counted ≡ (is.r0 ++ behind) ++ more = cc in
-    let zeros = apart track.r0 is.r0 counted (behind ++ more) (on.sound.zero ∙ sym is.zero) (tails ∙ append_assoc is.r0 behind more) in
-    let counts = apart (big_bytes 2 (length track.recs)) (big_bytes 2 is.count) (dumped_records track.recs) (dumped_records is.recs ++ more) refl
+    let zeros = split_same track.r0 is.r0 counted (behind ++ more) (on.sound.zero ∙ sym is.zero) (tails ∙ append_assoc is.r0 behind more) in
+    let counts = split_same (big_bytes 2 (length track.recs)) (big_bytes 2 is.count) (dumped_records track.recs) (dumped_records is.recs ++ more) refl
     (zeros.1 ∙ append_assoc (big_bytes 2 is.count) (dumped_records is.recs) more) in
     let same : length track.recs ≡ is.count = two_bytes (length track.recs) is.count few.0 is.few counts.0 in
     let inner = one_record_more is.recs track.recs more (recursion_from_All IsRecord track.recs on.sound.records) (omega (arith, is.more, same)) few.1 counts.1 in

@@ -22,7 +22,7 @@ use Rattle.dump_fmt.specs.Front.{Front, Adds, front_pieces, current_pieces, slot
 use Rattle.dump_fmt.specs.Text.{front_text, counts_text, digested_text}
 use Rattle.dump_fmt.proofs.Fronts.{HasNoSlots, push_not_empty, pieces_more}
 use Rattle.dump_read.specs.Shape.{IsOfShape, AreSlots, IsShapeFront, IsGoing, MayClose, GoesWithPiece, GoesWithEnd, FrontsGoOn, PiecesStandBehind, ShapesGoOn, NoShapeBeginsAnother}
-use Rattle.dump_read.proofs.Chains.{apart, none_is, front_of_more}
+use Rattle.dump_read.proofs.Chains.{none_is, front_of_more}
 use Rattle.dump_read.proofs.Numbers.{one_number}
 use Rattle.dump_read.proofs.Fed.{long_header}
 use Rattle.dump_read.proofs.Delimited.{IsBounded, pieces_split}
@@ -31,6 +31,7 @@ use Rattle.dump_read.proofs.Counts.{tracks_in, parts_in, all_some}
 use Rattle.dump_read.proofs.Going.{logical, logical_by, slots_by, of_slots, last_is, ended}
 use Rattle.dump_read.proofs.Stages.{pieces_front, on_way, StandsBehind, slots_from, slots_on_way, slots_with, end_piece, with_texts}
 use Rattle.dump_read.proofs.OnWay.{between, within, slots_before}
+use Rattle.ckd_image.proofs.OneText.{split_same}
 
 -- ---- the pieces of a shape
 
@@ -176,11 +177,11 @@ pub no_shape_begins : NoShapeBeginsAnother
 no_shape_begins a b (head, front, digest, is) (other, behind, second, also) (more, e) =
     let whole : a ++ more ≡ digested_text head front ++ (digest ++ more) = ap (λ (t : List ℕ). t ++ more) is.spelled ∙ append_assoc (digested_text head front) digest more in
     let spelled = sym (in_parts head front (digest ++ more)) ∙ sym whole ∙ sym e ∙ also.spelled ∙ in_parts other behind second in
-    let headers = apart (header_text head) (header_text other) (pieces_text (front_pieces front) ++ (counts_text front ++ (digest ++ more))) (pieces_text (front_pieces behind) ++ (counts_text behind ++ second))
+    let headers = split_same (header_text head) (header_text other) (pieces_text (front_pieces front) ++ (counts_text front ++ (digest ++ more))) (pieces_text (front_pieces behind) ++ (counts_text behind ++ second))
     (long_header head is.is_front.header ∙ sym (long_header other also.is_front.header)) spelled in
     let pieces = pieces_split (front_pieces front) (front_pieces behind) (counts_text front ++ (digest ++ more)) (counts_text behind ++ second) (bounded head front is.is_front)
     (bounded other behind also.is_front) (_, refl) (_, refl) headers.1 in
-    let counts = apart (counts_text front) (counts_text behind) (digest ++ more) second refl pieces.1 in
+    let counts = split_same (counts_text front) (counts_text behind) (digest ++ more) second refl pieces.1 in
     let none : more ≡ [] = none_is more (omega (arith, is.long, also.long, ap length counts.1, length-append digest more)) in
     sym (append-nil a) ∙ ap (λ (t : List ℕ). a ++ t) (sym none) ∙ sym e
 
@@ -208,9 +209,9 @@ alike head other sound right e =
     let kind : kind_byte head.full ≡ kind_byte other.full = cc in
     let device : device_byte head.device ≡ device_byte other.device = cc in
     let behind : (head.serial.text ++ big_bytes 4 head.tracks) ++ day_text head ≡ (other.serial.text ++ big_bytes 4 other.tracks) ++ day_text other = cc in
-    let serials = apart head.serial.text other.serial.text (big_bytes 4 head.tracks ++ day_text head) (big_bytes 4 other.tracks ++ day_text other) (sound.serial.1.six ∙ sym right.serial.1.six)
+    let serials = split_same head.serial.text other.serial.text (big_bytes 4 head.tracks ++ day_text head) (big_bytes 4 other.tracks ++ day_text other) (sound.serial.1.six ∙ sym right.serial.1.six)
     (sym (append_assoc head.serial.text (big_bytes 4 head.tracks) (day_text head)) ∙ behind ∙ append_assoc other.serial.text (big_bytes 4 other.tracks) (day_text other)) in
-    let numbers = apart (big_bytes 4 head.tracks) (big_bytes 4 other.tracks) (day_text head) (day_text other) refl serials.1 in
+    let numbers = split_same (big_bytes 4 head.tracks) (big_bytes 4 other.tracks) (day_text head) (day_text other) refl serials.1 in
     record {
       full = same_kind head.full other.full kind;
       device = same_device head.device other.device device;
@@ -358,7 +359,7 @@ shapes_go_on head front text rest going (other, last, digest, shape) e =
     let end : List ℕ = counts_text last ++ digest in
     let spelled = sym (append_assoc (header_text head) (pieces_text (front_pieces front)) rest) ∙ sym e ∙ shape.spelled ∙ in_parts other last digest in
     let sound = going.is_front.header in
-    let headers = apart (header_text head) (header_text other) (pieces_text (front_pieces front) ++ rest) (pieces_text (front_pieces last) ++ end)
+    let headers = split_same (header_text head) (header_text other) (pieces_text (front_pieces front) ++ rest) (pieces_text (front_pieces last) ++ end)
     (long_header head sound ∙ sym (long_header other shape.is_front.header)) spelled in
     let same = alike head other sound shape.is_front.header headers.0 in
     let before = pieces_front (front_pieces front) (front_pieces last) rest end (bounded head front going.is_front) (bounded other last shape.is_front) (_, refl) headers.1 in

@@ -12,8 +12,8 @@ use Rattle.dump_fmt.specs.Pieces.{dumped_record, dumped_records, dumped_track}
 use Rattle.dump_read.specs.declared.track.TrackField.{TrackField}
 use Rattle.dump_read.specs.declared.track.TrackField.TheVariants as fields
 use Rattle.dump_read.specs.TrackText.{EndsAtRecord, IsFieldBehind, length_of}
-use Rattle.dump_read.proofs.Chains.{apart}
 use Rattle.dump_read.proofs.Delimited.{two_bytes}
+use Rattle.ckd_image.proofs.OneText.{split_same}
 
 -- ---- records
 
@@ -31,7 +31,7 @@ record_passed a b x y fits less e =
     let low : length a.body % 256 ≡ length b.body % 256 = cc in
     let bodies : length a.body ≡ length b.body = omega (arith, high, low, fits, less) in
     let long : length (dumped_record a) ≡ length (dumped_record b) = omega (arith, record_long a, record_long b, keys, bodies) in
-    (long, (apart (dumped_record a) (dumped_record b) x y long e).1)
+    (long, (split_same (dumped_record a) (dumped_record b) x y long e).1)
 
 records_fit : (recs : List Rec) → length (dumped_records recs) ≤ 65535 → AllByRecursion HasFit recs
 records_fit [] few = tt
@@ -76,9 +76,9 @@ counted_apart : (flag other : ℕ) (r0 zero : List ℕ) (count number : ℕ) (re
     → counted flag r0 count recs ++ x ≡ counted other zero number all ++ y → (count ≡ number) × (dumped_records recs ++ x ≡ dumped_records all ++ y)
 counted_apart flag other r0 zero count number recs all x y eight long few less e =
     let tails : (r0 ++ (big_bytes 2 count ++ dumped_records recs)) ++ x ≡ (zero ++ (big_bytes 2 number ++ dumped_records all)) ++ y = cc in
-    let zeros = apart r0 zero ((big_bytes 2 count ++ dumped_records recs) ++ x) ((big_bytes 2 number ++ dumped_records all) ++ y) (eight ∙ sym long)
+    let zeros = split_same r0 zero ((big_bytes 2 count ++ dumped_records recs) ++ x) ((big_bytes 2 number ++ dumped_records all) ++ y) (eight ∙ sym long)
     (sym (append_assoc r0 (big_bytes 2 count ++ dumped_records recs) x) ∙ tails ∙ append_assoc zero (big_bytes 2 number ++ dumped_records all) y) in
-    let counts = apart (big_bytes 2 count) (big_bytes 2 number) (dumped_records recs ++ x) (dumped_records all ++ y) refl zeros.1 in
+    let counts = split_same (big_bytes 2 count) (big_bytes 2 number) (dumped_records recs ++ x) (dumped_records all ++ y) refl zeros.1 in
     (two_bytes count number few less counts.0, counts.1)
 
 ends_long : (front : List ℕ) (is : EndsAtRecord front) → length front ≡ 11 + length (dumped_records is.recs)

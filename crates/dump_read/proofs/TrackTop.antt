@@ -19,11 +19,12 @@ use Rattle.dump_read.specs.declared.track.TrackStop.TheVariants.{Wrong, Cut, NoM
 use Rattle.dump_read.specs.Fields.{IsFirstWrong}
 use Rattle.dump_read.specs.TrackText.{length_of, IsTrackBytes, EndsAtRecord, IsFieldBehind, IsTrackStop, IsTrackRead}
 use Rattle.dump_read.specs.TrackFields.{IsNumberStop, size_of, IsInRecord, AreRecords, AreRecordsText, AreRecordsStop}
-use Rattle.dump_read.proofs.Chains.{Then, apart, wrong_here}
+use Rattle.dump_read.proofs.Chains.{Then, wrong_here}
 use Rattle.dump_read.proofs.PartChain.{take_length}
 use Rattle.dump_read.proofs.Delimited.{two_bytes}
 use Rattle.dump_read.proofs.Leaves.{Leaves, leaves_both, leaves_field, wrong_lifted, cut_lifted, cut_here}
 use Rattle.dump_read.proofs.TrackRecords.{records_there}
+use Rattle.ckd_image.proofs.OneText.{split_same}
 
 -- ---- what a track takes of a slot
 
@@ -88,7 +89,7 @@ records_of device room track is stands =
 front_only : (device : Device) (room flag : ℕ) (r0 : List ℕ) → IsRoom device room → length r0 ≡ 8 → (t : List ℕ) → IsTrackBytes device (flag ∷ (r0 ++ t)) → FromCount room t
 front_only device room flag r0 is eight t (track, stands, e) =
     let tails : r0 ++ t ≡ track.r0 ++ (big_bytes 2 (length track.recs) ++ dumped_records track.recs) = cc in
-    let both = apart r0 track.r0 t (big_bytes 2 (length track.recs) ++ dumped_records track.recs) (eight ∙ sym stands.sound.zero) tails in
+    let both = split_same r0 track.r0 t (big_bytes 2 (length track.recs) ++ dumped_records track.recs) (eight ∙ sym stands.sound.zero) tails in
     let records = records_of device room track is stands in
     record { value = length track.recs; may = records.0; rest = dumped_records track.recs; behind = (track.recs, records.1, refl); spelled = both.1 }
 

@@ -1,5 +1,5 @@
 pub mod Marks
-pub mod Feeds
+mod Feeds
 pub mod Holders
 pub mod LineText
 pub mod Taking

@@ -11,7 +11,7 @@ use Rattle.dsn_filter.specs.Text.{capitals, dotted, IsBegun, IsFirstWrong}
 use Rattle.dsn_filter.specs.Qualifier.{IsInner, IsQualifier}
 use Rattle.dsn_filter.specs.OneQualifier.{IsQualifierText}
 use Rattle.dsn_filter.specs.Dsn.{text_of, dsn_of, IsNameText, IsDsn}
-use Rattle.dsn_filter.proofs.Named.{text_is}
+use Rattle.dsn_filter.proofs.Named.{text_is, capitals_again, same_text}
 use Rattle.dsn_filter.proofs.OneReading.{one_name}
 use Rattle.dsn_filter.proofs.Scanned.{first_wrong, ends_early}
 use Rattle.enq_table.specs.declared.holder.Holder.{Holder}
@@ -49,12 +49,6 @@ upper_twice c = elim (upper_is c) [
   | inl (high, small, is) ↦ ap to_ascii_uppercase is ∙ upper_low (c - 32) (omega arith) ∙ sym is
   | inr (other, is) ↦ ap to_ascii_uppercase is
 ]
-
-pub capital_twice : (t : List ℕ) → capitals (capitals t) ≡ capitals t
-capital_twice [] = refl
-capital_twice (c ∷ t) =
-    let first : to_ascii_uppercase (to_ascii_uppercase c) ≡ to_ascii_uppercase c = upper_twice c in
-    let rest : capitals (capitals t) ≡ capitals t = capital_twice t in cc
 
 upper_blank : (c : ℕ) → to_ascii_uppercase c ≡ 32 → c ≡ 32
 upper_blank c e = elim (upper_is c) [
@@ -96,10 +90,6 @@ name_is_text name t (spelling, (spelled, h), is) e =
         joins = same ∙ h.joins;
       },
     )
-
-name_capital : (name : Dsn) → IsDsn name → capitals (text_of name) ≡ text_of name
-name_capital name (spelling, h, is) =
-    let read : text_of name ≡ capitals spelling = text_is name spelling is in ap capitals read ∙ capital_twice spelling ∙ sym read
 
 holder_kept_text : (t : List ℕ) → holder_text (holder_of t) ≡ capitals t
 holder_kept_text t = take_at (capitals t) (replicate (8 - length t) 0) (length t) (length-map t to_ascii_uppercase)
@@ -146,8 +136,8 @@ tail_name u more clean (hold, h) =
     let rest : List ℕ = found.0 in
     let name-is : name ≡ capitals u ++ rest = found.1 in
     let twice : capitals u ++ capitals rest ≡ capitals u ++ rest =
-    ap (λ (t : List ℕ). t ++ capitals rest) (sym (capital_twice u)) ∙ sym (map-append to_ascii_uppercase (capitals u) rest) ∙ ap capitals (sym name-is)
-    ∙ name_capital hold.name h.lawful.0 ∙ name-is in
+    ap (λ (t : List ℕ). t ++ capitals rest) (sym (capitals_again u)) ∙ sym (map-append to_ascii_uppercase (capitals u) rest) ∙ ap capitals (sym name-is)
+    ∙ same_text hold.name h.lawful.0 ∙ name-is in
     (rest, name_is_text hold.name (u ++ rest) h.lawful.0 (map-append to_ascii_uppercase u rest ∙ twice ∙ sym name-is))
 
 tail_parts : (u more : List ℕ) → Without 32 u → IsTail (u ++ (32 ∷ more)) → IsNameText u × IsQualifierText more

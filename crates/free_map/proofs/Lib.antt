@@ -1,9 +1,9 @@
 pub mod Apart
 pub mod Gaps
 pub mod Fit
-pub mod Counts
+mod Counts
 pub mod Takes
 pub mod Gives
-pub mod Order
-pub mod Chosen
-pub mod OneChoice
+mod Order
+mod Chosen
+mod OneChoice

@@ -6,7 +6,6 @@ use Rattle.std.proofs.lemmas.Bool.{false≢true}
 use Rattle.std.proofs.lemmas.Iterator.Search.{true_from_All}
 use Rattle.std.proofs.lemmas.List.{length-map, take_at}
 use Rattle.std.proofs.lemmas.List.Elements.{All-from_all_within}
-use Rattle.std.proofs.lemmas.Str.Ascii.{uppercase-uppercase}
 use Rattle.dsn_filter.specs.declared.dsn.Dsn.{Dsn}
 use Rattle.dsn_filter.specs.declared.fault.NameFault.{NameFault}
 use Rattle.dsn_filter.specs.declared.fault.NameFault.TheVariants.{BadName, BadPattern, NoMemory}
@@ -17,22 +16,14 @@ use Rattle.dsn_filter.specs.Dsn.{text_of, dsn_of, IsNameText, IsDsn}
 use Rattle.dsn_filter.specs.OneQualifier.{IsQualifierText, word_of, qualifier_of}
 use Rattle.dsn_filter.specs.NameFault.{IsNameFault, IsQualifierFault}
 use Rattle.dsn_filter.specs.Rename.{IsPrefix}
-use Rattle.dsn_filter.proofs.Named.{text_is}
+use Rattle.dsn_filter.proofs.Named.{text_is, same_text}
 use Rattle.dsn_filter.proofs.Renamed.{prefix_is, prefix_lawful}
 use Rattle.dsn_filter.proofs.OneReading.{one_name}
+use Rattle.vtoc_core.proofs.Spelled.{no_text}
 
 -- ---- capitals stay
 
-capitals_again : (text : List ℕ) → capitals (capitals text) ≡ capitals text
-capitals_again [] = refl
-capitals_again (c ∷ text) =
-    let first = uppercase-uppercase c in
-    let rest = capitals_again text in cc
-
 -- ---- a name
-
-same_text : (name : Dsn) → IsDsn name → capitals (text_of name) ≡ text_of name
-same_text name (text, right, is) = ap capitals (text_is name text is) ∙ capitals_again text ∙ sym (text_is name text is)
 
 name_text : (name : Dsn) → IsDsn name → IsNameText (text_of name)
 name_text name (text, (spelled, h), is) =
@@ -52,14 +43,9 @@ read_again name read is at =
     let right : IsDsn read = (text_of name, name_text name is, at) in
     one_name read name right is (text_is read (text_of name) at ∙ same_text name is)
 
-no_name : (text : List ℕ) (fault : NameFault) → IsNameFault text fault → ¬ IsNameText text
-no_name text (BadName place) h = h.wrong
-no_name text (BadPattern place) h = absurd h
-no_name text NoMemory h = absurd h
-
 pub other_is_none : (name : Dsn) (text : List ℕ) (fault : NameFault) → text ≡ text_of name → IsNameFault text fault → IsTrue false ↔ IsDsn name
 other_is_none name text fault at h =
-    (λ h. absurd (false≢true h), λ is. absurd (no_name text fault h (subst IsNameText (sym at) (name_text name is))))
+    (λ h. absurd (false≢true h), λ is. absurd (no_text text fault h (subst IsNameText (sym at) (name_text name is))))
 
 pub read_is_name : (name read : Dsn) (text : List ℕ) (same : Bool) → text ≡ text_of name → IsNameText text → read ≡ dsn_of text → IsTrue same ↔ (read ≡ name) → IsTrue same ↔ IsDsn name
 read_is_name name read text same at right is says = (

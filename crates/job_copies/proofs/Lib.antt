@@ -3,6 +3,6 @@ mod SetsOfRows
 mod Replaced
 mod Rows
 mod Tests
-mod Holds
+pub mod Holds
 mod Reasons
-mod FreePlaces
+pub mod FreePlaces

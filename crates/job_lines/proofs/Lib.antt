@@ -1,3 +1,3 @@
-pub mod Trimming
-pub mod Digits
-pub mod Pieces
+mod Trimming
+mod Digits
+mod Pieces

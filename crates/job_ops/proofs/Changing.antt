@@ -28,7 +28,7 @@ use Rattle.job_ops.specs.Ends.{ForUnits, LeavesFacts, Ends}
 use Rattle.job_ops.specs.Reshaping.{CanHave, MayReshape, NeedsRepair, StaysChangeable, EndsReshape, CutKeepsFacts, HasRoomToReshape, LacksRoomToReshape, IsTarget, steps_of_reshape}
 use Rattle.job_ops.specs.Turns.{Action, IsCutAction}
 use Rattle.job_ops.proofs.SameSessions.{keeps_same, ends_told, told_grows}
-use Rattle.job_ops.proofs.Looking.{one_volume}
+use Rattle.job_steps.proofs.unit_session.unit_steps.OneChange.{same_volume}
 
 -- what a turn asks for
 abbrev pub reshape_of : ℕ → Dsn → Candidate → Layout → Reshape
@@ -127,7 +127,7 @@ module _ {P : Type 0} (pools : Ghosts P) where
 pub may_reshape : {task : Task} {room : ℕ} {units : List UnitState} {unit : ℕ} {name : Dsn} {candidate : Candidate} (layout : Layout) → MayBeChanged room units unit
     → (is : IsCandidate task units unit name candidate) → ¬ IsTrue candidate.stays → CanHave layout is.volume is.row → MayReshape room units (reshape_of unit name candidate layout)
 may_reshape {task} {room} {units} {unit} {name} {candidate} layout may is moves can =
-    let same : is.volume ≡ may.volume = one_volume units unit is.volume may.volume is.loaded may.loaded in
+    let same : is.volume ≡ may.volume = same_volume units unit is.volume may.volume is.loaded may.loaded in
     record {
       may = may;
       sound = subst IsSound same is.sound;
@@ -140,4 +140,4 @@ may_reshape {task} {room} {units} {unit} {name} {candidate} layout may is moves 
 pub needs_repair : {task : Task} {units : List UnitState} {unit : ℕ} {name : Dsn} {candidate : Candidate} (layout : Layout) → IsCandidate task units unit name candidate
     → NeedsRepair units (reshape_of unit name candidate layout)
 needs_repair {task} {units} {unit} {name} {candidate} layout is volume loaded =
-    is.repair_is ∙ ap (λ (v : Volume). v.repair) (one_volume units unit is.volume volume is.loaded loaded)
+    is.repair_is ∙ ap (λ (v : Volume). v.repair) (same_volume units unit is.volume volume is.loaded loaded)

@@ -34,9 +34,10 @@ use Rattle.job_ops.specs.Copying.{MayBeCopied, IsCase, IsThere, IsJudged, MaySta
 use Rattle.job_ops.specs.Ends.{ForUnits}
 use Rattle.job_ops.specs.Reshaping.{IsKnown}
 use Rattle.job_ops.specs.Setting.{facts_of}
-use Rattle.job_ops.proofs.Looking.{unit_there, one_volume}
+use Rattle.job_ops.proofs.Looking.{unit_there}
 use Rattle.job_ops.proofs.ReshapeKnown.{known}
 use Rattle.job_ops.proofs.SetsOfRows.{named_set}
+use Rattle.job_steps.proofs.unit_session.unit_steps.OneChange.{same_volume}
 
 first_of : {A B : Type 0} → A × B → A
 first_of (a, b) = a
@@ -86,7 +87,7 @@ module _ {P : Type 0} {pools : Ghosts P} {session : SessionView P} {unit : ℕ} 
 module _ {room : ℕ} {units : List UnitState} {from to : ℕ} {name : Dsn} {delete : Bool} (may : MayBeCopied delete room units from to (name ∷ [])) where
   pub row_there : (loaded : Volume) → IsLoadedAt units from loaded → (row : Row) × HasRow loaded name row
   row_there loaded at =
-      subst (λ (v : Volume). (row : Row) × HasRow v name row) (one_volume units from may.source loaded may.source_loaded at)
+      subst (λ (v : Volume). (row : Row) × HasRow v name row) (same_volume units from may.source loaded may.source_loaded at)
       (All-head (λ (n : Dsn). (row : Row) × HasRow may.source n row) name [] may.sets)
 
 module _ {P : Type 0} {pools : Ghosts P} {session : SessionView P} {request : Request} {name : Dsn} {delete : Bool}
@@ -147,7 +148,7 @@ module _ {P : Type 0} {pools : Ghosts P} {session : SessionView P} {request : Re
         new_is = subst IsDsn (sym is.new_is) lawful;
         one =
             λ within.
-            one_volume session.units request.to copying.target.now copying.source.now is.target_at
+            same_volume session.units request.to copying.target.now copying.source.now is.target_at
             (subst (λ (u : ℕ). IsLoadedAt session.units u copying.source.now) (eqb-true request.from request.to (sym is.within_is ∙ within)) is.source_at);
       }
 
@@ -189,12 +190,12 @@ module _ {units : List UnitState} {from to : ℕ} {name new : Dsn} {source targe
       → ((row : Row) → HasRow source name row → ArePlacesOn source row target runs) → IsClear replaced target new → ((from == to) ≡ true → new ≢ name)
       → MayStand units from to name new replaced runs
   stands_so {replaced} {runs} few places clear apart = record {
-    few = λ volume row at has. few row (subst (λ (v : Volume). HasRow v name row) (one_volume units from volume source at source_at) has);
+    few = λ volume row at has. few row (subst (λ (v : Volume). HasRow v name row) (same_volume units from volume source at source_at) has);
     places =
         λ volume other row at there has.
-        subst (λ (v : Volume). ArePlacesOn v row other runs) (one_volume units from source volume source_at at)
-        (subst (λ (v : Volume). ArePlacesOn source row v runs) (one_volume units to target other target_at there)
-        (places row (subst (λ (v : Volume). HasRow v name row) (one_volume units from volume source at source_at) has)));
-    clear = λ other there. subst (λ (v : Volume). IsClear replaced v new) (one_volume units to target other target_at there) clear;
+        subst (λ (v : Volume). ArePlacesOn v row other runs) (same_volume units from source volume source_at at)
+        (subst (λ (v : Volume). ArePlacesOn source row v runs) (same_volume units to target other target_at there)
+        (places row (subst (λ (v : Volume). HasRow v name row) (same_volume units from volume source at source_at) has)));
+    clear = λ other there. subst (λ (v : Volume). IsClear replaced v new) (same_volume units to target other target_at there) clear;
     apart = λ same. apart (eq-eqb from to same);
   }

@@ -1,6 +1,6 @@
 -- Whether the VTOCs have room for a copy, on the loaded volumes and in the model.
 use Rattle.std.proofs.Common.{◌≡◌, ◌≢◌, ◌⊎◌, inl, inr, ◌↔◌, ℕ, ◌-◌, ◌==◌, not, Bool, true, false, IsTrue, List, [], ◌∷◌, ◌++◌, length, replicate, All, Contains, refl, sym, ap, subst, ◌∙◌}
-use Rattle.std.specs.Prelude.{slice_get, if◌then◌else◌}
+use Rattle.std.specs.Prelude.{if◌then◌else◌}
 use Rattle.std.proofs.lemmas.List.Elements.{All-head, All-tail, All-nil, All-cons, All-contains}
 use Rattle.ckd_image.specs.Device.{heads_of}
 use Rattle.dsn_filter.specs.declared.dsn.Dsn.{Dsn}
@@ -11,7 +11,6 @@ use Rattle.volume_model.specs.Changed.{IsPut, threes_for}
 use Rattle.volume_model.specs.Pinned.{IsNameOf}
 use Rattle.volume_model.specs.Reads.{fields_of_1, extent_in}
 use Rattle.volume_model.specs.Unit.{Text, Extent, DataSet, OnlineVolume, tracks_of, IsFreeTrack}
-use Rattle.vtoc_core.specs.declared.volume.Row.{Row}
 use Rattle.vtoc_core.specs.declared.volume.Volume.{Volume}
 use Rattle.vtoc_core.specs.Loaded.{field_of}
 use Rattle.vtoc_layout.proofs.Distinct.{first_or_later, in_none, in_front, in_back, in_middle, at_first}
@@ -38,12 +37,13 @@ use Rattle.job_ops.specs.declared.transfer.Transfer.{Transfer}
 use Rattle.job_ops.specs.declared.transfer.Act.{Act}
 use Rattle.job_ops.specs.declared.transfer.Act.TheVariants as acts
 use Rattle.job_ops.specs.Acts as spec
-use Rattle.job_ops.specs.Acts.{is_carried, is_deleted, is_unstated, step_of_act, due, repair_acts, acts_of, MayTransfer, Fits, FitsNow, AllFit, SomeLacks}
+use Rattle.job_ops.specs.Acts.{is_carried, is_deleted, is_unstated, due, repair_acts, acts_of, Fits, FitsNow, AllFit, SomeLacks}
 use Rattle.job_ops.specs.Copy.{IsCarried, GoFor, LacksRoomForCopy, LacksRoomToCopy, lower_first}
 use Rattle.job_ops.proofs.ReshapeTargets.{described_by}
 use Rattle.job_ops.proofs.ReshapeUnits.{repair_planned}
 use Rattle.job_ops.proofs.TransferPlans.{PlansTransfer, transfer_planned}
 use Rattle.job_ops.proofs.TransferUnits.{full_one}
+use Rattle.job_steps.proofs.unit_session.unit_steps.Small.{putting_no_mark, remove_no_mark}
 
 not_true : false ≡ true → ⊥
 not_true same = absurd (subst is_false same (tt {0}))
@@ -60,25 +60,6 @@ no_mark_repairs same = absurd (subst repairs same (tt {0}))
     repairs : Change → Type 0
     repairs Repair = Unit {0}
     repairs _ = ⊥
-
-no_mark_puts : (replaced : Bool) (name : Dsn) (row : Row) → putting replaced name row ≢ Mark
-no_mark_puts replaced name row same = absurd (subst puts same (by replaced))
-  where
-    puts : Change → Type 0
-    puts (Put row) = Unit {0}
-    puts (Swap name row) = Unit {0}
-    puts _ = ⊥
-
-    by : (replaced : Bool) → puts (putting replaced name row)
-    by true = tt
-    by false = tt
-
-no_mark_removes : (name : Dsn) → Remove name ≢ Mark
-no_mark_removes name same = absurd (subst removes same (tt {0}))
-  where
-    removes : Change → Type 0
-    removes (Remove name) = Unit {0}
-    removes _ = ⊥
 
 -- ---- one kind, one row
 
@@ -295,7 +276,7 @@ module _ {units : List UnitState} {transfer : Transfer} {case : Case} (is : IsTr
     fits_copy law next next_is other gone copied go full =
         let put : IsPut other = All-head IsPut other [] full.3.are_put in
         law is.target next case.to (putting transfer.replaced transfer.to.name plan.copy.row) gone other.texts is.target_sound is.to_is may_change
-        (no_mark_puts transfer.replaced transfer.to.name plan.copy.row) (gone_of gone go) (subst (λ (c : Change). IsNext is.target c next) plan.copy.change_is next_is)
+        (putting_no_mark transfer.replaced transfer.to.name plan.copy.row) (gone_of gone go) (subst (λ (c : Change). IsNext is.target c next) plan.copy.change_is next_is)
         (subst (IsFull case.to gone) (sym (puts_sets transfer.replaced other.texts ∙ ap (λ (s : DataSet). s ∷ []) (same_copy other copied put))) full)
 
   -- ---- the origin goes
@@ -448,7 +429,7 @@ module _ {units : List UnitState} {transfer : Transfer} {case : Case} (is : IsTr
         repair_fits_now transfer.from.unit is.source case.from is.source_loaded is.source_sound is.from_is law fits.plan fits.step_is fits.lawful fits.next full
     has_room (inr (inr (carried, inr full))) =
         let next = take_next (carried_to carried) in
-        law is.source next.0 case.from (Remove transfer.from.name) (case.set ∷ []) [] is.source_sound is.from_is (may_take (carried_to carried)) (no_mark_removes transfer.from.name) taken_source next.1 full
+        law is.source next.0 case.from (Remove transfer.from.name) (case.set ∷ []) [] is.source_sound is.from_is (may_take (carried_to carried)) (remove_no_mark transfer.from.name) taken_source next.1 full
 
   -- ---- one lacks room
 

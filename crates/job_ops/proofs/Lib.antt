@@ -5,7 +5,7 @@ mod ReshapeEnds
 mod ReshapeParts
 mod ReshapePlans
 mod ReshapeKnown
-pub mod Standing
+mod Standing
 mod TwoUnits
 mod SetsOfRows
 mod SameSessions
@@ -16,11 +16,11 @@ mod GivingBack
 mod Places
 mod Joining
 mod Turning
-pub mod Codes
-pub mod Extents
+mod Codes
+mod Extents
 mod OneTurn
-pub mod Summaries
-pub mod Endings
+mod Summaries
+mod Endings
 mod Going
 mod Wholly
 mod Acts

@@ -4,7 +4,7 @@ use Rattle.std.specs.Prelude.{slice_get}
 use Rattle.std.proofs.lemmas.Bool.{cases_lt, false≢true}
 use Rattle.std.proofs.lemmas.List.{length-append, length-map}
 use Rattle.std.proofs.lemmas.List.Elements.{All-head, Contains-get_or}
-use Rattle.std.proofs.lemmas.Option.{same_Some, slice_get_cases}
+use Rattle.std.proofs.lemmas.Option.{slice_get_cases}
 use Rattle.ckd_image.specs.Device.{heads_of}
 use Rattle.dasd_pool.specs.Disk.{State}
 use Rattle.dscb_rec.specs.declared.field.Extent.{Extent as Field}
@@ -36,6 +36,7 @@ use Rattle.job_ops.specs.Asked.{MayProcess, IsCandidate, IsSeen}
 use Rattle.job_ops.specs.Task.{StaysFor}
 use Rattle.job_ops.proofs.Judging.{volume_in}
 use Rattle.job_ops.proofs.SetsOfRows.{named_set, one_set}
+use Rattle.job_steps.proofs.unit_session.unit_steps.OneChange.{same_volume}
 
 -- ---- units
 
@@ -103,12 +104,9 @@ abbrev volume_of : Volume → UnitState → Volume
 volume_of other (states.Online volume) = volume
 volume_of other (states.Offline why) = other
 
-pub one_volume : (units : List UnitState) (unit : ℕ) (a b : Volume) → IsLoadedAt units unit a → IsLoadedAt units unit b → a ≡ b
-one_volume units unit a b one other = ap (volume_of b) (same_Some (states.Online a) (states.Online b) (sym one ∙ other))
-
 pub loaded_there : {room : ℕ} {units : List UnitState} {unit : ℕ} (name : Dsn) → MayProcess room units unit (name ∷ []) → (volume : Volume) → IsLoadedAt units unit volume → (row : Row) × HasRow volume name row
 loaded_there {room} {units} {unit} name may volume loaded =
-    subst (λ (v : Volume). (row : Row) × HasRow v name row) (one_volume units unit may.may.volume volume may.may.loaded loaded)
+    subst (λ (v : Volume). (row : Row) × HasRow v name row) (same_volume units unit may.may.volume volume may.may.loaded loaded)
     (All-head (λ (n : Dsn). (row : Row) × HasRow may.may.volume n row) name [] may.sets)
 
 pub loaded_sound : (head : List ℕ) (blocks : ℕ) {state : UnitState} {volume : Volume} → state ≡ states.Online volume → ((slots : List ℕ) × IsKept head blocks state slots) → IsSound volume

@@ -18,20 +18,18 @@ use Rattle.vtoc_core.specs.declared.volume.Row.{Row}
 use Rattle.vtoc_core.specs.declared.volume.Volume.{Volume}
 use Rattle.vtoc_core.specs.Loaded.{field_of}
 use Rattle.volume_change.proofs.Names.{one_text}
-use Rattle.job_copies.proofs.vtoc_render.PlacedTakes.{heads_same}
 use Rattle.job_copies.specs.unit_change.Described.{DescribesSet, Describes}
 use Rattle.unit_load.specs.declared.state.UnitState.{UnitState}
 use Rattle.job_copies.specs.unit_steps.Plans.{IsLoadedAt, HasRow, extents_in}
-use Rattle.job_copies.proofs.unit_steps.Blocks.{from_slots}
 use Rattle.plan_core.specs.Consolidate.{IsRowOf, IsSized, IsStepOf, IsPlaceFor, HasNoPlace}
 use Rattle.job_copies.specs.step_plans.Plans.{IsSound, IsPlaceOn}
 use Rattle.job_copies.proofs.step_plans.LoadedRows.{sound_row}
-use Rattle.job_copies.proofs.step_plans.Fronts.{numbers_long}
 use Rattle.job_copies.proofs.step_room.SoundRows.{one_row}
 use Rattle.job_copies.proofs.job_select.Counts.{row_tracks_few}
-use Rattle.job_ops.proofs.Looking.{one_volume}
 use Rattle.job_ops.proofs.ReshapeTargets.{described_by}
 use Rattle.job_ops.specs.Consolidate.{IsPlaceOf, LacksPlace}
+use Rattle.volume_model.proofs.Numbers.{numbers_long}
+use Rattle.job_steps.proofs.unit_session.unit_steps.OneChange.{same_volume}
 
 -- ---- places
 
@@ -95,10 +93,6 @@ module _ (loaded : Volume) (volume : OnlineVolume) (describes : Describes loaded
 pub place_on : (volume : Volume) (row : Row) (first : ℕ) → IsPlaceFor (IsFree volume.free) (heads_of volume.device) (extents_in volume row) first → IsPlaceOn volume row volume first
 place_on volume row first (step, step_is, lowest) = record { step = step; step_is = step_is; place = lowest.place }
 
--- its free tracks are of its device
-pub free_heads : (volume : Volume) → IsSound volume → volume.free.heads ≡ heads_of volume.device
-free_heads volume sound = sound.3.loaded.volume.space.heads_are ∙ sym (heads_same (from_slots sound.3))
-
 some_tracks : (heads usable : ℕ) (extents : List Field) → All (λ extent. is_run heads usable (field_of extent) ≡ true) extents → 1 < length extents
     → 1 ≤ length (tracks_of (map (λ extent. extent_in heads (field_of extent)) extents))
 some_tracks heads usable [] all more = absurd (omega (arith, more))
@@ -129,7 +123,7 @@ module _ (loaded : Volume) (sound : IsSound loaded) (name : Dsn) (lawful : IsDsn
   pub one_here : (units : List UnitState) (unit : ℕ) → IsLoadedAt units unit loaded → (volume : Volume) (other : Row) → IsLoadedAt units unit volume → HasRow volume name other
       → (loaded ≡ volume) × (row ≡ other)
   one_here units unit at volume other other_at other_has =
-      let same : loaded ≡ volume = one_volume units unit loaded volume at other_at in
+      let same : loaded ≡ volume = same_volume units unit loaded volume at other_at in
       let there : HasRow loaded name other = subst (λ (v : Volume). HasRow v name other) (sym same) other_has in
       (same, one_row loaded sound row other row_is.0 there.there (one_text name row.name other.name row_is.1 there.name_is))
 

@@ -17,7 +17,8 @@ use Rattle.job_copies.specs.step_plans.Plans.{IsSound}
 use Rattle.job_copies.specs.step_room.Room.{IsFullFor as IsFull, LacksRoom, AreTaken, LackingChangesAreFull, FittingChangesAreNotFull}
 use Rattle.job_steps.specs.Carried.{HaveNext}
 use Rattle.job_ops.specs.declared.reshaping.Reshape.{Reshape}
-use Rattle.job_ops.proofs.ReshapeTargets.{PlansReshape, texts_to, no_mark, put, taken, put_is}
+use Rattle.job_ops.proofs.ReshapeTargets.{PlansReshape, texts_to, put, taken, put_is}
+use Rattle.job_steps.proofs.unit_session.unit_steps.Small.{swap_no_mark}
 
 -- ---- one change
 
@@ -67,7 +68,7 @@ module _ {units : List UnitState} {reshape : Reshape} {changes : List (ℕ × Ch
   pub change_fits : FittingChangesAreNotFull → HaveNext units changes → ¬ IsFull volume (set ∷ []) (put plan sound is set there named ∷ [])
   change_fits law all full =
       let next = next_at units reshape.unit (Swap reshape.name plan.swap.row) changes plan.swap.volume plan.swap.changes_are plan.swap.loaded all in
-      law plan.swap.volume next.0 volume (Swap reshape.name plan.swap.row) (set ∷ []) (texts_to reshape.layout set.texts) sound is plan.swap.may (no_mark reshape.name plan.swap.row)
+      law plan.swap.volume next.0 volume (Swap reshape.name plan.swap.row) (set ∷ []) (texts_to reshape.layout set.texts) sound is plan.swap.may (swap_no_mark reshape.name plan.swap.row)
       (taken plan sound is set there named) next.1 (subst (IsFull volume (set ∷ [])) (sym (put_is plan sound is set there named)) full)
 
 -- ---- the free space

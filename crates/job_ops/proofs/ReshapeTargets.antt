@@ -13,7 +13,7 @@ use Rattle.vtoc_core.specs.declared.volume.Volume.{Volume}
 use Rattle.vtoc_core.specs.Loaded.{field_of}
 use Rattle.vtoc_layout.proofs.Distinct.{first_or_later, at_first, in_later, in_none}
 use Rattle.volume_change.specs.declared.change.Change.{Change}
-use Rattle.volume_change.specs.declared.change.Change.TheVariants.{Swap, Mark}
+use Rattle.volume_change.specs.declared.change.Change.TheVariants.{Swap}
 use Rattle.volume_change.proofs.Names.{one_text}
 use Rattle.job_copies.specs.unit_change.Changed.{sets_put}
 use Rattle.job_copies.specs.unit_change.Described.{DescribesSet, DescribesSets, Describes}
@@ -49,14 +49,6 @@ described_by loaded volume name row set sound is row_is there named =
     let found = described_row (heads_of loaded.device) loaded.rows volume.sets set is.sets_are there in
     subst (λ (r : Row). DescribesSet (heads_of loaded.device) r set)
     (one_row loaded sound found.0 row found.1 row_is.there (one_text name found.0.name row.name (subst (IsNameOf name) found.2.name_is named) row_is.name_is)) found.2
-
--- a swap is no mark
-pub no_mark : (name : Dsn) (row : Row) → Swap name row ≢ Mark
-no_mark name row same = absurd (subst swaps same (tt {0}))
-  where
-    swaps : Change → Type 0
-    swaps (Swap name row) = Unit {0}
-    swaps _ = ⊥
 
 -- ---- a plan to give a data set other extents
 

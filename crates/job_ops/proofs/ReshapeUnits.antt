@@ -17,7 +17,7 @@ use Rattle.volume_model.specs.Unit.{Extent, run_in, tracks_of}
 use Rattle.vtoc_core.specs.declared.volume.Row.{Row}
 use Rattle.vtoc_core.specs.declared.volume.Volume.{Volume}
 use Rattle.vtoc_core.specs.Loaded.{field_of}
-use Rattle.vtoc_layout.proofs.Distinct.{in_map, from_map}
+use Rattle.vtoc_layout.proofs.Distinct.{from_map}
 use Rattle.volume_change.specs.declared.change.Change.{Change}
 use Rattle.volume_change.specs.declared.change.Change.TheVariants.{Repair, Swap}
 use Rattle.volume_change.proofs.Names.{one_text}
@@ -36,7 +36,7 @@ use Rattle.job_copies.proofs.unit_steps.OneChange.{same_volume}
 use Rattle.job_steps.specs.unit_session.Planned.{IsFullFor}
 use Rattle.job_copies.specs.step_plans.Plans.{IsSound}
 use Rattle.job_copies.specs.step_room.Room.{LacksRoom, RepairsKeepRoomForExtents}
-use Rattle.job_copies.proofs.step_room.SoundRows.{named, one_row}
+use Rattle.job_copies.proofs.step_room.SoundRows.{one_row}
 use Rattle.job_steps.specs.Carried.{IsUnitAfter, AreUnitsAfter}
 use Rattle.job_ops.specs.declared.reshaping.Layout.{Layout}
 use Rattle.job_ops.specs.declared.reshaping.Layout.TheVariants as layouts
@@ -45,6 +45,8 @@ use Rattle.job_ops.specs.Asked.{MayBeChanged}
 use Rattle.job_ops.specs.Reshaping.{step_of, step_to, CanHave, MayReshape, StaysChangeable}
 use Rattle.job_ops.proofs.ReshapeTargets.{PlansReshape, ExtentsTo, one_extents}
 use Rattle.job_ops.proofs.ReshapeRoom.{lacks_at}
+use Rattle.ckd_image.proofs.Lists.{contains_map}
+use Rattle.job_copies.proofs.step_room.step_plans.RowNames.{named}
 
 -- ---- plans
 
@@ -135,7 +137,7 @@ module _ {units after : List UnitState} {unit : ℕ} {change : Change} (is : IsU
           changeable old,
           λ name row has.
               let there : Contains is.volume.rows row = subst (λ (v : Volume). Contains v.rows row) same has.there in
-              let found = from_map named is.next.rows row.name (subst (λ (list : List (List ℕ)). Contains list row.name) (sym names) (in_map named is.volume.rows row there)) in
+              let found = from_map named is.next.rows row.name (subst (λ (list : List (List ℕ)). Contains list row.name) (sym names) (contains_map named is.volume.rows row there)) in
               (found.0, record { lawful = has.lawful; there = found.1; name_is = subst (IsNameOf name) (sym found.2) has.name_is }),
         )
 

@@ -8,12 +8,12 @@ use Rattle.volume_change.proofs.Names.{one_text}
 use Rattle.vtoc_core.specs.declared.volume.Row.{Row}
 use Rattle.vtoc_core.specs.declared.volume.Volume.{Volume}
 use Rattle.vtoc_layout.specs.Layout.{AreDistinct}
-use Rattle.vtoc_layout.proofs.Distinct.{first_or_later, at_first, in_later, in_none}
+use Rattle.vtoc_layout.proofs.Distinct.{first_or_later, at_first, in_later, in_none, one_of_map}
 use Rattle.job_copies.specs.unit_change.Described.{Describes, DescribesSet, DescribesSets}
 use Rattle.job_copies.specs.unit_steps.Plans.{HasRow}
-use Rattle.job_copies.proofs.unit_steps.Lists.{one_by}
 use Rattle.job_copies.specs.step_plans.Plans.{IsSound}
-use Rattle.job_copies.proofs.step_room.SoundRows.{named, names_differ, one_row}
+use Rattle.job_copies.proofs.step_room.SoundRows.{one_row}
+use Rattle.job_copies.proofs.step_room.step_plans.RowNames.{named, names_differ}
 
 module _ (heads : ℕ) where
   -- each row has a data set, and each data set a row
@@ -60,6 +60,6 @@ module _ (loaded : Volume) (volume : OnlineVolume) (sound : IsSound loaded) (is 
   -- of one name there is one data set
   pub one_set : (a b : DataSet) → Contains volume.sets a → Contains volume.sets b → IsNameOf name a.name → IsNameOf name b.name → a ≡ b
   one_set a b here there one other =
-      one_by (λ (set : DataSet). set.name) volume.sets a b
+      one_of_map (λ (set : DataSet). set.name) volume.sets a b
       (subst (λ (names : List (List ℕ)). AreDistinct names) (set_names (heads_of loaded.device) loaded.rows volume.sets is.sets_are) (names_differ loaded sound)) here there
       (one_text name a.name b.name one other)

@@ -2,14 +2,12 @@
 use Rattle.std.proofs.Common.{◌≡◌, ◌⊎◌, inl, inr, ℕ, zero, suc, ◌+◌, List, [], ◌∷◌, ◌++◌, length, Bool, Contains, Some, refl, sym, ap, subst, ◌∙◌, arith}
 use Rattle.std.specs.Prelude.{slice_get}
 use Rattle.std.proofs.lemmas.Bool.{cases_eq}
-use Rattle.std.proofs.lemmas.List.{length-append, length-map}
+use Rattle.std.proofs.lemmas.List.{length-append}
 use Rattle.std.proofs.lemmas.Option.{same_Some}
-use Rattle.free_map.specs.declared.run.Run.{Run}
 use Rattle.dasd_pool.specs.Disk.{State}
 use Rattle.redo_core.specs.declared.control.Control.{Control}
 use Rattle.redo_core.specs.declared.control.Control.TheVariants.{Idle, Slide}
 use Rattle.volume_model.specs.Directory.{DirectoryRow}
-use Rattle.volume_model.specs.Dscbs.{numbers_below}
 use Rattle.volume_model.specs.Reads.{IsUnit, AreDataSets}
 use Rattle.volume_model.specs.Sound.{Slots}
 use Rattle.volume_model.specs.Unit.{Extent, DataSet, OnlineVolume, UnitModel, online, tracks_in, tracks_of}
@@ -17,8 +15,8 @@ use Rattle.vtoc_layout.proofs.Distinct.{first_or_later, in_none, in_middle, or_o
 use Rattle.move_core.specs.Facts.{Facts}
 use Rattle.move_core.specs.Stands.{extent_from, moved_to, Slides, IsAfterSlide, IsSettled}
 use Rattle.job_copies.proofs.unit_steps.Cutting.{texts_long}
-use Rattle.job_copies.proofs.step_plans.Fronts.{numbers_long}
 use Rattle.job_ops.proofs.Judging.{volume_in}
+use Rattle.job_copies.proofs.job_select.Counts.{tracks_long}
 
 -- ---- lists
 
@@ -34,9 +32,6 @@ module _ {X : Type 0} where
   get_other (y ∷ front) back old new (suc u) apart = get_other front back old new u (λ same. apart (ap (λ (n : ℕ). suc n) same))
 
 -- ---- tracks
-
-tracks_long : (run : Run) → length (tracks_in run) ≡ run.len
-tracks_long run = length-map (numbers_below run.len) (λ place. run.first + place) ∙ numbers_long run.len
 
 -- those of an extent that stands elsewhere are as many
 as_many : (front back : List Extent) (one other : Extent) → one.run.len ≡ other.run.len → length (tracks_of (front ++ (one ∷ back))) ≡ length (tracks_of (front ++ (other ∷ back)))

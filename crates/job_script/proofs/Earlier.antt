@@ -3,11 +3,11 @@ use Rattle.std.proofs.Common.{◌≡◌, ℕ, ◌-◌, List, [], ◌∷◌, ◌+
 use Rattle.std.proofs.lemmas.List.{append-nil, take-append-drop}
 use Rattle.std.proofs.Math.Seq.{take-append-add}
 use Rattle.dasd_pool.specs.Stream.{Appends, AppendsSome}
-use Rattle.run_lines.proofs.Appending.{appends_then}
 use Rattle.sysin_lang.specs.declared.command.Statement.{Statement}
 use Rattle.job_script.specs.Ends.{SinkSeen, Took, ended_before}
 use Rattle.job_script.specs.Runs.{Ran, lines_of}
 use Rattle.job_script.proofs.Rans.{lines_join}
+use Rattle.dasd_pool.proofs.Streams.{appends_then}
 
 -- whatever front of a text was taken, it stands behind nothing
 pub took_none : (out : SinkSeen) (text : List ℕ) → AppendsSome out.before out.after text → Took out []

@@ -1,7 +1,7 @@
 -- A run between two statements: what ran so far, and what goes on from there.
-use Rattle.std.proofs.Common.{◌≡◌, ◌≢◌, ◌⊎◌, inl, inr, ℕ, ◌≤◌, List, [], ◌∷◌, ◌++◌, All, length, Option, Some, None, Err, refl, sym, ap, subst, ◌∙◌, append_assoc, arith}
+use Rattle.std.proofs.Common.{◌≡◌, ◌≢◌, ◌⊎◌, inl, inr, ℕ, ◌≤◌, List, [], ◌∷◌, ◌++◌, All, Option, Some, None, Err, refl, sym, ap, subst, ◌∙◌, append_assoc, arith}
 use Rattle.std.specs.Prelude.{IfSome}
-use Rattle.std.proofs.lemmas.List.{append-nil, take_all}
+use Rattle.std.proofs.lemmas.List.{append-nil}
 use Rattle.std.proofs.lemmas.List.Elements.{All-nil, All-cons, All-head, All-tail, All-append}
 use Rattle.by_rules.specs.declared.day.Day.{Day}
 use Rattle.dasd_pool.specs.Count.{Rose}
@@ -16,11 +16,11 @@ use Rattle.move_core.specs.Facts.{Facts, shown}
 use Rattle.move_core.specs.Runs.{IsRun}
 use Rattle.move_core.specs.Stands.{IsSettled}
 use Rattle.move_core.specs.Steps.{Reaches}
-use Rattle.move_core.proofs.Running.{run_idle, run_then, rose_since}
+use Rattle.move_core.proofs.Running.{run_idle, run_then}
 use Rattle.run_lines.specs.declared.ending.RunEnd.{RunEnd}
 use Rattle.run_lines.specs.declared.ending.RunEnd.TheVariants as ends
 use Rattle.run_lines.specs.Endings.{last_line}
-use Rattle.run_lines.proofs.Appending.{appends_none, appends_then, appends_some_then}
+use Rattle.run_lines.proofs.Appending.{appends_none}
 use Rattle.sysin_lang.specs.declared.command.Statement.{Statement}
 use Rattle.sysin_lang.specs.Flow.{Codes, Plan, Command, End, zero_codes, next_of, answered, Leaves}
 use Rattle.job_ops.specs.unit_session.Sessions.{SessionView}
@@ -37,10 +37,7 @@ use Rattle.job_script.proofs.Earlier.{took_none, took_then}
 use Rattle.job_script.proofs.Rans.{steps_join, lines_join, steps_one, lines_one, follow_join, hand_join, leaves_more}
 use Rattle.job_script.proofs.Plans.{built_then}
 use Rattle.job_script.proofs.Ones.{after_parts, sink_no_pool, sink_no_whole, whole_no_pool, whole_no_sink}
-
--- all of a text is a front of it
-all_some : (old new : Option (List ℕ)) (text : List ℕ) → Appends old new text → AppendsSome old new text
-all_some old new text all = (length text, omega arith, subst (λ (t : List ℕ). Appends old new t) (sym (take_all (length text) text (omega arith))) all)
+use Rattle.dasd_pool.proofs.Streams.{rose_since, appends_then, appends_some_then, all_some}
 
 -- the elements before others, and those behind
 all_front : {X : Type 0} (Holds : X → Type 0) (xs ys : List X) → All Holds (xs ++ ys) → All Holds xs

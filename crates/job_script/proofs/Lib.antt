@@ -1,8 +1,8 @@
-pub mod Fronts
-pub mod Ones
-pub mod Plans
-pub mod Printing
-pub mod Rans
-pub mod Stacks
-pub mod Calls
-pub mod Earlier
+mod Fronts
+mod Ones
+mod Plans
+mod Printing
+mod Rans
+mod Stacks
+mod Calls
+mod Earlier

@@ -5,7 +5,8 @@ use Rattle.dasd_pool.specs.Stream.{Appends, AppendsSome}
 use Rattle.job_lines.specs.declared.message.Message.{Message}
 use Rattle.job_lines.specs.Lines.{line}
 use Rattle.job_script.specs.Runs.{lines_in}
-use Rattle.run_lines.proofs.Appending.{HasWritten, appends_then, written_more, written_some, written_all}
+use Rattle.run_lines.proofs.Appending.{HasWritten, written_more, written_some, written_all}
+use Rattle.dasd_pool.proofs.Streams.{appends_then}
 
 -- the next piece of a text was written
 pub written_piece : (old mid new : Option (List ℕ)) (text piece rest : List ℕ) → HasWritten old mid text (piece ++ rest) → Appends mid new piece → HasWritten old new text rest

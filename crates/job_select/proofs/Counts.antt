@@ -1,8 +1,8 @@
 -- How many tracks and extents a data set of a loaded volume has.
-use Rattle.std.proofs.Common.{◌≡◌, inl, inr, ℕ, zero, suc, ◌+◌, ◌<◌, ◌≤◌, ◌&&◌, List, [], ◌∷◌, length, map, All, Contains, false, true, refl, sym, subst, ◌∙◌, arith}
+use Rattle.std.proofs.Common.{◌≡◌, inl, inr, ℕ, zero, suc, ◌+◌, ◌<◌, ◌≤◌, ◌&&◌, List, [], ◌∷◌, length, map, All, Contains, false, true, sym, subst, ◌∙◌, arith}
 use Rattle.std.proofs.lemmas.Bool.{both_ways, cases_eq, lt-ltb}
 use Rattle.std.proofs.lemmas.List.{length-append, length-map}
-use Rattle.std.proofs.lemmas.List.Elements.{All-contains, All-head, All-tail, Contains-append_cases}
+use Rattle.std.proofs.lemmas.List.Elements.{All-contains, All-head, All-tail}
 use Rattle.ckd_image.specs.Device.{heads_of}
 use Rattle.dscb_rec.specs.declared.field.Extent.{Extent as Field}
 use Rattle.free_map.specs.declared.run.Run.{Run}
@@ -15,29 +15,17 @@ use Rattle.vtoc_core.specs.declared.volume.Volume.{Volume}
 use Rattle.vtoc_core.specs.Loaded.{field_of}
 use Rattle.vtoc_layout.specs.Layout.{AreDistinct, AreApart}
 use Rattle.vtoc_layout.proofs.Apart.{all_from}
-use Rattle.vtoc_layout.proofs.Distinct.{first_or_later, in_none, at_first, in_front, in_back, in_map, from_map, from_flat, distinct_append, no_more}
+use Rattle.vtoc_layout.proofs.Distinct.{first_or_later, in_none, at_first, in_front, in_back, from_map, from_flat, distinct_append, no_more, in_below, below_distinct, shifted_distinct}
 use Rattle.step_plans.proofs.vtoc_render.Known.{usable_small}
 use Rattle.step_plans.proofs.unit_change.Describing.{runs_in_row}
 use Rattle.step_plans.proofs.unit_steps.Blocks.{from_slots}
 use Rattle.step_plans.specs.Plans.{IsSound, extents_from}
 use Rattle.step_plans.proofs.LoadedRows.{IsLoadedRow, sound_row}
 use Rattle.job_select.proofs.Wholes.{on}
+use Rattle.ckd_image.proofs.Lists.{contains_map}
+use Rattle.volume_model.proofs.Numbers.{numbers_long}
 
 -- ---- the tracks of a run
-
-numbers_long : (n : ℕ) → length (numbers_below n) ≡ n
-numbers_long zero = refl
-numbers_long (suc n) = omega (arith, length-append (numbers_below n) (n ∷ []), numbers_long n)
-
-only_one : (n k : ℕ) → Contains (n ∷ []) k → n ≡ k
-only_one n k there = elim (first_or_later n k [] there) [ inl same ↦ same | inr none ↦ absurd (in_none k none) ]
-
-in_below : (n k : ℕ) → Contains (numbers_below n) k → k < n
-in_below zero k there = absurd (in_none k there)
-in_below (suc n) k there = elim (Contains-append_cases (numbers_below n) (n ∷ []) k there) [
-  | inl front ↦ omega (arith, in_below n k front)
-  | inr back ↦ omega (arith, only_one n k back)
-]
 
 below_in : (n k : ℕ) → k < n → Contains (numbers_below n) k
 below_in zero k less = absurd (omega (arith, less))
@@ -46,21 +34,7 @@ below_in (suc n) k less = elim (cases_eq n k) [
   | inr apart ↦ in_front (numbers_below n) (n ∷ []) k (below_in n k (omega (arith, less, apart)))
 ]
 
-below_distinct : (n : ℕ) → AreDistinct (numbers_below n)
-below_distinct zero = tt
-below_distinct (suc n) =
-    distinct_append (numbers_below n) (n ∷ []) (below_distinct n) (λ there. in_none n there, tt)
-    (λ k front back. absurd (omega (arith, in_below n k front, only_one n k back)))
-
-shifted_distinct : (first : ℕ) (places : List ℕ) → AreDistinct places → AreDistinct (map (λ place. first + place) places)
-shifted_distinct first [] distinct = tt
-shifted_distinct first (place ∷ places) distinct = (
-  λ there. let found = from_map (λ (n : ℕ). first + n) places (first + place) there in
-      distinct.0 (subst (Contains places) (let same : found.0 ≡ place = omega (arith, found.2) in same) found.1),
-  shifted_distinct first places distinct.1,
-)
-
-tracks_long : (run : Run) → length (tracks_in run) ≡ run.len
+pub tracks_long : (run : Run) → length (tracks_in run) ≡ run.len
 tracks_long run = length-map (numbers_below run.len) (λ place. run.first + place) ∙ numbers_long run.len
 
 in_run : (run : Run) (track : ℕ) → Contains (tracks_in run) track → (run.first ≤ track) × (track < end_of run)
@@ -82,7 +56,7 @@ tracks_distinct (extent ∷ extents) apart =
     distinct_append (tracks_in extent.run) (tracks_of extents) (shifted_distinct extent.run.first (numbers_below extent.run.len) (below_distinct extent.run.len)) (tracks_distinct extents apart.1)
     (λ track here there. let found = from_flat (λ (e : Extent). tracks_in e.run) extents track there in
     none_shared extent.run found.0.run track
-    (All-contains (λ (run : Run). overlap extent.run run ≡ false) (map run_in extents) found.0.run apart.0 (in_map run_in extents found.0 found.1))
+    (All-contains (λ (run : Run). overlap extent.run run ≡ false) (map run_in extents) found.0.run apart.0 (contains_map run_in extents found.0 found.1))
     (in_run extent.run track here) (in_run found.0.run track found.2))
 
 -- runs that are apart and end below some track have no more tracks than there are below it

@@ -1,7 +1,7 @@
 pub mod OneName
-pub mod HasNames
+mod HasNames
 pub mod Wholes
-pub mod KeptFields
+mod KeptFields
 pub mod Counts
-pub mod RowNames
-pub mod Picks
+mod RowNames
+mod Picks

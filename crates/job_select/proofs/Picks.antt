@@ -23,8 +23,9 @@ use Rattle.set_facts.specs.Facts.{facts_from, facts_of}
 use Rattle.set_facts.specs.Selection.{Passes, criteria_in}
 use Rattle.job_select.specs.Selection.{Takes, Selects}
 use Rattle.job_select.proofs.OneName.{one_named}
-use Rattle.job_select.proofs.RowNames.{differ_at, names_differ}
+use Rattle.job_select.proofs.RowNames.{differ_at}
 use Rattle.job_select.proofs.Wholes.{on}
+use Rattle.step_plans.proofs.RowNames.{names_differ}
 
 -- ---- one data set
 

@@ -11,9 +11,10 @@ use Rattle.volume_model.specs.Pinned.{HasName, organization_in, IsMovable, IsMan
 use Rattle.volume_model.specs.Reads.{extent_in}
 use Rattle.volume_model.specs.Unit.{Extent, DataSet}
 use Rattle.vtoc_core.specs.Loaded.{field_of}
-use Rattle.vtoc_layout.proofs.Distinct.{at_first, in_later, in_map, from_map}
+use Rattle.vtoc_layout.proofs.Distinct.{at_first, in_later, from_map}
 use Rattle.step_plans.specs.Plans.{extents_from}
 use Rattle.job_select.specs.Whole.{IsWhole, IsWholeOn}
+use Rattle.ckd_image.proofs.Lists.{contains_map}
 
 abbrev pub on : Device → Field → Extent
 on device extent = extent_in (heads_of device) (field_of extent)
@@ -46,7 +47,7 @@ module _ (device : Device) (set : DataSet) (extents : List Field) (is : set.exte
       let found = other_in device extents (λ all. h (All-from_recursion (IsWholeOn device) extents all)) in
       record {
         extent = on device found.0;
-        is_there = subst (λ (l : List Extent). Contains l (on device found.0)) (sym is) (in_map (on device) extents found.0 found.1);
+        is_there = subst (λ (l : List Extent). Contains l (on device found.0)) (sym is) (contains_map (on device) extents found.0 found.1);
         not_tracks = λ tracks. found.2 (inl tracks);
         not_cylinders = λ cylinders. found.2 (inr cylinders);
       }

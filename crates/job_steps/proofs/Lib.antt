@@ -1,2 +1,2 @@
-pub mod AfterUnits
-pub mod Runs
+mod AfterUnits
+mod Runs

@@ -11,19 +11,20 @@ use Rattle.volume_model.specs.Check.{records_of}
 use Rattle.vtoc_check.specs.Sized.{IsSized}
 use Rattle.vtoc_layout.specs.Layout.{AreDistinct, SetRecords, Layout, AreSetRecords, IsLayoutOf, records_in_set, used_records}
 use Rattle.vtoc_layout.proofs.Apart.{all_from}
-use Rattle.vtoc_layout.proofs.Distinct.{first_or_later, at_first, in_later, in_front, in_back, in_flat, in_map, from_map, not_both, distinct_front, distinct_back, distinct_append}
+use Rattle.vtoc_layout.proofs.Distinct.{first_or_later, at_first, in_later, in_front, in_back, in_flat, from_map, not_both, distinct_front, distinct_back, distinct_append}
 use Rattle.vtoc_layout.proofs.Uses.{used_there, distinct_of_sets, set_is}
 use Rattle.vtoc_write.specs.Edited.{edit_of, placed_with, after_edits}
 use Rattle.vtoc_write.proofs.Tracks.{keeps_places}
 use Rattle.layout_edit.specs.Change.{place_of, zeroed, LayoutChange, edits_of, vtoc_after, layout_after, kept_records, IsChangeOf, ChangesHaveLayouts}
 use Rattle.layout_edit.proofs.Edits.{edit_named, edit_none, edit_found, linked_after, tracks_long, tracks_short}
+use Rattle.ckd_image.proofs.Lists.{contains_map}
 
 pub flat_three : {X Y : Type 0} (f : X → List Y) (xs ys zs : List X) → flat_map f (xs ++ (ys ++ zs)) ≡ flat_map f xs ++ (flat_map f ys ++ flat_map f zs)
 flat_three {X} {Y} f xs ys zs = flat_map-append f xs (ys ++ zs) ∙ ap (λ (l : List Y). flat_map f xs ++ l) (flat_map-append f ys zs)
 
-distinct_of_map : {X Y : Type 0} (f : X → Y) (xs : List X) → AreDistinct (map f xs) → AreDistinct xs
+pub distinct_of_map : {X Y : Type 0} (f : X → Y) (xs : List X) → AreDistinct (map f xs) → AreDistinct xs
 distinct_of_map f [] d = tt
-distinct_of_map f (x ∷ xs) d = (λ c. d.0 (in_map f xs x c), distinct_of_map f xs d.1)
+distinct_of_map f (x ∷ xs) d = (λ c. d.0 (contains_map f xs x c), distinct_of_map f xs d.1)
 
 zeros_free : format_of (replicate 140 0) ≡ Free
 zeros_free = refl
@@ -92,7 +93,7 @@ module _ (vtoc : Vtoc) (layout : Layout) (front gone back : List SetRecords) (ch
       let found : edit_of edits at.0.place ≡ Some edit = edit_named edits edit at.0.place made.once c (sym at.2) in
       let same : edited at.0 ≡ edit = ap (placed_with at.0) found ∙ (λ i. record { place = at.2 i; bytes = edit.bytes }) in
       let P : Placed → Type 0 = λ placed. Contains after placed in
-      subst P same (in_map edited records at.0 at.1)
+      subst P same (contains_map edited records at.0 at.1)
 
   not_edited : (placed : Placed) → Contains kept placed → (edit : Placed) → Contains edits edit → ¬ (edit.place ≡ placed.place)
   not_edited placed c edit p =
@@ -163,7 +164,7 @@ module _ (vtoc : Vtoc) (layout : Layout) (front gone back : List SetRecords) (ch
       let in_sets : Contains (flat_map records_in_set layout.sets) placed = subst P (sym sets_before) (kept_were placed c) in
       let before : Contains records placed =
       used_there vtoc layout sized is placed (in_later layout.four placed (layout.fives ++ flat_map records_in_set layout.sets) (in_back layout.fives (flat_map records_in_set layout.sets) placed in_sets)) in
-      subst Q (ap (placed_with placed) (kept_edit placed c)) (in_map edited records placed before)
+      subst Q (ap (placed_with placed) (kept_edit placed c)) (contains_map edited records placed before)
 
   four_edit : Contains edits change.four
   four_edit = at_first change.four (change.fives ++ (of_put ++ zeros))

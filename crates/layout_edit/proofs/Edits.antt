@@ -10,9 +10,10 @@ use Rattle.volume_model.specs.Directory.{same_place, record_at, named_place, nam
 use Rattle.vtoc_check.specs.Places.{IsShort, AreShort}
 use Rattle.vtoc_layout.specs.Layout.{AreDistinct, IsLinked}
 use Rattle.vtoc_layout.proofs.FiveChains.{one_place, itself}
-use Rattle.vtoc_layout.proofs.Distinct.{first_or_later, at_first, in_later, in_none, in_map}
+use Rattle.vtoc_layout.proofs.Distinct.{first_or_later, at_first, in_later, in_none}
 use Rattle.vtoc_write.specs.Edited.{edit_of, placed_with, after_edits, dscbs_after, tracks_after}
 use Rattle.layout_edit.specs.Change.{place_of}
+use Rattle.ckd_image.proofs.Lists.{contains_map}
 
 -- ---- places
 
@@ -41,7 +42,7 @@ edit_named (first ∷ more) edit place d c e = by (λ there. edit_named more edi
         ap (λ (b : Bool). cond b (Some first) (edit_of more place)) (places_same first.place place (ap place_of same ∙ e)) ∙ ap (λ (p : Placed). Some p) same
     by later (inr there) =
         let P : Place → Type 0 = λ p. Contains (map place_of more) p in
-        let other : same_place first.place place ≡ false = other_places first.place place (λ same. d.0 (subst P (e ∙ sym same) (in_map place_of more edit there))) in
+        let other : same_place first.place place ≡ false = other_places first.place place (λ same. d.0 (subst P (e ∙ sym same) (contains_map place_of more edit there))) in
         ap (λ (b : Bool). cond b (Some first) (edit_of more place)) other ∙ later there
 
 -- a place that no edit names has none

@@ -15,9 +15,10 @@ use Rattle.vtoc_check.proofs.Marks.{any_passes}
 use Rattle.vtoc_layout.specs.Layout.{AreApart, SetRecords, extents_in_set, runs_by, entries_by}
 use Rattle.vtoc_layout.proofs.Distinct.{first_or_later, at_first, in_later, in_front, in_back}
 use Rattle.vtoc_layout.proofs.Apart.{all_from, apart_front, apart_back, apart_between, apart_joined, overlap_turned}
-use Rattle.vtoc_layout.proofs.FreeRules.{has_some, held_in, grows, at_most, each_end}
+use Rattle.vtoc_layout.proofs.FreeRules.{has_some, held_in, at_most, each_end, held_by}
 use Rattle.layout_edit.specs.Space.{runs_in_sets, ArePutApart, ExtentsStayApart, UsableTracksStay, EntriesAreRight}
 use Rattle.layout_edit.proofs.Changes.{flat_three}
+use Rattle.volume_model.proofs.Numbers.{grows}
 
 -- ---- the extents of data sets that stay, and of one that is put between them
 
@@ -46,7 +47,7 @@ apart_put xs ys zs ws h new off =
     by a b p (inl new_one) = overlap_turned b a (none b a new_one (in_front xs zs a p))
     by a b p (inr old_one) = apart_between xs (ys ++ zs) h a b p (in_back ys zs b old_one)
 
-runs_three : (heads : ℕ) (xs ys zs : List SetRecords) → runs_in_sets heads (xs ++ (ys ++ zs)) ≡ runs_in_sets heads xs ++ (runs_in_sets heads ys ++ runs_in_sets heads zs)
+pub runs_three : (heads : ℕ) (xs ys zs : List SetRecords) → runs_in_sets heads (xs ++ (ys ++ zs)) ≡ runs_in_sets heads xs ++ (runs_in_sets heads ys ++ runs_in_sets heads zs)
 runs_three heads xs ys zs =
     ap (map (run_of heads)) (flat_three extents_in_set xs ys zs) ∙ map-append (run_of heads) (flat_map extents_in_set xs) (flat_map extents_in_set ys ++ flat_map extents_in_set zs)
     ∙ ap (λ (runs : List Run). runs_in_sets heads xs ++ runs) (map-append (run_of heads) (flat_map extents_in_set ys) (flat_map extents_in_set zs))
@@ -93,11 +94,6 @@ extents_stay old new before after front gone put back heads limit run sets_befor
     record { ranges = are.ranges; off_track_0 = are.off_track_0; off_vtoc = are.off_vtoc; apart = are.apart }
 
 -- ---- the usable tracks
-
-held_by : (runs : List Run) (track : ℕ) → InRuns runs track → (run : Run) × Contains runs run × HasTrack run track
-held_by [] track h = absurd h
-held_by (run ∷ runs) track (inl h) = (run, at_first run runs, h)
-held_by (run ∷ runs) track (inr h) = let r = held_by runs track h in (r.0, in_later run r.0 runs r.1, r.2)
 
 -- a track that is used is track 0, one of the VTOC's or one of an extent's
 used_by : (vtoc : Run) (extents : List Run) (track : ℕ) → is_used vtoc extents track ≡ true

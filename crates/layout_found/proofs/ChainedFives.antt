@@ -22,8 +22,10 @@ use Rattle.vtoc_layout.proofs.FiveChains.{walk_is_chain}
 use Rattle.vtoc_layout.specs.Layout.{AreDistinct}
 use Rattle.vtoc_layout.proofs.Uses.{distinct_records, one_record, itself}
 use Rattle.vtoc_layout.proofs.Distinct.{first_or_later, in_none, in_filter, from_filter, distinct_filter}
-use Rattle.vtoc_load.proofs.Chains.{left_nil, right_nil, map_nil, named_in}
-use Rattle.layout_found.proofs.Members.{none_of, first_in, either_first}
+use Rattle.vtoc_load.proofs.Chains.{named_in}
+use Rattle.layout_found.proofs.Members.{none_of, either_first}
+use Rattle.ckd_image.proofs.Lists.{left_nil, right_nil, map_nil}
+use Rattle.vtoc_layout.proofs.Links.{first_in}
 
 abbrev is_five : Placed → Bool
 is_five placed = is_f5 (format_of placed.bytes)

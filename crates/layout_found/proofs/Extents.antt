@@ -18,9 +18,9 @@ use Rattle.vtoc_layout.specs.Layout.{AreDistinct}
 use Rattle.vtoc_layout.proofs.Apart.{all_from, overlap_turned, apart_joined}
 use Rattle.vtoc_layout.proofs.ExtentRules.{runs_at, runs_by_records}
 use Rattle.vtoc_layout.proofs.Distinct.{at_first, in_later, from_flat, in_flat, filter_all}
-use Rattle.vtoc_load.proofs.Chains.{left_nil, right_nil, map_nil}
 use Rattle.layout_found.proofs.Members.{none_of}
 use Rattle.layout_found.proofs.Unrelated.{AreUnrelated, unrelated, unrelated_two}
+use Rattle.ckd_image.proofs.Lists.{left_nil, right_nil, map_nil}
 
 -- ---- overlaps
 

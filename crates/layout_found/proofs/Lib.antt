@@ -6,7 +6,7 @@ pub mod ChainedFives
 pub mod Uses
 pub mod Extents
 pub mod Found
-pub mod Gathered
-pub mod FivesInOrder
-pub mod SetsByName
-pub mod Taken
+mod Gathered
+mod FivesInOrder
+mod SetsByName
+mod Taken

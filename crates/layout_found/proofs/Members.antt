@@ -1,8 +1,8 @@
 -- What stands in filtered lists, and first in a list.
-use Rattle.std.proofs.Common.{◌≡◌, ◌⊎◌, List, [], ◌∷◌, filter, Bool, true, false, Option, Some, None, Contains, subst, arith, inl, inr}
+use Rattle.std.proofs.Common.{◌≡◌, ◌⊎◌, List, [], ◌∷◌, filter, Bool, true, false, Option, Some, None, Contains, subst, inl, inr}
 use Rattle.std.proofs.lemmas.Bool.{cases_Bool}
 use Rattle.volume_model.specs.declared.place.Placed.{Placed}
-use Rattle.volume_model.specs.Check.{first_of, or_else}
+use Rattle.volume_model.specs.Check.{or_else}
 use Rattle.vtoc_layout.proofs.Distinct.{in_none, in_filter}
 
 -- nothing passes a test that keeps nothing
@@ -14,10 +14,6 @@ none_of {X} test xs none x h = by (cases_Bool (test x))
     by (inr other) = other
 
 -- ---- the first of a list
-
-pub first_in : (xs : List Placed) (x : Placed) → first_of xs ≡ Some x → Contains xs x
-first_in [] x e = absurd (let n : Option Placed = None in let q : n ≡ Some x = e in let r : ⊥ = cc in r)
-first_in (y ∷ xs) x e = (0, omega arith, (let q : Some y ≡ Some x = e in cc))
 
 pub either_first : (a b : Option Placed) (x : Placed) → or_else a b ≡ Some x → (a ≡ Some x) ⊎ (b ≡ Some x)
 either_first None b x e = inr e

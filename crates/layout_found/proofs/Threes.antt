@@ -2,7 +2,7 @@
 use Rattle.std.proofs.Common.{◌≡◌, ◌⊎◌, ℕ, zero, suc, ◌<◌, ◌≤◌, List, [], ◌∷◌, ◌++◌, length, filter, Bool, true, false, cond, Contains, Option, Some, None, refl, sym, ap, subst, ◌∙◌, arith, inl, inr}
 use Rattle.std.specs.Prelude.{◌&&◌, ◌||◌, not}
 use Rattle.std.specs.Option.{is_some}
-use Rattle.std.proofs.lemmas.Bool.{cases_Bool}
+use Rattle.std.proofs.lemmas.Bool.{cases_Bool, or_right}
 use Rattle.ckd_image.specs.declared.track.Cchhr.{Cchhr}
 use Rattle.volume_model.specs.declared.format.Format.TheVariants.{F1, F3}
 use Rattle.volume_model.specs.declared.place.Placed.{Placed}
@@ -15,9 +15,10 @@ use Rattle.vtoc_check.proofs.Targets.{named_by_next}
 use Rattle.vtoc_layout.specs.Layout.{IsLinked}
 use Rattle.vtoc_layout.specs.Layout.{AreDistinct}
 use Rattle.vtoc_layout.proofs.Distinct.{first_or_later, in_none, in_filter, no_more, distinct_each}
-use Rattle.vtoc_load.proofs.Chains.{chain_at, left_nil, next_in, lost, twice_named, orphans, no_parts, chains_apart}
+use Rattle.vtoc_load.proofs.Chains.{chain_at, next_in, lost, twice_named, orphans, no_parts, chains_apart}
 use Rattle.layout_found.proofs.Members.{none_of}
 use Rattle.layout_found.proofs.Formats.{f1_is, f3_is}
+use Rattle.ckd_image.proofs.Lists.{left_nil}
 
 -- a format 1 or 3
 abbrev pub IsNamer : Placed → Type 0
@@ -71,10 +72,6 @@ ends vtoc sound a there namer last = by (pointer_in a.bytes) refl
         in_filter (λ (placed : Placed). (is_f1 (format_of placed.bytes) || is_f3 (format_of placed.bytes)) && is_some (pointer_in placed.bytes)) (records_of vtoc) a there points in
         absurd (not_three (named_by vtoc a) (named c) last)
 
-or_second : (a b : Bool) → b ≡ true → (a || b) ≡ true
-or_second true b e = refl
-or_second false b e = e
-
 -- where so many are enough, the chain is linked
 linked : (vtoc : Vtoc) → breaches_of vtoc ≡ [] → (n : ℕ) (a : Placed) → Contains (records_of vtoc) a → IsNamer a → length (chain_of vtoc.heads (records_of vtoc) n a.bytes) < n
     → IsLinked vtoc.heads (records_of vtoc) a.bytes (chain_of vtoc.heads (records_of vtoc) n a.bytes)
@@ -89,7 +86,7 @@ linked vtoc sound (suc n) a there namer few = by (λ p c f l. linked vtoc sound 
     by later None e l = ends vtoc sound a there namer e
     by later (Some p) e l =
         let m = next_in vtoc.heads (records_of vtoc) a.bytes p e in
-        (named_by_next (named_record vtoc.heads (records_of vtoc) (pointer_in a.bytes)) p e, later p m.0 (or_second (is_f1 (format_of p.bytes)) (is_f3 (format_of p.bytes)) m.1) (omega (arith, l)))
+        (named_by_next (named_record vtoc.heads (records_of vtoc) (pointer_in a.bytes)) p e, later p m.0 (or_right (is_f1 (format_of p.bytes)) (is_f3 (format_of p.bytes)) m.1) (omega (arith, l)))
 
 -- ---- the chain of a data set
 

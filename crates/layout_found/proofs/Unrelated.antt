@@ -6,7 +6,7 @@ use Rattle.std.proofs.lemmas.Bool.{or_parts}
 use Rattle.std.proofs.lemmas.List.Folds.{list_any-append}
 use Rattle.volume_model.specs.Check.{with_earlier, later_ones}
 use Rattle.vtoc_layout.proofs.Distinct.{first_or_later, in_none}
-use Rattle.vtoc_load.proofs.Chains.{map_nil}
+use Rattle.ckd_image.proofs.Lists.{map_nil}
 
 -- no element of these is related to this one
 abbrev IsUnrelated : {X : Type 0} → (X → X → Bool) → X → List X → Type 0

@@ -2,7 +2,7 @@
 use Rattle.std.proofs.Common.{◌≡◌, ◌⊎◌, ℕ, ◌*◌, List, [], ◌∷◌, ◌++◌, length, map, filter, take, Bool, true, false, Contains, refl, sym, ap, subst, ◌∙◌, inl, inr, arith}
 use Rattle.std.specs.Prelude.{◌||◌, ◌&&◌, not}
 use Rattle.std.specs.List.{flat_map}
-use Rattle.std.proofs.lemmas.Bool.{both_ways, eq-eqb}
+use Rattle.std.proofs.lemmas.Bool.{both_ways}
 use Rattle.std.proofs.lemmas.List.Elements.{Contains-append_left, Contains-append_right, Contains-append_cases}
 use Rattle.std.proofs.lemmas.List.Folds.{flat_map-map}
 use Rattle.volume_model.specs.declared.format.Format.{Format}
@@ -20,13 +20,15 @@ use Rattle.vtoc_layout.specs.Layout.{AreDistinct}
 use Rattle.vtoc_layout.proofs.Apart.{all_from}
 use Rattle.vtoc_layout.proofs.Uses.{distinct_records, one_record}
 use Rattle.vtoc_layout.proofs.Distinct.{first_or_later, at_first, in_later, in_filter, from_filter, distinct_filter, distinct_append, distinct_front, distinct_back, not_both, from_flat, in_flat, from_map}
-use Rattle.vtoc_load.proofs.Chains.{left_nil, right_nil, map_nil, chain_at, no_first_four, no_bad_dscbs, chains_apart}
+use Rattle.vtoc_load.proofs.Chains.{chain_at, no_first_four, no_bad_dscbs, chains_apart}
 use Rattle.vtoc_load.proofs.Counting.{none_broken}
 use Rattle.layout_found.proofs.Members.{none_of}
 use Rattle.layout_found.proofs.Unrelated.{AreUnrelated, unrelated}
 use Rattle.layout_found.proofs.Formats.{f1_is, f3_is, f5_is}
 use Rattle.layout_found.proofs.Threes.{chain_in, no_three_is_one, set_linked}
 use Rattle.layout_found.proofs.ChainedFives.{AreAllFives, all_fives}
+use Rattle.ckd_image.proofs.Lists.{left_nil, right_nil, map_nil}
+use Rattle.volume_model.proofs.Numbers.{bytes_itself}
 
 abbrev is_one : Placed → Bool
 is_one placed = is_f1 (format_of placed.bytes)
@@ -97,10 +99,6 @@ distinct_sets heads records (one ∷ ones) are once apart =
 
 -- ---- names
 
-same_as_itself : (bytes : List ℕ) → same_bytes bytes bytes ≡ true
-same_as_itself [] = refl
-same_as_itself (byte ∷ bytes) = (λ i. eq-eqb byte byte refl i && same_as_itself bytes i)
-
 abbrev same_name : Placed → Placed → Bool
 same_name later earlier = same_bytes (take 44 later.bytes) (take 44 earlier.bytes)
 
@@ -112,7 +110,7 @@ names_apart vtoc (one ∷ ones) h = (λ c. again (from_map name_of (map (set_of 
     again found =
         let other = from_map (set_of vtoc) ones found.0 found.1 in
         let same : take 44 other.0.bytes ≡ take 44 one.bytes = ap name_of other.2 ∙ found.2 in
-        both_ways (same_name other.0 one) (h.0 other.0 other.1) (ap (λ (name : List ℕ). same_bytes name (take 44 one.bytes)) same ∙ same_as_itself (take 44 one.bytes))
+        both_ways (same_name other.0 one) (h.0 other.0 other.1) (ap (λ (name : List ℕ). same_bytes name (take 44 one.bytes)) same ∙ bytes_itself (take 44 one.bytes))
 
 no_bad_names : (vtoc : Vtoc) → breaches_of vtoc ≡ [] → bad_names vtoc ≡ []
 no_bad_names vtoc e =

@@ -21,6 +21,7 @@ use Rattle.volume_model.specs.Unit.{Extent, DataSet, run_in, runs_of_sets}
 use Rattle.volume_model.specs.Reads.{extent_in, IsDataSet, AreDataSets}
 use Rattle.volume_model.specs.declared.rule.VtocRule.TheVariants as rules
 use Rattle.volume_model.proofs.Filters.{filter_skip, filter_keep}
+use Rattle.ckd_image.proofs.Lists.{map_nil}
 
 -- ---- lists
 
@@ -30,10 +31,6 @@ filter_nil test (x ∷ xs) e = elim (cases_Bool (test x)) [
   | inl passes ↦ (let shown : x ∷ filter test xs ≡ [] = sym (filter_keep test x xs passes) ∙ e in absurd (omega (arith, ap length shown)))
   | inr fails ↦ (fails, filter_nil test xs (sym (filter_skip test x xs fails) ∙ e))
 ]
-
-pub map_nil : {X Y : Type 0} (f : X → Y) (xs : List X) → map f xs ≡ [] → xs ≡ []
-map_nil f [] e = refl
-map_nil f (x ∷ xs) e = absurd (omega (arith, ap length e))
 
 none_not : {X : Type 0} (test : X → Bool) (xs : List X) → list_any (λ x. not (test x)) xs ≡ false → AllByRecursion (λ x. test x ≡ true) xs
 none_not test [] e = tt

@@ -1,9 +1,9 @@
 -- What a unit is rests on its vital blocks alone.
-use Rattle.std.proofs.Common.{◌≡◌, ◌⊎◌, ⊎_elim, inl, inr, ℕ, zero, suc, ◌+◌, ◌-◌, ◌<◌, ◌≤◌, List, [], ◌∷◌, map, Bool, refl, sym, ap, subst, ◌∙◌, arith}
-use Rattle.std.specs.Prelude.{All, None, slice_index_or}
+use Rattle.std.proofs.Common.{◌≡◌, ◌⊎◌, ⊎_elim, inl, inr, ℕ, ◌+◌, ◌-◌, ◌<◌, ◌≤◌, List, [], ◌∷◌, map, Bool, refl, sym, ap, subst, ◌∙◌, arith}
+use Rattle.std.specs.Prelude.{None, slice_index_or}
 use Rattle.std.specs.List.{AllByRecursion}
 use Rattle.std.proofs.lemmas.Bool.{and_parts, ltb-true, leb-true}
-use Rattle.std.proofs.lemmas.List.Elements.{All-nil, All-cons, All-append, All-map, recursion_from_All}
+use Rattle.std.proofs.lemmas.List.Elements.{recursion_from_All}
 use Rattle.ckd_image.specs.declared.head.Head.{Head}
 use Rattle.ckd_image.specs.declared.track.Cchhr.{Cchhr}
 use Rattle.ckd_image.specs.declared.track.Track.{Track}
@@ -19,16 +19,17 @@ use Rattle.free_map.proofs.Gaps.{append_left, append_right}
 use Rattle.volume_model.specs.declared.why.Why.TheVariants as whys
 use Rattle.volume_model.specs.declared.rule.VtocRule.{VtocRule}
 use Rattle.volume_model.specs.declared.rule.VtocRule.TheVariants as rules
-use Rattle.volume_model.specs.Dscbs.{numbers_below, extent_at}
+use Rattle.volume_model.specs.Dscbs.{extent_at}
 use Rattle.volume_model.specs.Directory.{DirectoryRow}
 use Rattle.volume_model.specs.Space.{track_at, run_of, end_of}
 use Rattle.volume_model.specs.declared.place.Vtoc.{Vtoc}
 use Rattle.volume_model.specs.declared.place.Breach.{Breach}
 use Rattle.volume_model.specs.Sound.{Slots, IsTrackReading, IsReading, IsFormat4, IsFirstRuleBroken, IsVtoc, IsCheckFault, IsVolume, limit_of}
-use Rattle.volume_model.specs.Unit.{Text, Extent, DataSet, OnlineVolume, UnitModel, online, offline, run_in, tracks_in, tracks_of, runs_of_sets}
+use Rattle.volume_model.specs.Unit.{Text, DataSet, OnlineVolume, UnitModel, online, offline, run_in, tracks_of, runs_of_sets}
 use Rattle.volume_model.proofs.Blocks.{blocks_same}
 use Rattle.volume_model.specs.Reads.{IsTextAt, AreTexts, IsDataSet, AreDataSets, IsOnline, HasBadLabel, HasLabelOf, HasBadVtoc, HasBlocks, IsUnit, IsVitalTrack, IsVital}
 use Rattle.move_core.proofs.Below.{RowHasRuns, run_below, sound_rows, sets_below}
+use Rattle.volume_model.proofs.Numbers.{tracks_all}
 
 -- ---- the VTOC
 
@@ -151,19 +152,6 @@ blocks_move : (blocks : ℕ) (old new : Slots) (kept : List (List ℕ)) → ((t 
 blocks_move blocks old new kept same is = is ∙ blocks_same old new 0 blocks (λ track low less. same track (omega (arith, less)))
 
 -- ---- texts
-
-numbers_all : (P : ℕ → Type 0) (n : ℕ) → ((k : ℕ) → k < n → P k) → All P (numbers_below n)
-numbers_all P zero each = All-nil P
-numbers_all P (suc n) each = All-append P (numbers_below n) (n ∷ []) (numbers_all P n (λ k less. each k (omega (arith, less)))) (All-cons P n [] (each n (omega arith)) (All-nil P))
-
-pub tracks_all : (P : ℕ → Type 0) (extents : List Extent) → ((track : ℕ) → InRuns (map run_in extents) track → P track) → All P (tracks_of extents)
-tracks_all P [] each = All-nil P
-tracks_all P (extent ∷ extents) each =
-    let first = extent.run.first in
-    All-append P (tracks_in extent.run) (tracks_of extents)
-    (All-map P (λ place. first + place) (numbers_below extent.run.len)
-    (numbers_all (λ place. P (first + place)) extent.run.len (λ place less. each (first + place) (inl (omega arith, omega (arith, less))))))
-    (tracks_all P extents (λ track there. each track (inr there)))
 
 module _ (heads : ℕ) (place : ℕ → ℕ) (old new : Slots) where
   abbrev IsSame : ℕ → Type 0

@@ -13,7 +13,7 @@ use Rattle.vol_label.specs.declared.fault.LabelFault.TheVariants.{BadLabel}
 use Rattle.vol_label.specs.declared.fault.LabelRule.{LabelRule}
 use Rattle.vol_label.specs.declared.fault.LabelRule.TheVariants as label_rules
 use Rattle.vol_label.specs.Label.{label_key, IsFirstNumbered, IsLabelFault, IsFirstBroken as IsFirstLabelRule, number_of as label_number}
-use Rattle.redo_core.proofs.Heads.{one_device}
+use Rattle.ckd_image.proofs.Devices.{one_device}
 
 -- rules by their numbers, of which no two are broken first
 one_number : {R : Type 0} (number : R → ℕ) (IsBroken : R → Type 0) → ((a b : R) → number a < number b → IsBroken a → IsBroken b → ⊥)

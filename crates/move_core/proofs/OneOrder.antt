@@ -22,8 +22,9 @@ use Rattle.volume_model.specs.declared.rule.VtocRule.TheVariants as rules
 use Rattle.volume_model.specs.declared.place.Vtoc.{Vtoc}
 use Rattle.volume_model.specs.Check.{breach, records_of, same_bytes, with_earlier, bad_names, breaches_of}
 use Rattle.volume_model.proofs.Filters.{filter_skip, filter_keep}
-use Rattle.vtoc_core.proofs.Reordered.{bytes_itself, bytes_equal}
-use Rattle.move_core.proofs.Below.{nil_parts, map_nil}
+use Rattle.move_core.proofs.Below.{nil_parts}
+use Rattle.ckd_image.proofs.Lists.{map_nil}
+use Rattle.volume_model.proofs.Numbers.{bytes_itself, bytes_equal}
 
 -- ---- lists whose names rise
 

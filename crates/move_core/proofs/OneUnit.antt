@@ -19,7 +19,7 @@ use Rattle.vol_label.specs.Label.{IsLabel, IsLabelFault}
 use Rattle.vol_label.proofs.OneLabel.{one_label, no_label}
 use Rattle.free_map.specs.Runs.{InRuns}
 use Rattle.free_map.proofs.Gaps.{append_left, append_right}
-use Rattle.redo_core.proofs.Heads.{one_device, no_head}
+use Rattle.redo_core.proofs.Heads.{no_head}
 use Rattle.volume_model.specs.declared.why.Why.TheVariants as whys
 use Rattle.volume_model.specs.declared.rule.VtocRule.{VtocRule}
 use Rattle.volume_model.specs.declared.rule.VtocRule.TheVariants as rules
@@ -33,11 +33,13 @@ use Rattle.volume_model.specs.Directory.{DirectoryRow, AreInOrder, rows_of}
 use Rattle.volume_model.specs.Sound.{Slots, IsFormat4, IsFirstRuleBroken, IsVtoc, IsCheckFault, HasGeometry, HasVtocExtent}
 use Rattle.volume_model.specs.Unit.{Text, good, bad, Extent, DataSet, OnlineVolume, UnitModel, online, offline, run_in, runs_of_sets, tracks_of}
 use Rattle.volume_model.specs.Reads.{IsTextAt, AreTexts, IsDataSet, AreDataSets, IsOnline, HasImage, IsFirstText, HasBadLabel, HasLabelOf, HasBadVtoc, IsUnit, fields_of_4, has_index, blocks_from}
-use Rattle.move_core.proofs.Frames.{tracks_all, set_track_below}
-use Rattle.move_core.proofs.OneVtoc.{address_fits, one_format4, one_vtoc}
+use Rattle.move_core.proofs.Frames.{set_track_below}
+use Rattle.move_core.proofs.OneVtoc.{one_format4, one_vtoc}
 use Rattle.move_core.proofs.OneOrder.{one_order}
 use Rattle.move_core.proofs.OneFault.{one_head_fault, one_label_fault}
 use Rattle.move_core.proofs.Online.{one_image, first_text, same_label, few_tracks, no_bad_label, no_bad_vtoc}
+use Rattle.ckd_image.proofs.Devices.{is_address, one_device}
+use Rattle.volume_model.proofs.Numbers.{tracks_all}
 
 module _ (sliding : Bool) (place : ℕ → ℕ) (head : List ℕ) (blocks : ℕ) (slots : Slots) (short : (track : ℕ) → length (slots track) ≤ 65536) (down : (track : ℕ) → place track ≤ track) where
   -- ---- texts
@@ -45,7 +47,7 @@ module _ (sliding : Bool) (place : ℕ → ℕ) (head : List ℕ) (blocks : ℕ)
   one_at : (device : Device) (track : ℕ) → track ≤ 65535 → (a b : Text) → IsTextAt (heads_of device) (place track) (slots (place track)) a
       → IsTextAt (heads_of device) (place track) (slots (place track)) b → a ≡ b
   one_at device track below (good a) (good b) one other =
-      ap good (one_text (address_of (heads_of device) (place track)) (slots (place track)) a b (address_fits device (place track) (omega (arith, down track, below))) (short (place track)) one other)
+      ap good (one_text (address_of (heads_of device) (place track)) (slots (place track)) a b (is_address device (place track) (omega (arith, down track, below))) (short (place track)) one other)
   one_at device track below (good a) (bad b) one other = absurd (other.1 a one)
   one_at device track below (bad a) (good b) one other = absurd (one.1 b other)
   one_at device track below (bad a) (bad b) one other = ap bad (one.0 ∙ sym other.0)
@@ -179,7 +181,7 @@ module _ (sliding : Bool) (place : ℕ → ℕ) (head : List ℕ) (blocks : ℕ)
       (λ i. record { device = device i; tracks = tracks i })
 
   first_same : (image : Head) (a b : Track) → IsFirstText image slots a → IsFirstText image slots b → a ≡ b
-  first_same image a b one other = one_text (address_of (heads_of image.device) 0) (slots 0) a b (address_fits image.device 0 (omega arith)) (short 0) one other
+  first_same image a b one other = one_text (address_of (heads_of image.device) 0) (slots 0) a b (is_address image.device 0 (omega arith)) (short 0) one other
 
   -- what fails of a label
   abbrev LabelFails : ℕ → Head → Type 0

@@ -17,17 +17,13 @@ use Rattle.volume_model.specs.declared.place.Vtoc.{Vtoc}
 use Rattle.volume_model.specs.Sound.{Slots, dscb_of, IsTrackReading, IsReading, IsFormat4, limit_of, is_valid, IsVtoc}
 use Rattle.move_core.specs.Loaded.{AreShort}
 use Rattle.move_core.proofs.Frames.{vtoc_below, pointer_held}
+use Rattle.ckd_image.proofs.Devices.{is_address}
 
 -- ---- addresses
 
 pub heads_15 : (device : Device) → heads_of device ≡ 15
 heads_15 D3390 = refl
 heads_15 D3380 = refl
-
--- the address of a track that an image can have fits its bytes
-pub address_fits : (device : Device) (track : ℕ) → track ≤ 65535 → IsAddress (address_of (heads_of device) track)
-address_fits D3390 track below = (omega arith, omega arith)
-address_fits D3380 track below = (omega arith, omega arith)
 
 -- ---- the format 4
 
@@ -73,7 +69,7 @@ module _ (head : Head) (slots : Slots) (pointer : Cchhr) (sliding : Bool) (a b :
   in_reach : (k : ℕ) → k < a.run.len → IsAddress (address_of (heads_of head.device) (a.run.first + k))
   in_reach k less =
       let below : a.run.first + k < head.tracks = vtoc_below head pointer slots sliding a one (a.run.first + k) (omega arith, omega (arith, less)) in
-      address_fits head.device (a.run.first + k) (omega (arith, below, few))
+      is_address head.device (a.run.first + k) (omega (arith, below, few))
 
   same_tracks : a.tracks ≡ b.tracks
   same_tracks =

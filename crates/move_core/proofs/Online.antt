@@ -12,7 +12,7 @@ use Rattle.vol_label.specs.declared.label.Label.{Label}
 use Rattle.vol_label.specs.declared.fault.LabelFault.TheVariants.{BadLabel}
 use Rattle.vol_label.specs.Label.{IsLabelFault, IsLabel}
 use Rattle.vol_label.proofs.OneLabel.{one_label, no_label}
-use Rattle.redo_core.proofs.Heads.{one_device, no_head}
+use Rattle.redo_core.proofs.Heads.{no_head}
 use Rattle.volume_model.specs.declared.why.Why.TheVariants as whys
 use Rattle.volume_model.specs.declared.rule.VtocRule.{VtocRule}
 use Rattle.volume_model.specs.declared.rule.VtocRule.TheVariants as rules
@@ -24,7 +24,8 @@ use Rattle.volume_model.specs.Unit.{OnlineVolume, UnitModel, online, offline}
 use Rattle.volume_model.specs.Reads.{IsOnline, HasImage, IsFirstText, HasBadLabel, HasLabelOf, HasBadVtoc, IsUnit}
 use Rattle.move_core.specs.Loaded.{AreShort}
 use Rattle.move_core.proofs.Frames.{pointer_held}
-use Rattle.move_core.proofs.OneVtoc.{address_fits, one_format4, one_vtoc}
+use Rattle.move_core.proofs.OneVtoc.{one_format4, one_vtoc}
+use Rattle.ckd_image.proofs.Devices.{is_address, one_device}
 
 module _ (sliding : Bool) (head : List ℕ) (blocks : ℕ) (slots : Slots) (found : Volume) (is : IsVolume head blocks slots sliding found) (first_short : length (slots 0) ≤ 65536)
     (short : AreShort slots is.vtoc.run) where
@@ -38,7 +39,7 @@ module _ (sliding : Bool) (head : List ℕ) (blocks : ℕ) (slots : Slots) (foun
 
   pub first_text : (text : Track) → IsFirstText is.image slots text → text ≡ is.track_0
   first_text text stands =
-      one_text (address_of (heads_of is.image.device) 0) (slots 0) text is.track_0 (address_fits is.image.device 0 (omega arith)) first_short stands is.track_0_stands
+      one_text (address_of (heads_of is.image.device) 0) (slots 0) text is.track_0 (is_address is.image.device 0 (omega arith)) first_short stands is.track_0_stands
 
   pub no_bad_label : (why : ℕ) → ¬ HasBadLabel head blocks slots why
   no_bad_label why bad =

@@ -18,10 +18,7 @@ use Rattle.move_core.specs.Stands.{AreUnused, IsSettled}
 use Rattle.move_core.specs.Runs.{StandsAfterSome, KeepsUnits, IsRun, moves_of}
 use Rattle.move_core.specs.Taking.{IsIdle, TakeUnits}
 use Rattle.move_core.proofs.Keeping.{demote, quiet, still, idle, ends_less, keeps_then, opened, refused, commit_done, commit_failed, each_moment}
-
--- a count that rose since a later moment rose since an earlier one
-pub rose_since : (before middle after : ℕ) → before ≤ middle → Rose middle after → Rose before after
-rose_since before middle after later rose below = omega (arith, later, rose below)
+use Rattle.dasd_pool.proofs.Streams.{rose_since}
 
 -- nothing was done
 pub run_idle : {tells : Type 0} {now : Shown} {ended : Type 0} → ended → IsRun tells now now ended [] None

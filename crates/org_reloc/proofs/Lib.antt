@@ -1,18 +1,18 @@
-pub mod Runs
-pub mod Fillings
-pub mod Placing
-pub mod Groups
-pub mod Naming
-pub mod Room
-pub mod Refits
-pub mod Unique
-pub mod Entries
-pub mod Directories
-pub mod Members
-pub mod Movings
-pub mod Takings
-pub mod Shapes
-pub mod Partitions
-pub mod Against
-pub mod OneDirectory
-pub mod OneRefit
+mod Runs
+mod Fillings
+mod Placing
+mod Groups
+mod Naming
+mod Room
+mod Refits
+mod Unique
+mod Entries
+mod Directories
+mod Members
+mod Movings
+mod Takings
+mod Shapes
+mod Partitions
+mod Against
+mod OneDirectory
+mod OneRefit

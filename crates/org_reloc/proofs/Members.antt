@@ -3,7 +3,7 @@ use Rattle.std.proofs.Common.{◌≡◌, ◌≢◌, ℕ, ◌+◌, ◌/◌, ◌%�
 use Rattle.std.specs.List.{Contains, dedup}
 use Rattle.std.specs.List.Sorted.{IsPermutation, IsSorted}
 use Rattle.std.specs.Ordering.{nat_cmp}
-use Rattle.std.proofs.lemmas.List.{length-take-le, length-map, get_or_at, get_or-map, drop_more, take_more, map-append, append-nil}
+use Rattle.std.proofs.lemmas.List.{length-take-le, get_or_at, drop_more, take_more, map-append, append-nil}
 use Rattle.std.proofs.lemmas.List.Concat.{flat_map-append}
 use Rattle.std.proofs.lemmas.List.Elements.{All-weaker, All-contains_itself, All-nil, All-push}
 use Rattle.std.proofs.lemmas.List.Kept.{Contains-dedup_nat, Contains-from_dedup}
@@ -21,6 +21,7 @@ use Rattle.org_reloc.specs.Place.{place_text}
 use Rattle.org_reloc.specs.Member.{number_of_place, place_of_number, NamesRecords, HoldsMember, Member, member_blocks, members_blocks, starts_of, NamesOne, AreNumbers, AreFrom, IsMemberPut, AreMembersPut}
 use Rattle.org_reloc.proofs.Entries.{same_two}
 use Rattle.org_reloc.proofs.Runs.{split_at, All_middle}
+use Rattle.ckd_image.proofs.Lists.{contains_map}
 
 -- ---- the records at a place
 
@@ -77,9 +78,6 @@ none_numbered tracks place track near is none one =
     All_middle (λ (rec : Rec). rec.r ≢ place.number) h.skipped h.rec h.rest (subst (All (λ (rec : Rec). rec.r ≢ place.number)) recs none) (sym same.1)
 
 -- ---- the places of entries
-
-pub contains_map : {X Y : Type 0} (f : X → Y) (xs : List X) (x : X) → Contains xs x → Contains (map f xs) (f x)
-contains_map f xs x h = (h.0, omega (arith, h.1, length-map xs f), get_or-map f xs h.0 x (f x) h.1 ∙ ap f h.2)
 
 abbrev numbers_of : List Entry → List ℕ
 numbers_of entries = map (λ entry. number_of_place entry.place) entries

@@ -24,13 +24,14 @@ use Rattle.org_reloc.specs.Refusal.{IsFirstTooLong, TakeTooMany}
 use Rattle.org_reloc.specs.Member.{number_of_place, place_of_number, places_of_entries, NamesRecords, NamesOne, HoldsMember, IsEndless, Member, members_blocks, AreMembers}
 use Rattle.org_reloc.specs.Partitioned.{moved_page, all_blocks, HasDirectory, IsMovable, IsPartitionedRefit, HasFrontDirectory, StandsAgainst, IsPartitionedRefusal}
 use Rattle.org_reloc.proofs.Groups.{grouped}
-use Rattle.org_reloc.proofs.Members.{place_apart, contains_map}
+use Rattle.org_reloc.proofs.Members.{place_apart}
 use Rattle.org_reloc.proofs.OneDirectory.{no_user, not_broken, one_directory}
 use Rattle.org_reloc.proofs.Partitions.{all_moved}
 use Rattle.org_reloc.proofs.Runs.{All_middle}
 use Rattle.org_reloc.proofs.Shapes.{all_by_sizes, fit_by_size, same_count, moved_sizes}
 use Rattle.org_reloc.proofs.Takings.{entries_sound, found_in, place_back}
 use Rattle.org_reloc.proofs.Unique.{one_content, no_end_held, one_grouping, grouped_alone}
+use Rattle.ckd_image.proofs.Lists.{contains_map}
 
 -- ---- what a place names
 

@@ -25,7 +25,7 @@ use Rattle.org_reloc.specs.Partitioned.{HasLostEntry, HasNoEndThere}
 use Rattle.org_reloc.proofs.Entries.{same_place}
 use Rattle.org_reloc.proofs.Runs.{all_records, held_sized, All_back}
 use Rattle.org_reloc.proofs.Refits.{end_sized}
-use Rattle.org_reloc.proofs.Members.{contains_map}
+use Rattle.ckd_image.proofs.Lists.{contains_map}
 
 -- ---- places and numbers
 

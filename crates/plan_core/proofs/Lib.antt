@@ -1,7 +1,7 @@
-pub mod Products
-pub mod UsedTracks
+mod Products
+mod UsedTracks
 pub mod Sums
 pub mod Cylinders
-pub mod Ceilings
+mod Ceilings
 pub mod Options
-pub mod KeptTracks
+mod KeptTracks

@@ -1,5 +1,5 @@
 -- How many tracks the first of some extents have.
-use Rattle.std.proofs.Common.{◌≡◌, ℕ, zero, suc, ◌+◌, ◌<◌, ◌≤◌, List, [], ◌∷◌, ◌++◌, length, take, drop, get_or, refl, sym, ap, ◌∙◌, arith}
+use Rattle.std.proofs.Common.{◌≡◌, ℕ, ◌+◌, ◌<◌, ◌≤◌, List, [], ◌∷◌, ◌++◌, length, take, drop, get_or, sym, ap, ◌∙◌, arith}
 use Rattle.std.proofs.lemmas.List.{length-append, length-map, map-append, take_more, take-append-drop}
 use Rattle.std.proofs.lemmas.Grind.{flat_map-append}
 use Rattle.dscb_rec.specs.declared.field.Extent.{Extent as Field}
@@ -9,10 +9,7 @@ use Rattle.volume_model.specs.Space.{run_of}
 use Rattle.volume_model.specs.Unit.{Extent, tracks_in, tracks_of}
 use Rattle.vtoc_core.specs.Loaded.{field_of}
 use Rattle.plan_core.specs.Extents.{extents_at}
-
-numbers_long : (n : ℕ) → length (numbers_below n) ≡ n
-numbers_long zero = refl
-numbers_long (suc n) = omega (arith, length-append (numbers_below n) (n ∷ []), numbers_long n)
+use Rattle.volume_model.proofs.Numbers.{numbers_long}
 
 abbrev pub at : ℕ → Field → Extent
 at heads extent = extent_in heads (field_of extent)

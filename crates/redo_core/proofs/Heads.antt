@@ -1,9 +1,8 @@
 -- An image has one head at most, and none where a rule is broken.
-use Rattle.std.proofs.Common.{◌≡◌, ◌<◌, ◌+◌, ⊎_elim, ℕ, List, refl, sym, ap, ◌∙◌, subst, arith}
+use Rattle.std.proofs.Common.{◌≡◌, ◌<◌, ◌+◌, ⊎_elim, ℕ, List, sym, ap, ◌∙◌, subst, arith}
 use Rattle.std.specs.Prelude.{Option, Some, IfSome, slice_get}
 use Rattle.std.proofs.lemmas.Bool.{cases_eq}
 use Rattle.ckd_image.specs.declared.device.Device.{Device}
-use Rattle.ckd_image.specs.declared.device.Device.TheVariants.{D3390, D3380}
 use Rattle.ckd_image.specs.declared.fault.CkdFault.{CkdFault}
 use Rattle.ckd_image.specs.declared.fault.CkdFault.TheVariants as faults
 use Rattle.ckd_image.specs.declared.head.HeadRule.TheVariants as rules
@@ -13,13 +12,8 @@ use Rattle.vol_label.specs.declared.serial.Serial.{Serial}
 use Rattle.redo_core.specs.Faults.{HasSerial, HasLabel, LabelsAre}
 use Rattle.redo_core.specs.declared.target.Target.{Target}
 use Rattle.redo_core.specs.Reading.{placed, body_for}
-use Rattle.ckd_image.specs.Head.{NamesDevice, IsHead, IsHeadFault, HasHeads, HasSlot, IsCylinders}
-
-pub one_device : (head : List ℕ) (one other : Device) → NamesDevice one head → NamesDevice other head → one ≡ other
-one_device head D3390 D3390 a b = refl
-one_device head D3380 D3380 a b = refl
-one_device head D3390 D3380 a b = absurd (omega (arith, a, b))
-one_device head D3380 D3390 a b = absurd (omega (arith, a, b))
+use Rattle.ckd_image.specs.Head.{IsHead, IsHeadFault, HasHeads, HasSlot, IsCylinders}
+use Rattle.ckd_image.proofs.Devices.{one_device}
 
 pub no_head : (head : List ℕ) (blocks : ℕ) (fault : CkdFault) → IsHeadFault head blocks fault → (device : Device) → ¬ IsHead head blocks device
 no_head head blocks (faults.BadHead why) (rules.Magic, number, broken) device is = broken.2 is.magic

@@ -1,17 +1,17 @@
 pub mod Crash
 pub mod Transitions
-pub mod Written
+mod Written
 pub mod Directory
 pub mod CommitMoments
 pub mod Readings
 pub mod Redoing
-pub mod Surveying
-pub mod Faulting
+mod Surveying
+mod Faulting
 pub mod Heads
 pub mod Openings
-pub mod Refusals
-pub mod Samples
-pub mod Formatting
-pub mod Formatted
-pub mod FormatFaults
+mod Refusals
+mod Samples
+mod Formatting
+mod Formatted
+mod FormatFaults
 pub mod Allowed

@@ -16,7 +16,6 @@ use Rattle.volume_model.specs.Sound.{Slots, IsVtoc, is_valid}
 use Rattle.volume_model.specs.Check.{records_of, track_0, extents_in, usable_in, bad_tracks, bad_dscbs, bad_names, bad_pointers, bad_fives, bad_ranges, bad_overlaps, bad_free}
 use Rattle.vtoc_check.specs.Sized.{IsVtocWith}
 use Rattle.vtoc_core.specs.declared.volume.Volume.{Volume}
-use Rattle.vtoc_core.proofs.Pairs.{front_none}
 use Rattle.vtoc_layout.specs.Layout.{IsLayoutOf, AreLinkedFives, AreExtentsApart, layout_of, runs_by, fives_in_order}
 use Rattle.vtoc_layout.proofs.ExtentRules.{extents_permuted}
 use Rattle.vtoc_load.proofs.Usable.{usable_most, usable_least}
@@ -28,12 +27,9 @@ use Rattle.vtoc_write.specs.Written.{AreRewritten}
 use Rattle.vtoc_rewrite.specs.Rewrite.{AreSlotsAfter, vtoc_with}
 use Rattle.vtoc_rewrite.proofs.Rewritten.{rewritten_stands}
 use Rattle.render_laws.specs.Rendered.{WasLoaded}
+use Rattle.ckd_image.proofs.Lists.{left_nil, right_nil}
 
-back_none : {X : Type 0} (xs ys : List X) → xs ++ ys ≡ [] → ys ≡ []
-back_none [] ys e = e
-back_none (x ∷ xs) ys e = let q : x ∷ (xs ++ ys) ≡ [] = e in cc
-
-tracks_are : (track : ℕ) (tracks : List (Option (List (List ℕ)))) → bad_tracks track tracks ≡ [] → All (λ dscbs. dscbs ≢ None) tracks
+pub tracks_are : (track : ℕ) (tracks : List (Option (List (List ℕ)))) → bad_tracks track tracks ≡ [] → All (λ dscbs. dscbs ≢ None) tracks
 tracks_are track [] e = All-nil (λ (dscbs : Option (List (List ℕ))). dscbs ≢ None)
 tracks_are track (None ∷ more) e = absurd (bare (bad_tracks (track + 1) more) e)
   where
@@ -82,12 +78,12 @@ module _ {head : Head} {label : Label} {unit : Slots} {before : Bool} {slots : L
       let six = five ++ bad_ranges vtoc in
       let seven = six ++ bad_overlaps vtoc in
       tracks_are vtoc.run.first vtoc.tracks
-      (front_none t (bad_dscbs vtoc) (front_none two (bad_names vtoc) (front_none three (bad_pointers vtoc) (front_none four (bad_fives vtoc)
-      (front_none five (bad_ranges vtoc) (front_none six (bad_overlaps vtoc) (front_none seven (bad_free vtoc) was.sound)))))))
+      (left_nil t (bad_dscbs vtoc) (left_nil two (bad_names vtoc) (left_nil three (bad_pointers vtoc) (left_nil four (bad_fives vtoc)
+      (left_nil five (bad_ranges vtoc) (left_nil six (bad_overlaps vtoc) (left_nil seven (bad_free vtoc) was.sound)))))))
 
   pub free_stated : bad_free vtoc ≡ []
   free_stated =
-      back_none
+      right_nil
       (bad_tracks vtoc.run.first vtoc.tracks ++ bad_dscbs vtoc ++ bad_names vtoc ++ bad_pointers vtoc ++ bad_fives vtoc ++ bad_ranges vtoc ++ bad_overlaps vtoc) (bad_free vtoc) was.sound
 
   -- ---- the usable tracks

@@ -1,5 +1,5 @@
 -- What a format 4 says of its volume after a change, and once it is marked.
-use Rattle.std.proofs.Common.{◌≡◌, ℕ, ◌==◌, ◌&&◌, ◌||◌, not, List, ◌∷◌, ◌++◌, length, take, drop, get_or, Bool, true, false, Option, Some, None, refl, sym, ap, ◌∙◌, arith, length-append, length-drop, append_assoc}
+use Rattle.std.proofs.Common.{◌≡◌, ℕ, ◌==◌, ◌&&◌, ◌||◌, not, List, ◌∷◌, ◌++◌, length, take, drop, get_or, Bool, true, false, Option, refl, sym, ap, ◌∙◌, arith, length-append, length-drop, append_assoc}
 use Rattle.std.specs.Prelude.{bit_and, bit_or, min, replicate}
 use Rattle.std.specs.Int.Bits.{and_zero_r}
 use Rattle.std.proofs.lemmas.Bool.{and_parts}
@@ -11,6 +11,7 @@ use Rattle.volume_model.specs.Reads.{fields_of_4, has_index}
 use Rattle.volume_model.specs.Sound.{is_valid}
 use Rattle.dscb_made.specs.Made.{IsStatedFormat4, IsMarkedFormat4}
 use Rattle.dscb_made.specs.Pointers.{pointer_text}
+use Rattle.dscb_made.proofs.Makes.{long_pointer}
 
 -- ---- one byte between others
 
@@ -24,10 +25,6 @@ whole : (front d : List ℕ) (byte : ℕ) → length front ≡ 58 → length d �
 whole front d byte long all = omega (arith, length-append front (byte ∷ drop 59 d), long, all, length-drop 59 d)
 
 -- ---- a format 4 that states a change
-
-long_pointer : (highest : Option Cchhr) → length (pointer_text highest) ≡ 5
-long_pointer None = refl
-long_pointer (Some place) = refl
 
 module _ (d bytes : List ℕ) (highest : Option Cchhr) (free : ℕ) (long : length d ≡ 140) (is : IsStatedFormat4 d highest free bytes) where
   abbrev stated : ℕ

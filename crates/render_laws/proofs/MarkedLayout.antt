@@ -12,7 +12,7 @@ use Rattle.volume_model.specs.Check.{records_of}
 use Rattle.vtoc_check.specs.Sized.{IsSized}
 use Rattle.vtoc_layout.specs.Layout.{SetRecords, Layout, IsLayoutOf, AreSetRecords, AreLinkedFives, records_in_set, used_records}
 use Rattle.vtoc_layout.proofs.Apart.{all_from, flat_same}
-use Rattle.vtoc_layout.proofs.Distinct.{first_or_later, at_first, in_later, in_none, in_front, in_back, in_map, from_map, in_flat}
+use Rattle.vtoc_layout.proofs.Distinct.{first_or_later, at_first, in_later, in_none, in_front, in_back, from_map, in_flat}
 use Rattle.vtoc_layout.proofs.FiveChains.{one_place, itself}
 use Rattle.vtoc_layout.proofs.Uses.{used_there, four_there, same_record, set_is}
 use Rattle.layout_edit.specs.Change.{vtoc_after}
@@ -20,6 +20,7 @@ use Rattle.layout_edit.proofs.Changes.{sized_after}
 use Rattle.layout_edit.proofs.Edits.{edit_named, edit_none, linked_after}
 use Rattle.vtoc_write.specs.Edited.{edit_of, placed_with}
 use Rattle.vtoc_write.proofs.Tracks.{keeps_places}
+use Rattle.ckd_image.proofs.Lists.{contains_map}
 
 filter_kept : {X : Type 0} (test : X → Bool) (f : X → X) (xs : List X) → ((x : X) → Contains xs x → (f x ≡ x) ⊎ ((test x ≡ false) × (test (f x) ≡ false))) → filter test (map f xs) ≡ filter test xs
 filter_kept test f [] h = refl
@@ -119,10 +120,10 @@ module _ (vtoc : Vtoc) (layout : Layout) (marked : Placed) (sized : IsSized vtoc
   marked_layout = record { four = marked; fives = layout.fives; sets = layout.sets }
 
   marked_there : Contains (map edited records) marked
-  marked_there = subst (Contains (map edited records)) four_edited (in_map edited records layout.four (four_there vtoc layout sized is))
+  marked_there = subst (Contains (map edited records)) four_edited (contains_map edited records layout.four (four_there vtoc layout sized is))
 
   other_after : (placed : Placed) → Contains others placed → Contains (map edited records) placed
-  other_after placed c = subst (Contains (map edited records)) (ap (placed_with placed) (other_stays placed c)) (in_map edited records placed (other_there placed c))
+  other_after placed c = subst (Contains (map edited records)) (ap (placed_with placed) (other_stays placed c)) (contains_map edited records placed (other_there placed c))
 
   used_after : (placed : Placed) → Contains (marked ∷ others) placed → Contains (map edited records) placed
   used_after placed c = by (first_or_later marked placed others c)

@@ -23,7 +23,7 @@ use Rattle.vtoc_core.specs.Edit.{run_of_entry}
 use Rattle.vtoc_core.specs.Loaded.{field_of}
 use Rattle.vtoc_layout.specs.Layout.{SetRecords, Layout, IsLayoutOf, AreApart, AreExtentsApart, AreEntriesRight, extents_in_set, runs_by, entries_by, layout_of}
 use Rattle.vtoc_layout.proofs.Apart.{all_from}
-use Rattle.vtoc_layout.proofs.Distinct.{first_or_later, in_later, in_front, in_back, in_map, from_map, in_flat, from_flat, filter_all}
+use Rattle.vtoc_layout.proofs.Distinct.{first_or_later, in_later, in_front, in_back, from_map, in_flat, from_flat, filter_all}
 use Rattle.vtoc_layout.proofs.FreeRules.{has_some}
 use Rattle.layout_edit.specs.Change.{LayoutChange, edits_of, vtoc_after, layout_after}
 use Rattle.layout_edit.specs.Space.{runs_in_sets, ArePutApart}
@@ -31,6 +31,7 @@ use Rattle.layout_edit.proofs.Spaces.{extents_stay, entries_right}
 use Rattle.vtoc_plan.specs.Plan.{Putting}
 use Rattle.render_laws.specs.Rendered.{WasPlanned, MayTakeTracks, runs_put}
 use Rattle.render_laws.proofs.LayoutAfter.{put_extents, put_entries}
+use Rattle.ckd_image.proofs.Lists.{contains_map}
 
 -- ---- runs as entries, and back
 
@@ -62,7 +63,7 @@ run_further heads usable limit extent le e =
     let parts = and_parts front (nat_lt (track_at heads extent.last) usable) e in
     (λ i. parts.0 i && lt-ltb (track_at heads extent.last) limit (omega (arith, le, ltb-true (track_at heads extent.last) usable parts.1)) i)
 
-runs_two : (heads : ℕ) (xs ys : List SetRecords) → runs_in_sets heads (xs ++ ys) ≡ runs_in_sets heads xs ++ runs_in_sets heads ys
+pub runs_two : (heads : ℕ) (xs ys : List SetRecords) → runs_in_sets heads (xs ++ ys) ≡ runs_in_sets heads xs ++ runs_in_sets heads ys
 runs_two heads xs ys = ap (map (run_of heads)) (flat_map-append extents_in_set xs ys) ∙ map-append (run_of heads) (flat_map extents_in_set xs) (flat_map extents_in_set ys)
 
 module _ {vtoc : Vtoc} {four : Placed} {front gone back : List SetRecords} {putting : List Putting} {parts : List (List Entry5)} {change : LayoutChange} {usable : ℕ} (sized : IsSized vtoc)
@@ -109,7 +110,7 @@ module _ {vtoc : Vtoc} {four : Placed} {front gone back : List SetRecords} {putt
   stood_ends set extent p q =
       let all : List ExtentField = flat_map extents_in_set (layout_of vtoc four).sets in
       ends (run_of vtoc.heads extent)
-      (in_later vtoc.run (run_of vtoc.heads extent) (map (run_of vtoc.heads) all) (in_map (run_of vtoc.heads) all extent (in_flat extents_in_set (layout_of vtoc four).sets set extent p q)))
+      (in_later vtoc.run (run_of vtoc.heads extent) (map (run_of vtoc.heads) all) (contains_map (run_of vtoc.heads) all extent (in_flat extents_in_set (layout_of vtoc four).sets set extent p q)))
 
   set_ends : (set : SetRecords) (extent : ExtentField) → Contains (front ++ (change.put ++ back)) set → Contains (extents_in_set set) extent → end_of (run_of vtoc.heads extent) ≤ usable
   set_ends set extent p q = by (Contains-append_cases front (change.put ++ back) set p)

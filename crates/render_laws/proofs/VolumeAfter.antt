@@ -3,7 +3,7 @@ use Rattle.std.proofs.Common.{◌≡◌, ◌⊎◌, inl, inr, ℕ, ◌≤◌, �
 use Rattle.std.specs.Prelude.{nat_lt, IsTrue}
 use Rattle.std.specs.List.Sorted.{IsPermutation}
 use Rattle.std.proofs.lemmas.List.{length-map}
-use Rattle.std.proofs.lemmas.List.Sorted.{Contains-permutation, IsPermutation-sym, IsPermutation-cons, IsPermutation-append, IsPermutation-trans, list_any-IsPermutation}
+use Rattle.std.proofs.lemmas.List.Sorted.{IsPermutation-sym, IsPermutation-cons, IsPermutation-append, IsPermutation-trans, list_any-IsPermutation}
 use Rattle.ckd_image.specs.declared.head.Head.{Head}
 use Rattle.dscb_rec.specs.declared.field.Entry5.{Entry5}
 use Rattle.free_map.specs.declared.run.Run.{Run}
@@ -22,7 +22,7 @@ use Rattle.vtoc_load.specs.LoadedVtoc.{free_records_of, IsSpaceOf, IsVolumeOf}
 use Rattle.vtoc_layout.specs.Layout.{SetRecords, Layout, IsLayoutOf, AreExtentsApart, row_by, runs_by, entries_by, usable_by, layout_of}
 use Rattle.vtoc_layout.proofs.Distinct.{first_or_later, at_first, in_later}
 use Rattle.vtoc_layout.proofs.ExtentRules.{extents_permuted}
-use Rattle.vtoc_layout.proofs.FreeRules.{grows, at_most, each_end, entries_permuted}
+use Rattle.vtoc_layout.proofs.FreeRules.{entries_permuted, greatest_le}
 use Rattle.vtoc_layout.proofs.Layouts.{sound, rows}
 use Rattle.layout_edit.specs.Change.{LayoutChange, edits_of, vtoc_after, layout_after}
 use Rattle.layout_edit.proofs.Spaces.{usable_stay}
@@ -38,9 +38,6 @@ use Rattle.render_laws.proofs.LayoutAfter.{tracks_stay, sized_after, records_aft
 use Rattle.render_laws.proofs.SpaceAfter.{apart_after, entries_free, ends_all, right_after}
 
 -- ---- the space of a VTOC is that of its layout
-
-greatest_within : (xs ys : List Run) → IsPermutation xs ys → greatest_end xs ≤ greatest_end ys
-greatest_within xs ys p = at_most (greatest_end ys) 1 xs (grows 1 ys) (λ run c. each_end 1 ys run (Contains-permutation xs ys run p c))
 
 module _ (vtoc : Vtoc) (layout : Layout) (sized : IsSized vtoc) (is : IsLayoutOf vtoc layout) (are_apart : AreExtentsApart vtoc layout) where
   abbrev extents : List Run
@@ -67,8 +64,8 @@ module _ (vtoc : Vtoc) (layout : Layout) (sized : IsSized vtoc) (is : IsLayoutOf
       greatest =
           omega (
             arith,
-            greatest_within (vtoc.run ∷ (extents_in vtoc ++ entries_in vtoc)) (vtoc.run ∷ (extents ++ entries)) moved,
-            greatest_within (vtoc.run ∷ (extents ++ entries)) (vtoc.run ∷ (extents_in vtoc ++ entries_in vtoc))
+            greatest_le (vtoc.run ∷ (extents_in vtoc ++ entries_in vtoc)) (vtoc.run ∷ (extents ++ entries)) moved,
+            greatest_le (vtoc.run ∷ (extents ++ entries)) (vtoc.run ∷ (extents_in vtoc ++ entries_in vtoc))
                 (IsPermutation-sym (vtoc.run ∷ (extents_in vtoc ++ entries_in vtoc)) (vtoc.run ∷ (extents ++ entries)) moved),
           )
 

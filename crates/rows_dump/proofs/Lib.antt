@@ -1,1 +1,1 @@
-pub mod OnePart
+mod OnePart

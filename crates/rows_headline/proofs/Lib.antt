@@ -1,5 +1,5 @@
-pub mod Forms
-pub mod Frames
-pub mod Looking
-pub mod Settling
-pub mod Stopping
+mod Forms
+mod Frames
+mod Looking
+mod Settling
+mod Stopping

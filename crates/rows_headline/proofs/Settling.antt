@@ -21,10 +21,10 @@ use Rattle.move_core.specs.Facts.{Facts}
 use Rattle.move_core.specs.Resuming.{new_reading}
 use Rattle.move_core.specs.Stands.{is_sliding, place_in, Means}
 use Rattle.move_core.proofs.Below.{IsRunBelow, RowHasRuns, run_below, sound_rows}
-use Rattle.move_core.proofs.Frames.{tracks_all}
 use Rattle.move_core.proofs.OneVtoc.{heads_15}
 use Rattle.move_core.proofs.Resuming.{formatted_settled}
 use Rattle.rows_headline.specs.Made.{IsSettledVolume, AreTold, IsMade, HasVolume, StaysSettled}
+use Rattle.volume_model.proofs.Numbers.{tracks_all}
 
 -- ---- its data sets
 

@@ -1,1 +1,1 @@
-pub mod Apart
+mod Apart

@@ -1,1 +1,1 @@
-pub mod Copying
+mod Copying

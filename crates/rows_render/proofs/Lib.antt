@@ -1,2 +1,2 @@
-pub mod Apart
-pub mod Takes
+mod Apart
+mod Takes

@@ -1,1 +1,1 @@
-pub mod Whole
+mod Whole

@@ -1,5 +1,5 @@
 -- Runs that nothing stands against end whole.
-use Rattle.std.proofs.Common.{◌≡◌, ◌≢◌, ◌⊎◌, inl, inr, ℕ, ◌≤◌, ◌<◌, true, List, [], ◌∷◌, length, refl, sym, ap, subst, ◌∙◌, append_assoc, arith}
+use Rattle.std.proofs.Common.{◌≡◌, ◌≢◌, ◌⊎◌, inl, inr, ℕ, ◌≤◌, ◌<◌, true, List, [], ◌∷◌, length, refl, sym, ap, subst, ◌∙◌, arith}
 use Rattle.std.specs.Prelude.{Option, Some, None, IfSome}
 use Rattle.dasd_pool.specs.declared.pool.Pool.{Ghosts}
 use Rattle.enq_table.specs.HeldText.{lines_of, IsTextFault}
@@ -10,12 +10,10 @@ use Rattle.redo_core.proofs.Allowed.{only_faults}
 use Rattle.run_words.specs.declared.run.Run.{Run}
 use Rattle.run_words.specs.declared.run.Run.TheVariants.{Jobs, Format, Make}
 use Rattle.run_words.proofs.OneRun as runs
-use Rattle.sysin_text.specs.declared.token.Placed.{Placed}
 use Rattle.sysin_text.specs.Tokens.{tokens_of}
 use Rattle.sysin_lang.specs.Flow.{Plan}
 use Rattle.sysin_lang.specs.declared.command.Statement.{Statement}
 use Rattle.sysin_read.specs.declared.fault.SysinFault.TheVariants as faults
-use Rattle.sysin_read.specs.declared.fault.Why.{Why}
 use Rattle.sysin_read.specs.Refusal.{IsRefusal}
 use Rattle.sysin_read.specs.Statement.{IsText}
 use Rattle.sysin_read.proofs.OneText.{one_text}
@@ -31,6 +29,7 @@ use Rattle.adr_top.specs.Asked.{AskFor, serials_of}
 use Rattle.adr_top.specs.Ends.{Given, AsksText, StopsBefore, EndsReady, OpensNot, RunsText, EndsRun}
 use Rattle.adr_top.specs.Texts.{SourceSeen, IsHeldText, IsLong, StopsTexts}
 use Rattle.run_laws.specs.Complete.{IsWellAsked, HasRightTexts, HasNoFault, OpensFor, RunsAreWhole}
+use Rattle.sysin_read.proofs.OnePlace.{never_refused}
 
 -- ---- what words ask for
 
@@ -68,11 +67,6 @@ held_long : (path : Option (List ℕ)) (held : SourceSeen) (text : List ℕ) →
     → ¬ IsLong held
 held_long None held text told short some = absurd (some refl)
 held_long (Some named) held text told short some = not_long held text (told named refl) short
-
-not_refused : (plan : Plan) (list : List Placed) (line column : ℕ) (why : Why) → IsText true plan list → ¬ IsRefusal list (faults.BadStatement line column why)
-not_refused plan list line column why text (inl wrong) =
-    wrong.wrong (inl (wrong.behind, plan, subst (λ (l : List Placed). IsText true plan l) (wrong.whole ∙ sym (append_assoc wrong.front (wrong.token ∷ []) wrong.behind)) text))
-not_refused plan list line column why text (inr early) = early.0.early plan text
 
 module _ {P : Type 0} (pools : Ghosts P) (given : Given) (pool : P) (left : After P) (well : IsWellAsked given) (right : HasRightTexts given well.path)
     (opens : OpensFor pools pool well.volumes) (none : HasNoFault pools given pool left) where
@@ -117,7 +111,7 @@ module _ {P : Type 0} (pools : Ghosts P) (given : Given) (pool : P) (left : Afte
       absurd (no_fault [] (lines_of right.texts.held) right.table line column right.ready.table_is
       (subst (λ (t : List ℕ). IsTextFault [] (lines_of t) line column) (held_is stops.0.held stops.1.held_is) stops.2))
   only_memory (ends.Wrong inputs.Sysin line column) stops =
-      absurd (not_refused right.plan (tokens_of right.texts.sysin) line column stops.2 right.ready.plan_is
+      absurd (never_refused right.plan (tokens_of right.texts.sysin) line column stops.2 right.ready.plan_is
       (subst (λ (t : List ℕ). IsRefusal (tokens_of t) (faults.BadStatement line column stops.2)) (sysin_is stops.0.sysin stops.3.sysin_is) stops.5))
   only_memory ends.NotBuilt stops =
       let text = subst (λ (t : List ℕ). IsText true stops.2 (tokens_of t)) (sysin_is stops.0.sysin stops.3.sysin_is) stops.5 in

@@ -2,21 +2,14 @@
 use Rattle.std.proofs.Common.{◌≡◌, ℕ, ◌+◌, ◌<◌, ◌≤◌, length, arith, length-append, List, [], ◌++◌, take, drop, Option, Some, None, Result, Ok, Err, refl, sym, ap, subst, ◌∙◌, append_assoc}
 use Rattle.std.specs.Prelude.{IfSome, IfErr}
 use Rattle.std.proofs.lemmas.List.{take-append-drop, append-nil, length-take-le}
-use Rattle.std.proofs.Math.Seq.{take-append_seam, take-append-add}
+use Rattle.std.proofs.Math.Seq.{take-append_seam}
 use Rattle.dasd_pool.specs.Stream.{Appends, AppendsSome, Takes, EndsOnly}
 use Rattle.run_lines.specs.Texts.{IsTextOf, TakesFew}
+use Rattle.dasd_pool.proofs.Streams.{appends_then, takes_then}
 
 pub appends_none : (taken : Option (List ℕ)) → Appends taken taken []
 appends_none None = refl
 appends_none (Some old) = ap Some (sym (append-nil old))
-
--- a piece, and then another
-pub appends_then : (old mid new : Option (List ℕ)) (x y : List ℕ) → Appends old mid x → Appends mid new y → Appends old new (x ++ y)
-appends_then None mid new x y p q = let P : Option (List ℕ) → Type 0 = λ m. Appends m new y in subst P p q
-appends_then (Some old) mid new x y p q =
-    let P : Option (List ℕ) → Type 0 = λ m. Appends m new y in
-    let next : new ≡ Some ((old ++ x) ++ y) = subst P p q in
-    next ∙ ap Some (append_assoc old x y)
 
 -- all of the text but the rest was written
 pub record HasWritten (old new : Option (List ℕ)) (text rest : List ℕ) : Type 0 where
@@ -56,13 +49,6 @@ pub takes_none : (left : Option (List ℕ)) → Takes left left []
 takes_none None = refl
 takes_none (Some text) = (text, refl, refl)
 
-pub takes_then : (old mid new : Option (List ℕ)) (x y : List ℕ) → Takes old mid x → Takes mid new y → Takes old new (x ++ y)
-takes_then None mid new x y p q = let P : Option (List ℕ) → Type 0 = λ m. Takes m new y in subst P p q
-takes_then (Some text) mid new x y p q =
-    let P : Option (List ℕ) → Type 0 = λ m. Takes m new y in
-    let next = subst P p.1 q in
-    (next.0, next.1, p.2 ∙ ap (λ (r : List ℕ). x ++ r) next.2 ∙ sym (append_assoc x y next.0))
-
 -- nothing was read of a source that has nothing left
 pub ends_still : (mid new : Option (List ℕ)) → Takes mid new [] → EndsOnly mid → EndsOnly new
 ends_still None new p e = let P : Option (List ℕ) → Type 0 = EndsOnly in subst P (sym p) tt
@@ -79,13 +65,6 @@ took_all (Some old) mid text p e =
 pub had_more : (old mid : Option (List ℕ)) (text : List ℕ) (n : ℕ) → Takes old mid text → n < length text → IfSome old (λ bytes. n < length bytes)
 had_more None mid text n p more = tt
 had_more (Some old) mid text n p more = omega (arith, ap length p.2, length-append text p.0, more)
-
--- all of a text, and a front of the next
-pub appends_some_then : (old mid new : Option (List ℕ)) (x y : List ℕ) → Appends old mid x → AppendsSome mid new y → AppendsSome old new (x ++ y)
-appends_some_then old mid new x y p q =
-    let both : x ++ take q.0 y ≡ take (length x + q.0) (x ++ y) = sym (take-append-add x y q.0) in
-    let P : List ℕ → Type 0 = λ piece. Appends old new piece in
-    (length x + q.0, omega (arith, q.1, length-append x y), subst P both (appends_then old mid new x (take q.0 y) p q.2))
 
 -- a piece more, of a room that is left
 pub takes_few : (old mid new : Option (List ℕ)) (text piece : List ℕ) (count most : ℕ) → Takes old mid text → Takes mid new (take count piece) → count ≤ length piece

@@ -13,12 +13,7 @@ use Rattle.run_words.proofs.Ends.{not_false}
 use Rattle.run_words.proofs.Hyphens.{spelling_is}
 use Rattle.run_words.proofs.Steps.{put}
 use Rattle.run_words.proofs.Walks.{put_given}
-
-either_way : (a b : Bool) → (a ≡ true → b ≡ true) → (b ≡ true → a ≡ true) → a ≡ b
-either_way true true p q = refl
-either_way true false p q = sym (p refl)
-either_way false true p q = q refl
-either_way false false p q = refl
+use Rattle.ckd_image.proofs.Bools.{either_way}
 
 -- names are the same where they are without their hyphens
 same_bare : (name other : Name) → is_same name other ≡ bytes_eq (bare name) (bare other)

@@ -6,9 +6,9 @@ pub mod Walks
 pub mod Found
 pub mod Taken
 pub mod Same
-pub mod Giving
+mod Giving
 pub mod OneRun
 pub mod Ends
-pub mod Chosen
-pub mod Passed
-pub mod Refused
+mod Chosen
+mod Passed
+mod Refused

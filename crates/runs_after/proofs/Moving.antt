@@ -1,7 +1,7 @@
 -- The runs of free tracks before a move and behind it.
 use Rattle.std.proofs.Common.{◌≡◌, ◌⊎◌, inl, inr, ⊎_elim, ◌↔◌, ℕ, zero, suc, ◌+◌, ◌-◌, ◌<◌, ◌≤◌, Bool, true, false, ◌&&◌, ◌||◌, List, [], ◌∷◌, length, All, Contains, IsTrue, refl, sym, ap, subst, ◌∙◌, arith}
 use Rattle.std.specs.Prelude.{Any, nat_le, nat_lt}
-use Rattle.std.proofs.lemmas.Bool.{cases_lt, false≢true, leb-true, le-leb, ltb-true, lt-ltb}
+use Rattle.std.proofs.lemmas.Bool.{cases_lt, false≢true, leb-true, le-leb, ltb-true, lt-ltb, or_right, or_left, or_cases}
 use Rattle.std.proofs.lemmas.List.Elements.{All-head, All-tail, All-nil, All-cons}
 use Rattle.vtoc_layout.proofs.Distinct.{first_or_later, at_first, in_later, in_none}
 use Rattle.free_map.specs.declared.run.Run.{Run}
@@ -10,29 +10,14 @@ use Rattle.free_map.specs.Runs.{HasTrack, InRuns, AreApart, AreMaximalRuns}
 use Rattle.runs_after.specs.After.{IsFreeThen, IsBeside, bit}
 use Rattle.runs_after.proofs.Starts.{holds, in_runs, before, starts_at, starts}
 use Rattle.runs_after.proofs.Adding.{adds, adds_in, adds_out, starts_adds}
+use Rattle.ckd_image.proofs.Bools.{either_way}
+use Rattle.free_map.proofs.Apart.{from_le}
 
 -- ---- truth values
-
-same_bool : (a b : Bool) → (a ≡ true → b ≡ true) → (b ≡ true → a ≡ true) → a ≡ b
-same_bool true b to from = sym (to refl)
-same_bool false true to from = absurd (false≢true (from refl))
-same_bool false false to from = refl
 
 not_true : (b : Bool) → ¬ (b ≡ true) → b ≡ false
 not_true true fails = absurd (fails refl)
 not_true false fails = refl
-
-either : (a b : Bool) → (a || b) ≡ true → (a ≡ true) ⊎ (b ≡ true)
-either true b is = inl refl
-either false b is = inr is
-
-left_so : (a b : Bool) → a ≡ true → (a || b) ≡ true
-left_so true b is = refl
-left_so false b is = absurd (false≢true is)
-
-right_so : (a b : Bool) → b ≡ true → (a || b) ≡ true
-right_so true b is = refl
-right_so false b is = is
 
 both : (a b : Bool) → (a && b) ≡ true → (a ≡ true) × (b ≡ true)
 both true b is = (refl, is)
@@ -52,12 +37,12 @@ says_holds run track is =
 in_says : (runs : List Run) (track : ℕ) → in_runs runs track ≡ true → InRuns runs track
 in_says [] track is = false≢true is
 in_says (run ∷ runs) track is =
-    ⊎_elim (λ here. inl (holds_says run track here)) (λ later. inr (in_says runs track later)) (either (holds run track) (in_runs runs track) is)
+    ⊎_elim (λ here. inl (holds_says run track here)) (λ later. inr (in_says runs track later)) (or_cases (holds run track) (in_runs runs track) is)
 
 says_in : (runs : List Run) (track : ℕ) → InRuns runs track → in_runs runs track ≡ true
 says_in [] track is = absurd is
-says_in (run ∷ runs) track (inl here) = left_so (holds run track) (in_runs runs track) (says_holds run track here)
-says_in (run ∷ runs) track (inr later) = right_so (holds run track) (in_runs runs track) (says_in runs track later)
+says_in (run ∷ runs) track (inl here) = or_left (holds run track) (in_runs runs track) (says_holds run track here)
+says_in (run ∷ runs) track (inr later) = or_right (holds run track) (in_runs runs track) (says_in runs track later)
 
 -- a run holds a track, whichever way that is said
 pub in_any : (runs : List Run) (track : ℕ) → InRuns runs track ↔ Any (λ run. HasTrack run track) runs
@@ -77,11 +62,6 @@ in_any runs track = (to runs, λ any. from runs any.1 (any.0, any.2, any.3) any.
 
 -- ---- as many runs begin as there are
 
-low_out : (from : ℕ) (runs : List Run) (track : ℕ) → AreApart from runs → InRuns runs track → from ≤ track
-low_out from [] track apart there = absurd there
-low_out from (run ∷ runs) track apart (inl here) = omega (arith, apart.0, here.0)
-low_out from (run ∷ runs) track apart (inr later) = omega (arith, apart.0, low_out (run.first + run.len + 1) runs track apart.2 later)
-
 starts_none : (limit : ℕ) → starts (in_runs []) limit ≡ 0
 starts_none zero = refl
 starts_none (suc limit) = omega (arith, starts_none limit)
@@ -98,18 +78,18 @@ not_both run track (inl below) here = omega (arith, below, here.0)
 not_both run track (inr above) here = omega (arith, above, here.1)
 
 same_adds : (run : Run) (runs : List Run) (track : ℕ) → adds (in_runs runs) run.first run.len track ≡ in_runs (run ∷ runs) track
-same_adds run runs track = same_bool (adds (in_runs runs) run.first run.len track) (in_runs (run ∷ runs) track) to from
+same_adds run runs track = either_way (adds (in_runs runs) run.first run.len track) (in_runs (run ∷ runs) track) to from
   where
     to : adds (in_runs runs) run.first run.len track ≡ true → in_runs (run ∷ runs) track ≡ true
     to is =
-        ⊎_elim (λ here. left_so (holds run track) (in_runs runs track) (says_holds run track here))
-        (λ out. right_so (holds run track) (in_runs runs track) (sym (adds_out (in_runs runs) run.first run.len track out) ∙ is)) (where_is run track)
+        ⊎_elim (λ here. or_left (holds run track) (in_runs runs track) (says_holds run track here))
+        (λ out. or_right (holds run track) (in_runs runs track) (sym (adds_out (in_runs runs) run.first run.len track out) ∙ is)) (where_is run track)
 
     from : in_runs (run ∷ runs) track ≡ true → adds (in_runs runs) run.first run.len track ≡ true
     from is =
         ⊎_elim (λ here. adds_in (in_runs runs) run.first run.len track here.0 here.1)
         (λ out. adds_out (in_runs runs) run.first run.len track out
-        ∙ ⊎_elim (λ here. absurd (not_both run track out (holds_says run track here))) (λ later. later) (either (holds run track) (in_runs runs track) is)) (where_is run track)
+        ∙ ⊎_elim (λ here. absurd (not_both run track out (holds_says run track here))) (λ later. later) (or_cases (holds run track) (in_runs runs track) is)) (where_is run track)
 
 -- a run that lies apart from others, before them or between them, begins one more but for those that it touches
 run_added : (run : Run) (runs : List Run) (limit : ℕ) → 1 ≤ run.len → run.first + run.len < limit → ((track : ℕ) → HasTrack run track → ¬ InRuns runs track)
@@ -134,10 +114,10 @@ starts_runs from limit (run ∷ runs) apart below =
     let behind = run.first + run.len + 1 in
     let later = starts_runs behind limit runs apart.2 (All-tail (λ (r : Run). r.first + r.len < limit) run runs below) in
     let added = run_added run runs limit apart.1 (All-head (λ (r : Run). r.first + r.len < limit) run runs below)
-    (λ track here there. omega (arith, here.1, low_out behind runs track apart.2 there)) in
-    let front : bit (before (in_runs runs) run.first) ≡ 0 = not_before runs run.first (λ other low there. omega (arith, low, low_out behind runs other apart.2 there)) in
+    (λ track here there. omega (arith, here.1, from_le behind runs track apart.2 there)) in
+    let front : bit (before (in_runs runs) run.first) ≡ 0 = not_before runs run.first (λ other low there. omega (arith, low, from_le behind runs other apart.2 there)) in
     let back : bit (in_runs runs (run.first + run.len)) ≡ 0 =
-    ap bit (not_true (in_runs runs (run.first + run.len)) (λ is. omega (arith, low_out behind runs (run.first + run.len) apart.2 (in_says runs (run.first + run.len) is)))) in
+    ap bit (not_true (in_runs runs (run.first + run.len)) (λ is. omega (arith, from_le behind runs (run.first + run.len) apart.2 (in_says runs (run.first + run.len) is)))) in
     omega (arith, added, front, back, later)
 
 starts_few : (set : ℕ → Bool) (limit : ℕ) → starts set limit ≤ limit
@@ -160,7 +140,7 @@ beside_is runs more run count all same is =
     is.count_is ∙ (λ i. bit (front run.first is.before_is i) + bit (back i))
   where
     back : is.behind ≡ in_runs all (run.first + run.len)
-    back = same_bool is.behind (in_runs all (run.first + run.len)) (λ b. says_in all (run.first + run.len) ((same (run.first + run.len)).0 (is.behind_is.0 b)))
+    back = either_way is.behind (in_runs all (run.first + run.len)) (λ b. says_in all (run.first + run.len) ((same (run.first + run.len)).0 (is.behind_is.0 b)))
         (λ there. is.behind_is.1 ((same (run.first + run.len)).1 (in_says all (run.first + run.len) there)))
 
     front : (first : ℕ) → (IsTrue is.before ↔ ((1 ≤ first) × (InRuns runs (first - 1) ⊎ InRuns more (first - 1)))) → is.before ≡ before (in_runs all) first
@@ -168,7 +148,7 @@ beside_is runs more run count all same is =
     front (suc track) told =
         let at : suc track - 1 ≡ track = omega arith in
         let In : ℕ → Type 0 = λ other. InRuns runs other ⊎ InRuns more other in
-        same_bool is.before (in_runs all track) (λ b. says_in all track ((same track).0 (subst In at (told.0 b).1)))
+        either_way is.before (in_runs all track) (λ b. says_in all track ((same track).0 (subst In at (told.0 b).1)))
         (λ there. told.1 (omega arith, subst In (sym at) ((same track).1 (in_says all track there))))
 
 -- ---- a move
@@ -208,7 +188,7 @@ module _ (free : Free) (apart : AreApart 0 free.runs) (within : All (λ run. run
 
     same_all : (track : ℕ) → in_runs (from ∷ free.runs) track ≡ in_runs (to ∷ runs) track
     same_all track =
-        same_bool (in_runs (from ∷ free.runs) track) (in_runs (to ∷ runs) track)
+        either_way (in_runs (from ∷ free.runs) track) (in_runs (to ∷ runs) track)
         (λ there. says_in (to ∷ runs) track (forth (in_says (from ∷ free.runs) track there)))
         (λ there. says_in (from ∷ free.runs) track (back (in_says (to ∷ runs) track there)))
       where

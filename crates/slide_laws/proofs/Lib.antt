@@ -1,4 +1,4 @@
-pub mod Splits
-pub mod ExtentsOnce
-pub mod OneSlide
-pub mod OneList
+mod Splits
+mod ExtentsOnce
+mod OneSlide
+mod OneList

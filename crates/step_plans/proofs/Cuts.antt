@@ -9,9 +9,10 @@ use Rattle.volume_model.specs.Space.{end_of, overlap}
 use Rattle.volume_model.specs.Unit.{Extent, run_in}
 use Rattle.vtoc_layout.specs.Layout.{AreApart}
 use Rattle.vtoc_layout.proofs.Apart.{all_from}
-use Rattle.vtoc_layout.proofs.Distinct.{in_map, from_map}
+use Rattle.vtoc_layout.proofs.Distinct.{from_map}
 use Rattle.move_core.specs.Steps.{cut}
 use Rattle.step_plans.proofs.Fronts.{part_of}
+use Rattle.ckd_image.proofs.Lists.{contains_map}
 
 -- ---- each extent
 
@@ -69,7 +70,7 @@ cut_apart keep [] apart = tt
 cut_apart keep (extent ∷ extents) apart = by (cut_apart (keep - extent.run.len) extents apart.1) (keep == 0) (nat_le extent.run.len keep)
   where
     others : All (λ other. overlap extent.run other.run ≡ false) extents
-    others = all_from (λ other. overlap extent.run other.run ≡ false) extents (λ other c. All-contains (λ run. overlap extent.run run ≡ false) (map run_in extents) other.run apart.0 (in_map run_in extents other c))
+    others = all_from (λ other. overlap extent.run other.run ≡ false) extents (λ other c. All-contains (λ run. overlap extent.run run ≡ false) (map run_in extents) other.run apart.0 (contains_map run_in extents other c))
 
     kept : All (λ other. overlap extent.run other.run ≡ false) (cut (keep - extent.run.len) extents)
     kept = cut_each (λ other. overlap extent.run other.run ≡ false) (λ other n less none. shares_none extent.run other n less none) (keep - extent.run.len) extents others

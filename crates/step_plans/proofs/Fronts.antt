@@ -1,5 +1,5 @@
 -- The first tracks of extents.
-use Rattle.std.proofs.Common.{◌≡◌, ◌≢◌, ℕ, zero, suc, ◌+◌, ◌-◌, ◌*◌, ◌<◌, ◌≤◌, List, [], ◌∷◌, ◌++◌, length, take, drop, get_or, true, refl, sym, ap, subst, ◌∙◌, arith, append_assoc}
+use Rattle.std.proofs.Common.{◌≡◌, ◌≢◌, ℕ, suc, ◌+◌, ◌-◌, ◌*◌, ◌<◌, ◌≤◌, List, [], ◌∷◌, ◌++◌, length, take, drop, get_or, true, refl, sym, ap, subst, ◌∙◌, arith, append_assoc}
 use Rattle.std.specs.Prelude.{if◌then◌else◌}
 use Rattle.std.proofs.lemmas.Bool.{ne_eqb, le-leb, lt-leb}
 use Rattle.std.proofs.lemmas.List.{append-nil, length-append, length-map, map-append, take_more}
@@ -18,12 +18,9 @@ use Rattle.vtoc_check.proofs.Overlapping.{run_facts}
 use Rattle.vtoc_core.specs.Loaded.{field_of}
 use Rattle.move_core.specs.Steps.{cut}
 use Rattle.step_plans.specs.Plans.{AreRuns, extents_from}
+use Rattle.volume_model.proofs.Numbers.{numbers_long}
 
 -- ---- how many there are
-
-pub numbers_long : (n : ℕ) → length (numbers_below n) ≡ n
-numbers_long zero = refl
-numbers_long (suc n) = omega (arith, length-append (numbers_below n) (n ∷ []), numbers_long n)
 
 abbrev on : Device → Field → Extent
 on device extent = extent_in (heads_of device) (field_of extent)

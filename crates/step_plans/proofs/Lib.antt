@@ -1,8 +1,9 @@
 pub mod LoadedRows
 mod Fields
-pub mod Fronts
+mod Fronts
 mod Cuts
 mod Swaps
 pub mod Places
-pub mod Puts
-pub mod Makers
+mod Puts
+mod Makers
+pub mod RowNames

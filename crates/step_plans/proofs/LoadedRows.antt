@@ -1,8 +1,7 @@
 -- The rows of a volume as it was loaded.
-use Rattle.std.proofs.Common.{◌≡◌, ℕ, ◌≤◌, ◌==◌, ◌&&◌, not, nat_lt, List, ◌∷◌, map, get_or, All, Contains, Bool, true, sym, ap, subst, ◌∙◌, arith}
-use Rattle.std.specs.Prelude.{nat_le}
+use Rattle.std.proofs.Common.{◌≡◌, ℕ, ◌≤◌, ◌==◌, ◌&&◌, not, List, ◌∷◌, map, get_or, All, Contains, Bool, true, sym, ap, subst, ◌∙◌, arith}
 use Rattle.std.specs.List.{flat_map}
-use Rattle.std.proofs.lemmas.Bool.{and_parts, both_ways, eq-eqb, leb-true, lt-ltb}
+use Rattle.std.proofs.lemmas.Bool.{both_ways, eq-eqb}
 use Rattle.std.proofs.lemmas.List.Elements.{All-contains}
 use Rattle.ckd_image.specs.declared.head.Head.{Head}
 use Rattle.ckd_image.specs.Device.{heads_of}
@@ -18,13 +17,13 @@ use Rattle.volume_model.specs.Check.{track_0, records_of, extents_in}
 use Rattle.volume_model.specs.Directory.{DirectoryRow}
 use Rattle.volume_model.specs.Dscbs.{format_of, extents_of, extent_at, extent_offsets}
 use Rattle.volume_model.specs.Sound.{Slots}
-use Rattle.volume_model.specs.Space.{end_of, is_run, run_of, track_at}
+use Rattle.volume_model.specs.Space.{end_of, is_run, run_of}
 use Rattle.vtoc_core.specs.declared.volume.Row.{Row}
 use Rattle.vtoc_core.specs.declared.volume.Volume.{Volume}
 use Rattle.vtoc_core.specs.Loaded.{field_of, HasItsName}
 use Rattle.vtoc_layout.specs.Layout.{SetRecords, AreApart, AreSetRecords, layout_of, sets_of, extents_in_set, extents_by, runs_by, records_in_set}
 use Rattle.vtoc_layout.proofs.Apart.{all_from, apart_each, map_flat}
-use Rattle.vtoc_layout.proofs.Distinct.{from_filter, from_flat, in_flat, in_map, in_later}
+use Rattle.vtoc_layout.proofs.Distinct.{from_filter, from_flat, in_flat, in_later}
 use Rattle.volume_change.specs.Runs.{runs_in}
 use Rattle.volume_change.specs.Spot.{AreNamed}
 use Rattle.unit_steps.specs.render_laws.Rendered.{WasLoaded}
@@ -35,15 +34,8 @@ use Rattle.unit_steps.proofs.vtoc_render.NextCounts.{set_of_row}
 use Rattle.unit_steps.proofs.vtoc_render.PlacedTakes.{heads_same}
 use Rattle.unit_steps.proofs.Blocks.{from_slots}
 use Rattle.step_plans.specs.Plans.{IsSound, AreRuns}
-
--- a run that ends below some track is one of fewer tracks
-pub run_within : (heads limit usable : ℕ) (field : ExtentField) → is_run heads limit field ≡ true → end_of (run_of heads field) ≤ usable → is_run heads usable field ≡ true
-run_within heads limit usable field is below =
-    let first = track_at heads field.first in
-    let last = track_at heads field.last in
-    let parts = and_parts (nat_lt field.first.head heads && nat_lt field.last.head heads && nat_le first last) (nat_lt last limit) is in
-    let order : first ≤ last = leb-true first last (and_parts (nat_lt field.first.head heads && nat_lt field.last.head heads) (nat_le first last) parts.0).1 in
-    (λ i. parts.0 i && lt-ltb last usable (omega (arith, below, order)) i)
+use Rattle.ckd_image.proofs.Lists.{contains_map}
+use Rattle.unit_steps.proofs.unit_change.vtoc_render.PutRows.{run_below}
 
 -- The row of a data set as it was loaded.
 pub record IsLoadedRow (volume : Volume) (row : Row) : Type 0 where
@@ -71,7 +63,7 @@ module _ {head : Head} {label : Label} {unit : Slots} {before : Bool} {slots : L
   set_records = All-contains (AreSetRecords vtoc.heads (records_of vtoc)) (sets_of vtoc) set (has_layout was).sets_are set_there
 
   field_in_set : (extent : Extent) → Contains row.extents extent → Contains (extents_in_set set) (field_of extent)
-  field_in_set extent in_row = subst (λ (fields : List ExtentField). Contains fields (field_of extent)) fields_same (in_map field_of row.extents extent in_row)
+  field_in_set extent in_row = subst (λ (fields : List ExtentField). Contains fields (field_of extent)) fields_same (contains_map field_of row.extents extent in_row)
 
   kind_some : (extent : Extent) → Contains row.extents extent → IsThere extent
   kind_some extent in_row none =
@@ -83,12 +75,12 @@ module _ {head : Head} {label : Label} {unit : Slots} {before : Bool} {slots : L
   in_range extent in_row =
       let of_all : Contains (extents_by (layout_of vtoc four)) (field_of extent) = in_flat extents_in_set (sets_of vtoc) set (field_of extent) set_there (field_in_set extent in_row) in
       let run = run_of vtoc.heads (field_of extent) in
-      let of_runs : Contains (runs_by vtoc.heads (layout_of vtoc four)) run = in_map (run_of vtoc.heads) (extents_by (layout_of vtoc four)) (field_of extent) of_all in
+      let of_runs : Contains (runs_by vtoc.heads (layout_of vtoc four)) run = contains_map (run_of vtoc.heads) (extents_by (layout_of vtoc four)) (field_of extent) of_all in
       let below : end_of run ≤ volume.usable =
       ends was run (in_later track_0 run (vtoc.run ∷ extents_in vtoc) (in_later vtoc.run run (extents_in vtoc) (extent_there was run of_runs))) in
       let is : is_run vtoc.heads vtoc.limit (field_of extent) ≡ true =
       All-contains (λ (field : ExtentField). is_run vtoc.heads vtoc.limit field ≡ true) (extents_by (layout_of vtoc four)) (field_of extent) (apart was).ranges of_all in
-      subst (λ (heads : ℕ). is_run heads volume.usable (field_of extent) ≡ true) (sym (heads_same was)) (run_within vtoc.heads vtoc.limit volume.usable (field_of extent) is below)
+      subst (λ (heads : ℕ). is_run heads volume.usable (field_of extent) ≡ true) (sym (heads_same was)) (run_below vtoc.heads vtoc.limit volume.usable (field_of extent) is below)
 
   runs_apart : AreApart (runs_in (heads_of volume.device) row.extents)
   runs_apart =
@@ -119,4 +111,4 @@ sound_runs volume sound row there =
     let heads = heads_of volume.device in
     let ranges = (sound_row volume sound row there).ranges in
     (λ k d less. let field = field_of (get_or row.extents k d) in
-    run_within heads volume.usable 65536 field (ranges k d less) (omega (arith, (run_facts heads volume.usable field (ranges k d less)).0, usable_small (from_slots sound.3))))
+    run_below heads volume.usable 65536 field (ranges k d less) (omega (arith, (run_facts heads volume.usable field (ranges k d less)).0, usable_small (from_slots sound.3))))

@@ -31,7 +31,6 @@ use Rattle.volume_change.specs.declared.change.Change.TheVariants.{Swap, Remove}
 use Rattle.volume_change.proofs.Names.{one_text}
 use Rattle.vtoc_layout.proofs.Apart.{all_from}
 use Rattle.unit_steps.specs.vtoc_render.Next.{MayChange, MayPut}
-use Rattle.unit_steps.proofs.unit_change.Kept.{tracks_all}
 use Rattle.unit_load.specs.declared.state.UnitState.{UnitState}
 use Rattle.plan_core.specs.Consolidate.{IsStepOf}
 use Rattle.move_core.specs.declared.steps.Origin.TheVariants as origins
@@ -47,12 +46,12 @@ use Rattle.unit_steps.proofs.Rows.{runs_on}
 use Rattle.step_plans.specs.declared.copies.SetCopy.{SetCopy}
 use Rattle.step_plans.specs.Copies.{IsNewRow}
 use Rattle.step_plans.specs.Plans.{IsSound, IsRoom, HasNone, IsClear, IsInTheWay, IsPlanForBoth, step_of_copy, step_of_carry, IsPlaceOn, ArePlacesOn, IsJoinPlan, extents_from, field_on}
-use Rattle.step_plans.proofs.Fronts.{numbers_long}
 use Rattle.step_plans.proofs.LoadedRows.{sound_row}
 use Rattle.step_plans.proofs.Places.{on_runs}
 use Rattle.step_plans.proofs.Puts.{free_rooms, may_put}
 use Rattle.step_plans.proofs.Swaps.{code_of_1}
 use Rattle.volume_model.proofs.Formats.{format_is_1}
+use Rattle.volume_model.proofs.Numbers.{numbers_long, tracks_all}
 
 -- ---- lists
 

@@ -23,7 +23,7 @@ use Rattle.vtoc_core.specs.declared.volume.Volume.{Volume}
 use Rattle.vtoc_core.specs.Loaded.{field_of, HasItsName}
 use Rattle.vtoc_layout.specs.Layout.{AreApart}
 use Rattle.vtoc_layout.proofs.Apart.{all_from}
-use Rattle.vtoc_layout.proofs.Distinct.{in_map, from_map}
+use Rattle.vtoc_layout.proofs.Distinct.{from_map}
 use Rattle.volume_change.specs.declared.change.Change.{Change}
 use Rattle.volume_change.specs.declared.change.Change.TheVariants.{Swap}
 use Rattle.volume_change.specs.Runs.{runs_in}
@@ -39,7 +39,9 @@ use Rattle.unit_steps.specs.declared.plan.Tracks.TheVariants as texts
 use Rattle.unit_steps.specs.Plans.{IsLoadedAt, HasRow, SwapsRow, Plans, tracks_in}
 use Rattle.step_plans.specs.Plans.{IsSound, IsPlanFor, AreRuns, extents_from}
 use Rattle.step_plans.proofs.Cuts.{cut_each, cut_no_more, cut_tracks_in, cut_apart}
-use Rattle.step_plans.proofs.LoadedRows.{IsLoadedRow, run_within, sound_row}
+use Rattle.step_plans.proofs.LoadedRows.{IsLoadedRow, sound_row}
+use Rattle.ckd_image.proofs.Lists.{contains_map}
+use Rattle.unit_steps.proofs.unit_change.vtoc_render.PutRows.{run_below}
 
 -- ---- formats
 
@@ -116,7 +118,7 @@ module _ (volume : Volume) (sound : IsSound volume) (name : Dsn) (old row : Row)
         let of_old : All P (extents_from volume.device old.extents) =
         all_from P (extents_from volume.device old.extents) (λ e there. let found = from_map on old.extents e there in subst P found.2 (all found.0 found.1)) in
         All-contains P (extents_from volume.device row.extents) (on extent)
-        (subst (All P) (sym cut_is) (cut_each P closed keep (extents_from volume.device old.extents) of_old)) (in_map on row.extents extent c)
+        (subst (All P) (sym cut_is) (cut_each P closed keep (extents_from volume.device old.extents) of_old)) (contains_map on row.extents extent c)
 
     few_kept : length row.extents ≤ 16
     few_kept =
@@ -137,7 +139,7 @@ module _ (volume : Volume) (sound : IsSound volume) (name : Dsn) (old row : Row)
     ranges_kept : All (λ extent. is_run (heads_of volume.device) volume.usable (field_of extent) ≡ true) row.extents
     ranges_kept =
         all_from (λ extent. is_run heads volume.usable (field_of extent) ≡ true) row.extents
-        (λ extent c. run_within heads 65536 volume.usable (field_of extent) (All-contains (λ extent. is_run heads 65536 (field_of extent) ≡ true) row.extents extent runs c)
+        (λ extent c. run_below heads 65536 volume.usable (field_of extent) (All-contains (λ extent. is_run heads 65536 (field_of extent) ≡ true) row.extents extent runs c)
         (each_kept (λ extent. end_of extent.run ≤ volume.usable) (λ extent n less below. omega (arith, less, below))
         (λ extent c. (run_facts heads volume.usable (field_of extent) (All-contains (λ extent. is_run heads volume.usable (field_of extent) ≡ true) old.extents extent known.ranges c)).0) extent c))
 

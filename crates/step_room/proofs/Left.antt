@@ -10,15 +10,17 @@ use Rattle.volume_model.specs.Unit.{DataSet, OnlineVolume, run_in, runs_of_sets,
 use Rattle.vtoc_core.specs.declared.volume.Row.{Row}
 use Rattle.vtoc_core.specs.declared.volume.Volume.{Volume}
 use Rattle.vtoc_layout.specs.Layout.{AreDistinct}
-use Rattle.vtoc_layout.proofs.Distinct.{in_front, in_back, in_map, not_both, distinct_back}
+use Rattle.vtoc_layout.proofs.Distinct.{in_front, in_back, not_both, distinct_back}
 use Rattle.volume_change.specs.Runs.{IsFreeAfter}
-use Rattle.volume_change.proofs.Tracks.{in_front as in_front_runs, in_back as in_back_runs, in_either}
 use Rattle.step_plans.specs.vtoc_render.Next.{runs_of_rows}
 use Rattle.step_plans.proofs.vtoc_render.PlacedTracks.{in_or_not}
 use Rattle.step_plans.specs.unit_change.Described.{DescribesSets, Describes}
 use Rattle.step_plans.proofs.unit_change.Describing.{runs_described}
 use Rattle.step_plans.specs.Plans.{IsSound}
-use Rattle.step_room.proofs.SoundRows.{named, names_differ, row_with, sound_track, sound_parts}
+use Rattle.step_room.proofs.SoundRows.{row_with, sound_track, sound_parts}
+use Rattle.ckd_image.proofs.Lists.{contains_map}
+use Rattle.free_map.proofs.Gaps.{in_append, append_left as in_front_runs, append_right as in_back_runs}
+use Rattle.step_plans.proofs.RowNames.{named, names_differ}
 
 -- ---- the rows of data sets in parts
 
@@ -92,7 +94,7 @@ none_of sets xs ys zs track are out = record {
 
 of_none : (sets xs ys zs : List DataSet) (track : ℕ) → sets ≡ xs ++ (ys ++ zs) → IsInNone xs ys zs track → ¬ InRuns (runs_of_sets sets) track
 of_none sets xs ys zs track are is h =
-    first (in_either (runs_of_sets xs) (runs_of_sets ys ++ runs_of_sets zs) track
+    first (in_append (runs_of_sets xs) (runs_of_sets ys ++ runs_of_sets zs) track
     (subst (λ (runs : List Run). InRuns runs track) (ap (λ (list : List DataSet). runs_of_sets list) are ∙ runs_of_three xs ys zs) h))
   where
     second : (InRuns (runs_of_sets ys) track ⊎ InRuns (runs_of_sets zs) track) → ⊥
@@ -101,7 +103,7 @@ of_none sets xs ys zs track are is h =
 
     first : (InRuns (runs_of_sets xs) track ⊎ InRuns (runs_of_sets ys ++ runs_of_sets zs) track) → ⊥
     first (inl here) = is.not_front here
-    first (inr there) = second (in_either (runs_of_sets ys) (runs_of_sets zs) track there)
+    first (inr there) = second (in_append (runs_of_sets ys) (runs_of_sets zs) track there)
 
 -- ---- what is left
 
@@ -139,13 +141,13 @@ module _ {loaded : Volume} {volume : OnlineVolume} (sound : IsSound loaded) (is 
   front_differs : (a b : Row) → Contains parts.front a → Contains parts.middle b → a.name ≢ b.name
   front_differs a b p q same =
       not_both (map named parts.front) (map named parts.middle ++ map named parts.back) b.name distinct
-      (subst (λ (name : List ℕ). Contains (map named parts.front) name) same (in_map named parts.front a p))
-      (in_front (map named parts.middle) (map named parts.back) b.name (in_map named parts.middle b q))
+      (subst (λ (name : List ℕ). Contains (map named parts.front) name) same (contains_map named parts.front a p))
+      (in_front (map named parts.middle) (map named parts.back) b.name (contains_map named parts.middle b q))
 
   back_differs : (a b : Row) → Contains parts.back a → Contains parts.middle b → a.name ≢ b.name
   back_differs a b p q same =
       not_both (map named parts.middle) (map named parts.back) b.name (distinct_back (map named parts.front) (map named parts.middle ++ map named parts.back) distinct)
-      (in_map named parts.middle b q) (subst (λ (name : List ℕ). Contains (map named parts.back) name) same (in_map named parts.back a p))
+      (contains_map named parts.middle b q) (subst (λ (name : List ℕ). Contains (map named parts.back) name) same (contains_map named parts.back a p))
 
   -- the tracks of some data sets are those of their rows
   by_rows : (rows : List Row) (sets : List DataSet) → DescribesSets (heads_of loaded.device) rows sets → (track : ℕ) → InRuns (runs_of_sets sets) track → InRuns (runs_of_rows loaded rows) track

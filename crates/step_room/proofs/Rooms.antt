@@ -19,11 +19,11 @@ use Rattle.step_plans.specs.vtoc_render.Next.{IsChanged, used_by, runs_of_rows}
 use Rattle.step_plans.specs.unit_change.Described.{Describes}
 use Rattle.step_plans.specs.unit_change.Changed.{AreGone, sets_put}
 use Rattle.step_plans.proofs.unit_change.ChangedRows.{is_changed, parted_rows, lawful_put}
-use Rattle.step_plans.proofs.unit_change.Describing.{runs_described}
+use Rattle.step_plans.proofs.unit_change.Describing.{runs_described, uses_described}
 use Rattle.step_plans.specs.Plans.{IsSound}
 use Rattle.step_room.specs.Room.{LackingChangesAreFull, FittingChangesAreNotFull, AreTaken}
 use Rattle.step_room.proofs.Changing.{rows_go, described_go, one_gone, put_runs, put_records}
-use Rattle.step_room.proofs.Counts.{exchanged, records_described, used_described, next_counted}
+use Rattle.step_room.proofs.Counts.{exchanged, used_described, next_counted}
 use Rattle.step_room.proofs.Left.{parts, in_second, free_after}
 
 -- maximal runs of one set are one list
@@ -72,8 +72,8 @@ module _ {loaded new : Volume} {volume : OnlineVolume} {change : Change} (sound 
           arith,
           exchanged records_of_set volume.sets after.sets front gone put back sets_were sets_are,
           exchanged records_for loaded.rows new.rows split.front changed.gone changed.put split.back split.old_are split.new_are,
-          records_described (heads_of loaded.device) loaded.rows volume.sets is.sets_are,
-          records_described (heads_of loaded.device) rows.middle gone rows.middle_are,
+          uses_described (heads_of loaded.device) loaded.rows volume.sets is.sets_are,
+          uses_described (heads_of loaded.device) rows.middle gone rows.middle_are,
           ap (sum_by records_for) rows_same,
           put_records (heads_of loaded.device) loaded.rows new.rows changed.gone changed.put texts change changed.rows_are,
         )

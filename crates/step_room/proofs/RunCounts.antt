@@ -6,9 +6,9 @@ use Rattle.free_map.specs.declared.run.Run.{Run}
 use Rattle.free_map.specs.Runs.{HasTrack, InRuns, AreApart}
 use Rattle.free_map.proofs.Apart.{from_le}
 use Rattle.vtoc_layout.specs.Layout.{AreDistinct}
-use Rattle.vtoc_layout.proofs.Distinct.{first_or_later, in_none, in_front, in_back, in_map, no_more}
-use Rattle.vtoc_layout.proofs.FreeRules.{held_in}
-use Rattle.step_plans.proofs.vtoc_render.PlacedTracks.{run_with}
+use Rattle.vtoc_layout.proofs.Distinct.{first_or_later, in_none, in_front, in_back, no_more}
+use Rattle.vtoc_layout.proofs.FreeRules.{held_in, held_by}
+use Rattle.ckd_image.proofs.Lists.{contains_map}
 
 abbrev first_of : Run → ℕ
 first_of run = run.first
@@ -55,13 +55,13 @@ module _ (runs old given : List Run) (apart : AreApart 0 runs) (to : (track : �
   -- a run that has the first track of one begins there
   begins : (some : List Run) (first : ℕ) → Contains (map first_of runs) first → ((track : ℕ) → InRuns some track → InRuns runs track) → InRuns some first
       → Contains (map first_of some) first
-  begins some first there within held = by (run_with some first held)
+  begins some first there within held = by (held_by some first held)
     where
       by : ((run : Run) × Contains some run × HasTrack run first) → Contains (map first_of some) first
       by (run, c, has) = elim (cases_lt run.first first) [
         | inl lower ↦
             absurd (gap_before 0 runs first (first - 1) apart there (omega (arith, lower)) (within (first - 1) (held_in some run (first - 1) c (omega (arith, lower), omega (arith, lower, has.1)))))
-        | inr not_lower ↦ subst (Contains (map first_of some)) (let same : run.first ≡ first = omega (arith, not_lower, has.0) in same) (in_map first_of some run c)
+        | inr not_lower ↦ subst (Contains (map first_of some)) (let same : run.first ≡ first = omega (arith, not_lower, has.0) in same) (contains_map first_of some run c)
       ]
 
   begins_there : (first : ℕ) → Contains (map first_of runs) first → Contains (map first_of old ++ map first_of given) first

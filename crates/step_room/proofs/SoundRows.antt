@@ -1,8 +1,7 @@
 -- The rows of a volume as it was loaded: no two have one name, or a track in common.
-use Rattle.std.proofs.Common.{◌≡◌, ◌≢◌, ℕ, ◌<◌, ◌≤◌, List, [], ◌∷◌, map, Bool, All, Contains, false, refl, sym, ap, subst, ◌∙◌, arith}
+use Rattle.std.proofs.Common.{◌≡◌, ◌≢◌, ℕ, ◌<◌, ◌≤◌, List, [], ◌∷◌, map, Bool, Contains, false, sym, ap, subst, ◌∙◌, arith}
 use Rattle.std.specs.List.{flat_map}
-use Rattle.std.proofs.lemmas.List.Elements.{All-head, All-tail, All-contains}
-use Rattle.std.proofs.lemmas.List.Sorted.{IsPermutation-map}
+use Rattle.std.proofs.lemmas.List.Elements.{All-contains}
 use Rattle.ckd_image.specs.declared.head.Head.{Head}
 use Rattle.ckd_image.specs.Device.{heads_of}
 use Rattle.free_map.specs.declared.run.Run.{Run}
@@ -10,50 +9,32 @@ use Rattle.free_map.specs.Runs.{HasTrack, InRuns}
 use Rattle.vol_label.specs.declared.label.Label.{Label}
 use Rattle.volume_model.specs.declared.place.Placed.{Placed}
 use Rattle.volume_model.specs.declared.place.Vtoc.{Vtoc}
-use Rattle.volume_model.specs.Check.{track_0, records_of, extents_in}
-use Rattle.volume_model.specs.Directory.{DirectoryRow, rows_of}
+use Rattle.volume_model.specs.Check.{track_0, extents_in}
+use Rattle.volume_model.specs.Directory.{DirectoryRow}
 use Rattle.volume_model.specs.Sound.{Slots}
 use Rattle.volume_model.specs.Space.{end_of, overlap, run_of}
 use Rattle.vtoc_core.specs.declared.volume.Row.{Row}
 use Rattle.vtoc_core.specs.declared.volume.Volume.{Volume}
-use Rattle.vtoc_core.specs.Loaded.{row_in, field_of, HasItsName}
-use Rattle.vtoc_layout.specs.Layout.{SetRecords, AreApart, AreDistinct, layout_of, sets_of, extents_in_set, runs_by, name_of}
+use Rattle.vtoc_core.specs.Loaded.{field_of}
+use Rattle.vtoc_layout.specs.Layout.{SetRecords, AreApart, layout_of, sets_of, extents_in_set, runs_by, name_of}
 use Rattle.vtoc_layout.proofs.Apart.{NoneShared, apart_two, map_flat}
-use Rattle.vtoc_layout.proofs.Distinct.{from_flat, in_flat, in_later}
-use Rattle.vtoc_layout.proofs.FreeRules.{held_in}
+use Rattle.vtoc_layout.proofs.Distinct.{from_flat, in_flat, in_later, one_of_map}
+use Rattle.vtoc_layout.proofs.FreeRules.{held_in, held_by}
 use Rattle.volume_change.specs.Runs.{runs_in}
 use Rattle.step_plans.specs.render_laws.Rendered.{WasLoaded}
 use Rattle.step_plans.proofs.render_laws.Before.{apart, ends, extent_there}
 use Rattle.step_plans.specs.vtoc_render.Next.{runs_of_rows}
 use Rattle.step_plans.proofs.vtoc_render.NextCounts.{set_of_row}
 use Rattle.step_plans.proofs.vtoc_render.PlacedTakes.{heads_same}
-use Rattle.step_plans.proofs.vtoc_render.PlacedTracks.{run_with, none_shared}
-use Rattle.step_plans.proofs.unit_change.LoadedTracks.{own_names}
-use Rattle.step_plans.proofs.unit_change.OneOrder.{name_in, distinct_moved}
-use Rattle.step_plans.proofs.unit_steps.Blocks.{few, home_short, from_slots}
-use Rattle.step_plans.proofs.unit_steps.Lists.{one_by}
+use Rattle.step_plans.proofs.vtoc_render.PlacedTracks.{none_shared}
+use Rattle.step_plans.proofs.unit_steps.Blocks.{from_slots}
 use Rattle.step_plans.specs.Plans.{IsSound}
+use Rattle.step_plans.proofs.RowNames.{named, names_differ}
 
 -- ---- names
 
-abbrev pub named : Row → List ℕ
-named row = row.name
-
-row_names : (rows : List Row) → All HasItsName rows → map name_in (map row_in rows) ≡ map named rows
-row_names [] all = refl
-row_names (row ∷ rows) all = (λ i. sym (All-head HasItsName row rows all) i ∷ row_names rows (All-tail HasItsName row rows all) i)
-
-pub names_differ : (volume : Volume) → IsSound volume → AreDistinct (map named volume.rows)
-names_differ volume sound =
-    let from = sound.3 in
-    let is = from.loaded in
-    let read = rows_of is.vtoc.heads (records_of is.vtoc) in
-    subst (λ (names : List (List ℕ)). AreDistinct names) (row_names volume.rows is.volume.names_are)
-    (distinct_moved (map name_in (map row_in volume.rows)) (map name_in read) (own_names is (few from) (home_short from))
-    (IsPermutation-map name_in read (map row_in volume.rows) is.volume.rows_are.same))
-
 pub one_row : (volume : Volume) → IsSound volume → (a b : Row) → Contains volume.rows a → Contains volume.rows b → a.name ≡ b.name → a ≡ b
-one_row volume sound a b here there same = one_by named volume.rows a b (names_differ volume sound) here there same
+one_row volume sound a b here there same = one_of_map named volume.rows a b (names_differ volume sound) here there same
 
 -- ---- tracks
 
@@ -63,7 +44,7 @@ runs_for volume row = runs_in (heads_of volume.device) row.extents
 -- a track of rows is one of some row
 pub row_with : (volume : Volume) (rows : List Row) (track : ℕ) → InRuns (runs_of_rows volume rows) track → (row : Row) × Contains rows row × InRuns (runs_for volume row) track
 row_with volume rows track h =
-    let run = run_with (runs_of_rows volume rows) track h in
+    let run = held_by (runs_of_rows volume rows) track h in
     let row = from_flat (λ (row : Row). runs_in (heads_of volume.device) row.extents) rows run.0 run.1 in
     (row.0, row.1, held_in (runs_for volume row.0) run.0 track row.2 run.2)
 
@@ -94,7 +75,7 @@ module _ {head : Head} {label : Label} {unit : Slots} {before : Bool} {slots : L
 
   row_track : (row : Row) → Contains volume.rows row → (track : ℕ) → InRuns (runs_for volume row) track → IsSetTrack volume track
   row_track row c track h =
-      let at = run_with (runs_for volume row) track h in
+      let at = held_by (runs_for volume row) track h in
       let run = at.0 in
       let there = run_there row c run at.1 in
       let within : end_of run ≤ volume.usable =
@@ -115,8 +96,8 @@ module _ {head : Head} {label : Label} {unit : Slots} {before : Bool} {slots : L
       let two : ¬ (one.set ≡ other.set) = λ same. differ (sym one.named ∙ ap (λ (s : SetRecords). name_of s) same ∙ other.named) in
       let shared : NoneShared (runs_with one.set) (runs_with other.set) =
       apart_two runs_with (sets_of vtoc) one.set other.set (subst (λ (runs : List Run). AreApart runs) all_runs (apart was).apart) one.there other.there two in
-      let mine = run_with (runs_for volume a) track here in
-      let its = run_with (runs_for volume b) track there in
+      let mine = held_by (runs_for volume a) track here in
+      let its = held_by (runs_for volume b) track there in
       none_shared mine.0 its.0 track
       (shared mine.0 its.0 (subst (λ (runs : List Run). Contains runs mine.0) (runs_are a p) mine.1) (subst (λ (runs : List Run). Contains runs its.0) (runs_are b q) its.1)) mine.2 its.2
 

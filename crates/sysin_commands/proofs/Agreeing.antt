@@ -1,5 +1,5 @@
 -- Operands agree as far as both go.
-use Rattle.std.proofs.Common.{◌≡◌, ◌⊎◌, inl, inr, ℕ, List, [], ◌∷◌, ◌++◌, sym, ap, subst, ◌∙◌, Bool, true, false, Some, None, append_assoc, append-nil}
+use Rattle.std.proofs.Common.{◌≡◌, ◌⊎◌, inl, inr, ℕ, List, [], ◌∷◌, ◌++◌, sym, ap, subst, ◌∙◌, Bool, true, false, Some, None, append-nil}
 use Rattle.sysin_text.specs.declared.token.Token.{Token}
 use Rattle.sysin_text.specs.declared.token.Token.TheVariants.{Comma, Open, Close, Word}
 use Rattle.sysin_words.specs.declared.keyword.Keyword.{Keyword}
@@ -26,11 +26,13 @@ use Rattle.sysin_operands.proofs.Bracketed as plain
 use Rattle.sysin_operands.proofs.Contents as contents
 use Rattle.sysin_operands.proofs.Unlimited as unlimited
 use Rattle.sysin_filters.specs.Filter.{IsFilter}
-use Rattle.sysin_filters.proofs.Series.{overlap, Agree, BeginsWithWord}
+use Rattle.sysin_filters.proofs.Series.{Agree, BeginsWithWord}
 use Rattle.sysin_filters.proofs.Shorter.{no_shorter_patterns, no_shorter_criteria}
 use Rattle.sysin_filters.proofs.Closing as filters
 use Rattle.sysin_commands.specs.Operand.{IsOperand}
 use Rattle.sysin_commands.proofs.FirstWord.{IsOther, only_plain, one}
+use Rattle.sysin_filters.proofs.Parts.{no_longer, bracketed}
+use Rattle.sysin_values.proofs.LongCriteria.{overlap}
 
 -- ---- names
 
@@ -184,13 +186,6 @@ no_shorter_rename (renames.Listed list) (renames.Listed all) front rest (l, few)
     by_rest (inl none) = cc
     by_rest (inr r) = let comma = r.comma in cc
 
--- what is read of contents of one kind, one of them limited, is no longer than the other
-no_longer : (limited : Bool) (bracket : Bracket) (operand other : Operand) (front rest : List Token) → IsContent bracket true operand front → IsContent bracket limited other (front ++ Close ∷ rest) → ⊥
-no_longer true bracket operand other front rest s t =
-    contents.ends bracket operand front s (inl (rest, other, subst (λ (z : List Token). IsContent bracket true other z) (sym (append_assoc front (Close ∷ []) rest)) t))
-no_longer false bracket operand other front rest s t =
-    unlimited.ends bracket operand front s (rest, other, subst (λ (z : List Token). IsContent bracket false other z) (sym (append_assoc front (Close ∷ []) rest)) t)
-
 no_shorter : (bracket : Bracket) (operand other : Operand) (front rest : List Token) → IsContent bracket false operand front → IsContent bracket true other (front ++ Close ∷ rest) → ⊥
 no_shorter (brackets.Single single) operand other front rest s t = no_longer true (brackets.Single single) operand other front rest s t
 no_shorter brackets.Include operand other front rest (list, s, e) (all, t, f) = no_shorter_patterns list all front rest s t
@@ -246,9 +241,6 @@ loosen verb operand text (inr (filter, is, r)) =
 pub loosen_to : (verb : Verb) (limited : Bool) (operand : Operand) (text : List Token) → IsOperand verb true operand text → IsOperand verb limited operand text
 loosen_to verb true operand text s = s
 loosen_to verb false operand text s = loosen verb operand text s
-
-bracketed : (text content more : List Token) (word : List ℕ) → text ≡ Word word ∷ Open ∷ (content ++ Close ∷ []) → text ++ more ≡ Word word ∷ Open ∷ (content ++ Close ∷ more)
-bracketed text content more word e = ap (λ (t : List Token). t ++ more) e ∙ ap (λ (t : List Token). Word word ∷ Open ∷ t) (append_assoc content (Close ∷ []) more)
 
 -- the same keyword stands in front
 same_word : (verb : Verb) (limited : Bool) (operand other : Operand) (s t a b : List Token) → IsOperand verb true operand s → IsOperand verb limited other t → s ++ a ≡ t ++ b → name_of operand ≡ name_of other

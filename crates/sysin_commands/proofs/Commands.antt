@@ -39,6 +39,7 @@ use Rattle.sysin_commands.proofs.Samples.{sample}
 use Rattle.sysin_commands.proofs.Completing.{Stand, one_stands, complete}
 use Rattle.sysin_commands.proofs.Following.{AreOne, Follow, ComeBehind, follow_begins, all_follow, operands_behind, comma_behind, word_behind, one_series}
 use Rattle.sysin_commands.proofs.GoingOn.{begun_stands, begun_more, begun_front, GoesOn, goes_on}
+use Rattle.sysin_filters.proofs.Filters.{some_more}
 
 -- ---- one operand more
 
@@ -81,10 +82,6 @@ are_more verb list operand text w = (
 
 put : (text front rest : List Token) (token : Token) → text ≡ front ++ rest → text ++ token ∷ [] ≡ front ++ (rest ++ token ∷ [])
 put text front rest token e = ap (λ (t : List Token). t ++ token ∷ []) e ∙ append_assoc front rest (token ∷ [])
-
-some_more : (list : List Operand) (operand : Operand) → list ++ operand ∷ [] ≢ []
-some_more [] operand = λ e. cc
-some_more (first ∷ list) operand = λ e. cc
 
 ended : (old : CommandReading) (operand : Operand) (text front rest : List Token) → text ≡ front ++ rest → ComeBefore old.verb old.operands front → IsBegun old.verb old.operands rest
     → IsOperand old.verb true operand rest → CommandReads (record { verb = old.verb; operands = old.operands ++ operand ∷ []; place = places.Behind }) text

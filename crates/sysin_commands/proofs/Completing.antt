@@ -27,6 +27,7 @@ use Rattle.sysin_commands.proofs.Agreeing.{loosen_to}
 use Rattle.sysin_commands.proofs.Standing.{clash_self, takes_more}
 use Rattle.sysin_commands.proofs.Saying.{are_of, series_is_of, has_vtoc, has_full, has_unit, has_target, has_outputs, has_input, HasFilter, has_filter, has_dataset}
 use Rattle.sysin_commands.proofs.Samples.{sample}
+use Rattle.std.proofs.lemmas.Bool.{or_right, or_left}
 
 -- operands of a form, each once
 pub record Stand (verb : Verb) (limited : Bool) (form : Form) (list : List Operand) (text : List Token) : Type 0 where
@@ -47,22 +48,14 @@ abbrev pub Takes : Form → List Keyword → Type 0
 Takes form [] = Unit {0}
 Takes form (keyword ∷ more) = (is_one_of (keywords_of form) keyword ≡ true) × Takes form more
 
-kept_by : (a b : Bool) → a ≡ true → (a || b) ≡ true
-kept_by true b e = refl
-kept_by false b e = cc
-
-made_by : (a b : Bool) → b ≡ true → (a || b) ≡ true
-made_by true b e = refl
-made_by false b e = e
-
 kept : (list more : List Operand) (keyword : Keyword) → one_clashes list keyword ≡ true → one_clashes (list ++ more) keyword ≡ true
 kept list more keyword e =
-    list_any-append (λ (operand : Operand). clash (name_of operand) keyword) list more ∙ kept_by (one_clashes list keyword) (one_clashes more keyword) e
+    list_any-append (λ (operand : Operand). clash (name_of operand) keyword) list more ∙ or_left (one_clashes list keyword) (one_clashes more keyword) e
 
 last_clashes : (list : List Operand) (operand : Operand) (keyword : Keyword) → name_of operand ≡ keyword → one_clashes (list ++ operand ∷ []) keyword ≡ true
 last_clashes list operand keyword e =
     list_any-append (λ (operand : Operand). clash (name_of operand) keyword) list (operand ∷ [])
-    ∙ made_by (one_clashes list keyword) (one_clashes (operand ∷ []) keyword) (kept_by (clash (name_of operand) keyword) false (ap (λ (name : Keyword). clash name keyword) e ∙ clash_self keyword))
+    ∙ or_right (one_clashes list keyword) (one_clashes (operand ∷ []) keyword) (or_left (clash (name_of operand) keyword) false (ap (λ (name : Keyword). clash name keyword) e ∙ clash_self keyword))
 
 -- more operands behind these
 pub record Grown (verb : Verb) (limited : Bool) (form : Form) (list : List Operand) (text : List Token) (keywords : List Keyword) : Type 0 where

@@ -1,5 +1,5 @@
 -- How an operand that is read in part goes on.
-use Rattle.std.proofs.Common.{◌≡◌, ◌⊎◌, inl, inr, List, [], ◌∷◌, ◌++◌, refl, sym, ap, subst, ◌∙◌, Bool, true, false, append_assoc, append-nil}
+use Rattle.std.proofs.Common.{◌≡◌, ◌⊎◌, inl, inr, List, [], ◌∷◌, ◌++◌, sym, ap, subst, ◌∙◌, Bool, true, false, append_assoc, append-nil}
 use Rattle.std.proofs.lemmas.List.{same_from_push}
 use Rattle.sysin_text.specs.declared.token.Token.{Token}
 use Rattle.sysin_text.specs.declared.token.Token.TheVariants.{Comma, Open, Close, Word}
@@ -7,7 +7,7 @@ use Rattle.sysin_words.specs.declared.lead.Verb.{Verb}
 use Rattle.sysin_forms.specs.declared.operand.Operand.{Operand}
 use Rattle.sysin_forms.specs.Operand.{name_of}
 use Rattle.sysin_values.specs.Begun.{CanGoOn, Begin}
-use Rattle.sysin_filters.proofs.Series.{overlap, first_of_series}
+use Rattle.sysin_filters.proofs.Series.{first_of_series}
 use Rattle.sysin_commands.specs.declared.operand.AnyPlace.{AnyPlace}
 use Rattle.sysin_commands.specs.Operand.{IsOperand}
 use Rattle.sysin_commands.specs.AnyOperand.{AnyGives, AnyReads}
@@ -16,6 +16,8 @@ use Rattle.sysin_commands.proofs.FirstWord.{none_behind}
 use Rattle.sysin_commands.proofs.AnyOperands as operands
 use Rattle.sysin_commands.proofs.Agreeing.{named, cut}
 use Rattle.sysin_commands.proofs.Following.{Follow}
+use Rattle.sysin_filters.proofs.Begun.{none_left}
+use Rattle.sysin_values.proofs.LongCriteria.{overlap}
 
 -- an operand that begins so may stand
 pub begun_stands : (verb : Verb) (limited : Bool) (list : List Operand) (operand : Operand) (text more : List Token) → IsBegun verb list text → IsOperand verb limited operand (text ++ more)
@@ -50,10 +52,6 @@ ends_otherwise : (verb : Verb) (limited : Bool) (operand : Operand) (text front 
 ends_otherwise verb limited operand text front (inl (inl (keyword, a, (word, e, k)))) f = no_last front [] (Word word) (λ same. cc) (sym e ∙ f)
 ends_otherwise verb limited operand text front (inl (inr (keyword, bracket, b, r))) f = no_last front (Word r.word ∷ Open ∷ r.content) Close (λ same. cc) (sym r.tokens ∙ f)
 ends_otherwise verb limited operand text front (inr (filter, is, r)) f = no_last front (Word r.word ∷ Open ∷ r.content) Close (λ same. cc) (sym r.tokens ∙ f)
-
-none_left : (a b : List Token) → [] ≡ a ++ b → (a ≡ []) × (b ≡ [])
-none_left [] b e = (refl, sym e)
-none_left (sign ∷ a) b e = cc
 
 -- tokens that go on as an operand and have one in front are that operand
 whole_front : (verb : Verb) (limited : Bool) (operand other : Operand) (text more first behind : List Token) → IsOperand verb true operand (text ++ more) → IsOperand verb limited other first

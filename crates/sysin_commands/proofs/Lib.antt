@@ -9,4 +9,4 @@ pub mod Following
 pub mod GoingOn
 pub mod Commands
 pub mod Making
-pub mod Taking
+mod Taking

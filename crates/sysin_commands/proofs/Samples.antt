@@ -2,7 +2,7 @@
 use Rattle.std.proofs.Common.{◌≡◌, ◌⊎◌, inl, inr, ℕ, List, [], ◌∷◌, ◌++◌, refl, sym, ◌∙◌, true, Some}
 use Rattle.std.specs.Prelude.{codes}
 use Rattle.sysin_text.specs.declared.token.Token.{Token}
-use Rattle.sysin_text.specs.declared.token.Token.TheVariants.{Comma, Open, Close, Word}
+use Rattle.sysin_text.specs.declared.token.Token.TheVariants.{Open, Close, Word}
 use Rattle.sysin_words.specs.declared.keyword.Keyword.{Keyword}
 use Rattle.sysin_words.specs.declared.keyword.Keyword.TheVariants as keywords
 use Rattle.sysin_words.specs.declared.lead.Verb.{Verb}
@@ -11,30 +11,22 @@ use Rattle.sysin_forms.specs.declared.operand.Operand.{Operand}
 use Rattle.sysin_forms.specs.declared.operand.Operand.TheVariants as operands
 use Rattle.sysin_forms.specs.Operand.{name_of}
 use Rattle.sysin_forms.specs.Made.{said, filter_made}
-use Rattle.sysin_values.specs.Begun.{CanGoOn, Begin}
 use Rattle.sysin_operands.specs.declared.bracket.Single.TheVariants as singles
 use Rattle.sysin_operands.specs.declared.bracket.Bracket.{Bracket}
 use Rattle.sysin_operands.specs.declared.bracket.Bracket.TheVariants as brackets
-use Rattle.sysin_operands.specs.Bracket.{alone_of, input_of, output_of, bracket_of, IsContent}
+use Rattle.sysin_operands.specs.Bracket.{alone_of, input_of, output_of, bracket_of}
 use Rattle.sysin_operands.specs.Content.{start_of}
 use Rattle.sysin_operands.proofs.Contents as contents
 use Rattle.sysin_commands.specs.Operand.{IsOperand}
 use Rattle.sysin_commands.proofs.Agreeing.{at_home, content_name, alone_name}
-
-no_comma : (front : List Token) → [] ≡ front ++ Comma ∷ [] → ⊥
-no_comma [] e = cc
-no_comma (sign ∷ front) e = cc
-
-some_content : (bracket : Bracket) → Begin (IsContent bracket) [] → CanGoOn (IsContent bracket) true []
-some_content bracket (inl g) = g
-some_content bracket (inr e) = absurd (no_comma e.front e.comma)
+use Rattle.sysin_operands.proofs.Operands.{begin_nothing}
 
 abbrev pub IsSample : Verb → Keyword → Type 0
 IsSample verb keyword = (operand : Operand) × (text : List Token) × IsOperand verb true operand text × (name_of operand ≡ keyword)
 
 bracketed : (verb : Verb) (keyword : Keyword) (bracket : Bracket) (word : List ℕ) → bracket_of verb keyword ≡ Some bracket → keyword_of word ≡ Some keyword → IsSample verb keyword
 bracketed verb keyword bracket word b k =
-    let c = some_content bracket ((contents.exact bracket).right (start_of bracket) [] (contents.exact bracket).begins) in (
+    let c = begin_nothing bracket ((contents.exact bracket).right (start_of bracket) [] (contents.exact bracket).begins) in (
       c.1,
       Word word ∷ Open ∷ (c.0 ++ Close ∷ []),
       inl (inr (keyword, bracket, b, record { word = word; content = c.0; tokens = refl; spelled = k; inside = c.2 })),

@@ -26,7 +26,8 @@ use Rattle.sysin_filters.specs.Filter.{IsSeriesOf}
 use Rattle.sysin_commands.specs.Operand.{IsOperand}
 use Rattle.sysin_commands.specs.Command.{takes_all}
 use Rattle.sysin_commands.specs.CommandProgress.{one_clashes}
-use Rattle.sysin_commands.proofs.Standing.{both, left_of, right_of}
+use Rattle.std.proofs.lemmas.Bool.{and_from}
+use Rattle.ckd_image.proofs.Bools.{and_first, and_second}
 
 -- ---- operands of a verb
 
@@ -453,9 +454,9 @@ operand_is_of verb limited operand text (inr (filter, is, r)) = says_of verb (op
 
 pub series_is_of : (verb : Verb) (limited : Bool) (list : List Operand) (text : List Token) → IsSeriesOf (IsOperand verb limited) list text → are_of verb list ≡ true
 series_is_of verb limited [] text s = refl
-series_is_of verb limited (operand ∷ []) text s = both (is_of verb operand) true (operand_is_of verb limited operand text s) refl
+series_is_of verb limited (operand ∷ []) text s = and_from (is_of verb operand) true (operand_is_of verb limited operand text s) refl
 series_is_of verb limited (operand ∷ second ∷ list) text (first, rest, joined, s, more) =
-    both (is_of verb operand) (are_of verb (second ∷ list)) (operand_is_of verb limited operand first s) (series_is_of verb limited (second ∷ list) rest more)
+    and_from (is_of verb operand) (are_of verb (second ∷ list)) (operand_is_of verb limited operand first s) (series_is_of verb limited (second ∷ list) rest more)
 
 -- ---- what stands is said
 
@@ -509,100 +510,100 @@ has_full (operands.Optimize ∷ list) e = has_full list e
 
 pub has_unit : (verb : Verb) → ((value : DdName) → is_of verb (operands.Input value) ≡ false) → (list : List Operand) → are_of verb list ≡ true → one_clashes list keywords.Input ≡ true → (value : Serial) × ((said list).unit ≡ Some value)
 has_unit verb none [] kinds e = cc
-has_unit verb none (operands.Vtoc ∷ list) kinds e = has_unit verb none list (right_of (is_of verb operands.Vtoc) (are_of verb list) kinds) e
-has_unit verb none (operands.Full ∷ list) kinds e = has_unit verb none list (right_of (is_of verb operands.Full) (are_of verb list) kinds) e
+has_unit verb none (operands.Vtoc ∷ list) kinds e = has_unit verb none list (and_second (is_of verb operands.Vtoc) (are_of verb list) kinds) e
+has_unit verb none (operands.Full ∷ list) kinds e = has_unit verb none list (and_second (is_of verb operands.Full) (are_of verb list) kinds) e
 has_unit verb none ((operands.Unit unit) ∷ list) kinds e = (unit, refl)
 has_unit verb none ((operands.LogicalUnit unit) ∷ list) kinds e = (unit, refl)
-has_unit verb none ((operands.Input input) ∷ list) kinds e = let this = left_of (is_of verb (operands.Input input)) (are_of verb list) kinds in let not_this = none input in cc
-has_unit verb none ((operands.Target unit) ∷ list) kinds e = has_unit verb none list (right_of (is_of verb (operands.Target unit)) (are_of verb list) kinds) e
-has_unit verb none ((operands.Outputs names) ∷ list) kinds e = has_unit verb none list (right_of (is_of verb (operands.Outputs names)) (are_of verb list) kinds) e
-has_unit verb none ((operands.Dataset filter) ∷ list) kinds e = has_unit verb none list (right_of (is_of verb (operands.Dataset filter)) (are_of verb list) kinds) e
-has_unit verb none ((operands.Include patterns) ∷ list) kinds e = has_unit verb none list (right_of (is_of verb (operands.Include patterns)) (are_of verb list) kinds) e
-has_unit verb none ((operands.Exclude patterns) ∷ list) kinds e = has_unit verb none list (right_of (is_of verb (operands.Exclude patterns)) (are_of verb list) kinds) e
-has_unit verb none ((operands.By criteria) ∷ list) kinds e = has_unit verb none list (right_of (is_of verb (operands.By criteria)) (are_of verb list) kinds) e
-has_unit verb none ((operands.Index number) ∷ list) kinds e = has_unit verb none list (right_of (is_of verb (operands.Index number)) (are_of verb list) kinds) e
-has_unit verb none ((operands.Limit number) ∷ list) kinds e = has_unit verb none list (right_of (is_of verb (operands.Limit number)) (are_of verb list) kinds) e
-has_unit verb none (operands.Delete ∷ list) kinds e = has_unit verb none list (right_of (is_of verb operands.Delete) (are_of verb list) kinds) e
-has_unit verb none (operands.Purge ∷ list) kinds e = has_unit verb none list (right_of (is_of verb operands.Purge) (are_of verb list) kinds) e
-has_unit verb none (operands.Reset ∷ list) kinds e = has_unit verb none list (right_of (is_of verb operands.Reset) (are_of verb list) kinds) e
-has_unit verb none (operands.Replace ∷ list) kinds e = has_unit verb none list (right_of (is_of verb operands.Replace) (are_of verb list) kinds) e
-has_unit verb none ((operands.Rename rename) ∷ list) kinds e = has_unit verb none list (right_of (is_of verb (operands.Rename rename)) (are_of verb list) kinds) e
-has_unit verb none (operands.Tolerate ∷ list) kinds e = has_unit verb none list (right_of (is_of verb operands.Tolerate) (are_of verb list) kinds) e
-has_unit verb none (operands.Wait ∷ list) kinds e = has_unit verb none list (right_of (is_of verb operands.Wait) (are_of verb list) kinds) e
-has_unit verb none (operands.Optimize ∷ list) kinds e = has_unit verb none list (right_of (is_of verb operands.Optimize) (are_of verb list) kinds) e
+has_unit verb none ((operands.Input input) ∷ list) kinds e = let this = and_first (is_of verb (operands.Input input)) (are_of verb list) kinds in let not_this = none input in cc
+has_unit verb none ((operands.Target unit) ∷ list) kinds e = has_unit verb none list (and_second (is_of verb (operands.Target unit)) (are_of verb list) kinds) e
+has_unit verb none ((operands.Outputs names) ∷ list) kinds e = has_unit verb none list (and_second (is_of verb (operands.Outputs names)) (are_of verb list) kinds) e
+has_unit verb none ((operands.Dataset filter) ∷ list) kinds e = has_unit verb none list (and_second (is_of verb (operands.Dataset filter)) (are_of verb list) kinds) e
+has_unit verb none ((operands.Include patterns) ∷ list) kinds e = has_unit verb none list (and_second (is_of verb (operands.Include patterns)) (are_of verb list) kinds) e
+has_unit verb none ((operands.Exclude patterns) ∷ list) kinds e = has_unit verb none list (and_second (is_of verb (operands.Exclude patterns)) (are_of verb list) kinds) e
+has_unit verb none ((operands.By criteria) ∷ list) kinds e = has_unit verb none list (and_second (is_of verb (operands.By criteria)) (are_of verb list) kinds) e
+has_unit verb none ((operands.Index number) ∷ list) kinds e = has_unit verb none list (and_second (is_of verb (operands.Index number)) (are_of verb list) kinds) e
+has_unit verb none ((operands.Limit number) ∷ list) kinds e = has_unit verb none list (and_second (is_of verb (operands.Limit number)) (are_of verb list) kinds) e
+has_unit verb none (operands.Delete ∷ list) kinds e = has_unit verb none list (and_second (is_of verb operands.Delete) (are_of verb list) kinds) e
+has_unit verb none (operands.Purge ∷ list) kinds e = has_unit verb none list (and_second (is_of verb operands.Purge) (are_of verb list) kinds) e
+has_unit verb none (operands.Reset ∷ list) kinds e = has_unit verb none list (and_second (is_of verb operands.Reset) (are_of verb list) kinds) e
+has_unit verb none (operands.Replace ∷ list) kinds e = has_unit verb none list (and_second (is_of verb operands.Replace) (are_of verb list) kinds) e
+has_unit verb none ((operands.Rename rename) ∷ list) kinds e = has_unit verb none list (and_second (is_of verb (operands.Rename rename)) (are_of verb list) kinds) e
+has_unit verb none (operands.Tolerate ∷ list) kinds e = has_unit verb none list (and_second (is_of verb operands.Tolerate) (are_of verb list) kinds) e
+has_unit verb none (operands.Wait ∷ list) kinds e = has_unit verb none list (and_second (is_of verb operands.Wait) (are_of verb list) kinds) e
+has_unit verb none (operands.Optimize ∷ list) kinds e = has_unit verb none list (and_second (is_of verb operands.Optimize) (are_of verb list) kinds) e
 
 pub has_target : (verb : Verb) → ((value : List DdName) → is_of verb (operands.Outputs value) ≡ false) → (list : List Operand) → are_of verb list ≡ true → one_clashes list keywords.Output ≡ true → (value : Serial) × ((said list).target ≡ Some value)
 has_target verb none [] kinds e = cc
-has_target verb none (operands.Vtoc ∷ list) kinds e = has_target verb none list (right_of (is_of verb operands.Vtoc) (are_of verb list) kinds) e
-has_target verb none (operands.Full ∷ list) kinds e = has_target verb none list (right_of (is_of verb operands.Full) (are_of verb list) kinds) e
-has_target verb none ((operands.Unit unit) ∷ list) kinds e = has_target verb none list (right_of (is_of verb (operands.Unit unit)) (are_of verb list) kinds) e
-has_target verb none ((operands.LogicalUnit unit) ∷ list) kinds e = has_target verb none list (right_of (is_of verb (operands.LogicalUnit unit)) (are_of verb list) kinds) e
-has_target verb none ((operands.Input input) ∷ list) kinds e = has_target verb none list (right_of (is_of verb (operands.Input input)) (are_of verb list) kinds) e
+has_target verb none (operands.Vtoc ∷ list) kinds e = has_target verb none list (and_second (is_of verb operands.Vtoc) (are_of verb list) kinds) e
+has_target verb none (operands.Full ∷ list) kinds e = has_target verb none list (and_second (is_of verb operands.Full) (are_of verb list) kinds) e
+has_target verb none ((operands.Unit unit) ∷ list) kinds e = has_target verb none list (and_second (is_of verb (operands.Unit unit)) (are_of verb list) kinds) e
+has_target verb none ((operands.LogicalUnit unit) ∷ list) kinds e = has_target verb none list (and_second (is_of verb (operands.LogicalUnit unit)) (are_of verb list) kinds) e
+has_target verb none ((operands.Input input) ∷ list) kinds e = has_target verb none list (and_second (is_of verb (operands.Input input)) (are_of verb list) kinds) e
 has_target verb none ((operands.Target unit) ∷ list) kinds e = (unit, refl)
-has_target verb none ((operands.Outputs names) ∷ list) kinds e = let this = left_of (is_of verb (operands.Outputs names)) (are_of verb list) kinds in let not_this = none names in cc
-has_target verb none ((operands.Dataset filter) ∷ list) kinds e = has_target verb none list (right_of (is_of verb (operands.Dataset filter)) (are_of verb list) kinds) e
-has_target verb none ((operands.Include patterns) ∷ list) kinds e = has_target verb none list (right_of (is_of verb (operands.Include patterns)) (are_of verb list) kinds) e
-has_target verb none ((operands.Exclude patterns) ∷ list) kinds e = has_target verb none list (right_of (is_of verb (operands.Exclude patterns)) (are_of verb list) kinds) e
-has_target verb none ((operands.By criteria) ∷ list) kinds e = has_target verb none list (right_of (is_of verb (operands.By criteria)) (are_of verb list) kinds) e
-has_target verb none ((operands.Index number) ∷ list) kinds e = has_target verb none list (right_of (is_of verb (operands.Index number)) (are_of verb list) kinds) e
-has_target verb none ((operands.Limit number) ∷ list) kinds e = has_target verb none list (right_of (is_of verb (operands.Limit number)) (are_of verb list) kinds) e
-has_target verb none (operands.Delete ∷ list) kinds e = has_target verb none list (right_of (is_of verb operands.Delete) (are_of verb list) kinds) e
-has_target verb none (operands.Purge ∷ list) kinds e = has_target verb none list (right_of (is_of verb operands.Purge) (are_of verb list) kinds) e
-has_target verb none (operands.Reset ∷ list) kinds e = has_target verb none list (right_of (is_of verb operands.Reset) (are_of verb list) kinds) e
-has_target verb none (operands.Replace ∷ list) kinds e = has_target verb none list (right_of (is_of verb operands.Replace) (are_of verb list) kinds) e
-has_target verb none ((operands.Rename rename) ∷ list) kinds e = has_target verb none list (right_of (is_of verb (operands.Rename rename)) (are_of verb list) kinds) e
-has_target verb none (operands.Tolerate ∷ list) kinds e = has_target verb none list (right_of (is_of verb operands.Tolerate) (are_of verb list) kinds) e
-has_target verb none (operands.Wait ∷ list) kinds e = has_target verb none list (right_of (is_of verb operands.Wait) (are_of verb list) kinds) e
-has_target verb none (operands.Optimize ∷ list) kinds e = has_target verb none list (right_of (is_of verb operands.Optimize) (are_of verb list) kinds) e
+has_target verb none ((operands.Outputs names) ∷ list) kinds e = let this = and_first (is_of verb (operands.Outputs names)) (are_of verb list) kinds in let not_this = none names in cc
+has_target verb none ((operands.Dataset filter) ∷ list) kinds e = has_target verb none list (and_second (is_of verb (operands.Dataset filter)) (are_of verb list) kinds) e
+has_target verb none ((operands.Include patterns) ∷ list) kinds e = has_target verb none list (and_second (is_of verb (operands.Include patterns)) (are_of verb list) kinds) e
+has_target verb none ((operands.Exclude patterns) ∷ list) kinds e = has_target verb none list (and_second (is_of verb (operands.Exclude patterns)) (are_of verb list) kinds) e
+has_target verb none ((operands.By criteria) ∷ list) kinds e = has_target verb none list (and_second (is_of verb (operands.By criteria)) (are_of verb list) kinds) e
+has_target verb none ((operands.Index number) ∷ list) kinds e = has_target verb none list (and_second (is_of verb (operands.Index number)) (are_of verb list) kinds) e
+has_target verb none ((operands.Limit number) ∷ list) kinds e = has_target verb none list (and_second (is_of verb (operands.Limit number)) (are_of verb list) kinds) e
+has_target verb none (operands.Delete ∷ list) kinds e = has_target verb none list (and_second (is_of verb operands.Delete) (are_of verb list) kinds) e
+has_target verb none (operands.Purge ∷ list) kinds e = has_target verb none list (and_second (is_of verb operands.Purge) (are_of verb list) kinds) e
+has_target verb none (operands.Reset ∷ list) kinds e = has_target verb none list (and_second (is_of verb operands.Reset) (are_of verb list) kinds) e
+has_target verb none (operands.Replace ∷ list) kinds e = has_target verb none list (and_second (is_of verb operands.Replace) (are_of verb list) kinds) e
+has_target verb none ((operands.Rename rename) ∷ list) kinds e = has_target verb none list (and_second (is_of verb (operands.Rename rename)) (are_of verb list) kinds) e
+has_target verb none (operands.Tolerate ∷ list) kinds e = has_target verb none list (and_second (is_of verb operands.Tolerate) (are_of verb list) kinds) e
+has_target verb none (operands.Wait ∷ list) kinds e = has_target verb none list (and_second (is_of verb operands.Wait) (are_of verb list) kinds) e
+has_target verb none (operands.Optimize ∷ list) kinds e = has_target verb none list (and_second (is_of verb operands.Optimize) (are_of verb list) kinds) e
 
 pub has_outputs : (verb : Verb) → ((value : Serial) → is_of verb (operands.Target value) ≡ false) → (list : List Operand) → are_of verb list ≡ true → one_clashes list keywords.Output ≡ true → (value : List DdName) × ((said list).outs ≡ Some value)
 has_outputs verb none [] kinds e = cc
-has_outputs verb none (operands.Vtoc ∷ list) kinds e = has_outputs verb none list (right_of (is_of verb operands.Vtoc) (are_of verb list) kinds) e
-has_outputs verb none (operands.Full ∷ list) kinds e = has_outputs verb none list (right_of (is_of verb operands.Full) (are_of verb list) kinds) e
-has_outputs verb none ((operands.Unit unit) ∷ list) kinds e = has_outputs verb none list (right_of (is_of verb (operands.Unit unit)) (are_of verb list) kinds) e
-has_outputs verb none ((operands.LogicalUnit unit) ∷ list) kinds e = has_outputs verb none list (right_of (is_of verb (operands.LogicalUnit unit)) (are_of verb list) kinds) e
-has_outputs verb none ((operands.Input input) ∷ list) kinds e = has_outputs verb none list (right_of (is_of verb (operands.Input input)) (are_of verb list) kinds) e
-has_outputs verb none ((operands.Target unit) ∷ list) kinds e = let this = left_of (is_of verb (operands.Target unit)) (are_of verb list) kinds in let not_this = none unit in cc
+has_outputs verb none (operands.Vtoc ∷ list) kinds e = has_outputs verb none list (and_second (is_of verb operands.Vtoc) (are_of verb list) kinds) e
+has_outputs verb none (operands.Full ∷ list) kinds e = has_outputs verb none list (and_second (is_of verb operands.Full) (are_of verb list) kinds) e
+has_outputs verb none ((operands.Unit unit) ∷ list) kinds e = has_outputs verb none list (and_second (is_of verb (operands.Unit unit)) (are_of verb list) kinds) e
+has_outputs verb none ((operands.LogicalUnit unit) ∷ list) kinds e = has_outputs verb none list (and_second (is_of verb (operands.LogicalUnit unit)) (are_of verb list) kinds) e
+has_outputs verb none ((operands.Input input) ∷ list) kinds e = has_outputs verb none list (and_second (is_of verb (operands.Input input)) (are_of verb list) kinds) e
+has_outputs verb none ((operands.Target unit) ∷ list) kinds e = let this = and_first (is_of verb (operands.Target unit)) (are_of verb list) kinds in let not_this = none unit in cc
 has_outputs verb none ((operands.Outputs names) ∷ list) kinds e = (names, refl)
-has_outputs verb none ((operands.Dataset filter) ∷ list) kinds e = has_outputs verb none list (right_of (is_of verb (operands.Dataset filter)) (are_of verb list) kinds) e
-has_outputs verb none ((operands.Include patterns) ∷ list) kinds e = has_outputs verb none list (right_of (is_of verb (operands.Include patterns)) (are_of verb list) kinds) e
-has_outputs verb none ((operands.Exclude patterns) ∷ list) kinds e = has_outputs verb none list (right_of (is_of verb (operands.Exclude patterns)) (are_of verb list) kinds) e
-has_outputs verb none ((operands.By criteria) ∷ list) kinds e = has_outputs verb none list (right_of (is_of verb (operands.By criteria)) (are_of verb list) kinds) e
-has_outputs verb none ((operands.Index number) ∷ list) kinds e = has_outputs verb none list (right_of (is_of verb (operands.Index number)) (are_of verb list) kinds) e
-has_outputs verb none ((operands.Limit number) ∷ list) kinds e = has_outputs verb none list (right_of (is_of verb (operands.Limit number)) (are_of verb list) kinds) e
-has_outputs verb none (operands.Delete ∷ list) kinds e = has_outputs verb none list (right_of (is_of verb operands.Delete) (are_of verb list) kinds) e
-has_outputs verb none (operands.Purge ∷ list) kinds e = has_outputs verb none list (right_of (is_of verb operands.Purge) (are_of verb list) kinds) e
-has_outputs verb none (operands.Reset ∷ list) kinds e = has_outputs verb none list (right_of (is_of verb operands.Reset) (are_of verb list) kinds) e
-has_outputs verb none (operands.Replace ∷ list) kinds e = has_outputs verb none list (right_of (is_of verb operands.Replace) (are_of verb list) kinds) e
-has_outputs verb none ((operands.Rename rename) ∷ list) kinds e = has_outputs verb none list (right_of (is_of verb (operands.Rename rename)) (are_of verb list) kinds) e
-has_outputs verb none (operands.Tolerate ∷ list) kinds e = has_outputs verb none list (right_of (is_of verb operands.Tolerate) (are_of verb list) kinds) e
-has_outputs verb none (operands.Wait ∷ list) kinds e = has_outputs verb none list (right_of (is_of verb operands.Wait) (are_of verb list) kinds) e
-has_outputs verb none (operands.Optimize ∷ list) kinds e = has_outputs verb none list (right_of (is_of verb operands.Optimize) (are_of verb list) kinds) e
+has_outputs verb none ((operands.Dataset filter) ∷ list) kinds e = has_outputs verb none list (and_second (is_of verb (operands.Dataset filter)) (are_of verb list) kinds) e
+has_outputs verb none ((operands.Include patterns) ∷ list) kinds e = has_outputs verb none list (and_second (is_of verb (operands.Include patterns)) (are_of verb list) kinds) e
+has_outputs verb none ((operands.Exclude patterns) ∷ list) kinds e = has_outputs verb none list (and_second (is_of verb (operands.Exclude patterns)) (are_of verb list) kinds) e
+has_outputs verb none ((operands.By criteria) ∷ list) kinds e = has_outputs verb none list (and_second (is_of verb (operands.By criteria)) (are_of verb list) kinds) e
+has_outputs verb none ((operands.Index number) ∷ list) kinds e = has_outputs verb none list (and_second (is_of verb (operands.Index number)) (are_of verb list) kinds) e
+has_outputs verb none ((operands.Limit number) ∷ list) kinds e = has_outputs verb none list (and_second (is_of verb (operands.Limit number)) (are_of verb list) kinds) e
+has_outputs verb none (operands.Delete ∷ list) kinds e = has_outputs verb none list (and_second (is_of verb operands.Delete) (are_of verb list) kinds) e
+has_outputs verb none (operands.Purge ∷ list) kinds e = has_outputs verb none list (and_second (is_of verb operands.Purge) (are_of verb list) kinds) e
+has_outputs verb none (operands.Reset ∷ list) kinds e = has_outputs verb none list (and_second (is_of verb operands.Reset) (are_of verb list) kinds) e
+has_outputs verb none (operands.Replace ∷ list) kinds e = has_outputs verb none list (and_second (is_of verb operands.Replace) (are_of verb list) kinds) e
+has_outputs verb none ((operands.Rename rename) ∷ list) kinds e = has_outputs verb none list (and_second (is_of verb (operands.Rename rename)) (are_of verb list) kinds) e
+has_outputs verb none (operands.Tolerate ∷ list) kinds e = has_outputs verb none list (and_second (is_of verb operands.Tolerate) (are_of verb list) kinds) e
+has_outputs verb none (operands.Wait ∷ list) kinds e = has_outputs verb none list (and_second (is_of verb operands.Wait) (are_of verb list) kinds) e
+has_outputs verb none (operands.Optimize ∷ list) kinds e = has_outputs verb none list (and_second (is_of verb operands.Optimize) (are_of verb list) kinds) e
 
 pub has_input : (form : Form) → is_one_of (keywords_of form) keywords.LogicalInput ≡ false → (list : List Operand) → takes_all form list ≡ true → are_of verbs.Restore list ≡ true → one_clashes list keywords.Input ≡ true
     → (value : DdName) × ((said list).input ≡ Some value)
 has_input form none [] all kinds e = cc
-has_input form none (operands.Vtoc ∷ list) all kinds e = has_input form none list (right_of (is_one_of (keywords_of form) (name_of operands.Vtoc)) (takes_all form list) all) (right_of (is_of verbs.Restore operands.Vtoc) (are_of verbs.Restore list) kinds) e
-has_input form none (operands.Full ∷ list) all kinds e = has_input form none list (right_of (is_one_of (keywords_of form) (name_of operands.Full)) (takes_all form list) all) (right_of (is_of verbs.Restore operands.Full) (are_of verbs.Restore list) kinds) e
+has_input form none (operands.Vtoc ∷ list) all kinds e = has_input form none list (and_second (is_one_of (keywords_of form) (name_of operands.Vtoc)) (takes_all form list) all) (and_second (is_of verbs.Restore operands.Vtoc) (are_of verbs.Restore list) kinds) e
+has_input form none (operands.Full ∷ list) all kinds e = has_input form none list (and_second (is_one_of (keywords_of form) (name_of operands.Full)) (takes_all form list) all) (and_second (is_of verbs.Restore operands.Full) (are_of verbs.Restore list) kinds) e
 has_input form none ((operands.Unit unit) ∷ list) all kinds e = cc
-has_input form none ((operands.LogicalUnit unit) ∷ list) all kinds e = let this = left_of (is_one_of (keywords_of form) keywords.LogicalInput) (takes_all form list) all in cc
+has_input form none ((operands.LogicalUnit unit) ∷ list) all kinds e = let this = and_first (is_one_of (keywords_of form) keywords.LogicalInput) (takes_all form list) all in cc
 has_input form none ((operands.Input input) ∷ list) all kinds e = (input, refl)
-has_input form none ((operands.Target unit) ∷ list) all kinds e = has_input form none list (right_of (is_one_of (keywords_of form) (name_of (operands.Target unit))) (takes_all form list) all) (right_of (is_of verbs.Restore (operands.Target unit)) (are_of verbs.Restore list) kinds) e
-has_input form none ((operands.Outputs names) ∷ list) all kinds e = has_input form none list (right_of (is_one_of (keywords_of form) (name_of (operands.Outputs names))) (takes_all form list) all) (right_of (is_of verbs.Restore (operands.Outputs names)) (are_of verbs.Restore list) kinds) e
-has_input form none ((operands.Dataset filter) ∷ list) all kinds e = has_input form none list (right_of (is_one_of (keywords_of form) (name_of (operands.Dataset filter))) (takes_all form list) all) (right_of (is_of verbs.Restore (operands.Dataset filter)) (are_of verbs.Restore list) kinds) e
-has_input form none ((operands.Include patterns) ∷ list) all kinds e = has_input form none list (right_of (is_one_of (keywords_of form) (name_of (operands.Include patterns))) (takes_all form list) all) (right_of (is_of verbs.Restore (operands.Include patterns)) (are_of verbs.Restore list) kinds) e
-has_input form none ((operands.Exclude patterns) ∷ list) all kinds e = has_input form none list (right_of (is_one_of (keywords_of form) (name_of (operands.Exclude patterns))) (takes_all form list) all) (right_of (is_of verbs.Restore (operands.Exclude patterns)) (are_of verbs.Restore list) kinds) e
-has_input form none ((operands.By criteria) ∷ list) all kinds e = has_input form none list (right_of (is_one_of (keywords_of form) (name_of (operands.By criteria))) (takes_all form list) all) (right_of (is_of verbs.Restore (operands.By criteria)) (are_of verbs.Restore list) kinds) e
-has_input form none ((operands.Index number) ∷ list) all kinds e = has_input form none list (right_of (is_one_of (keywords_of form) (name_of (operands.Index number))) (takes_all form list) all) (right_of (is_of verbs.Restore (operands.Index number)) (are_of verbs.Restore list) kinds) e
-has_input form none ((operands.Limit number) ∷ list) all kinds e = has_input form none list (right_of (is_one_of (keywords_of form) (name_of (operands.Limit number))) (takes_all form list) all) (right_of (is_of verbs.Restore (operands.Limit number)) (are_of verbs.Restore list) kinds) e
-has_input form none (operands.Delete ∷ list) all kinds e = has_input form none list (right_of (is_one_of (keywords_of form) (name_of operands.Delete)) (takes_all form list) all) (right_of (is_of verbs.Restore operands.Delete) (are_of verbs.Restore list) kinds) e
-has_input form none (operands.Purge ∷ list) all kinds e = has_input form none list (right_of (is_one_of (keywords_of form) (name_of operands.Purge)) (takes_all form list) all) (right_of (is_of verbs.Restore operands.Purge) (are_of verbs.Restore list) kinds) e
-has_input form none (operands.Reset ∷ list) all kinds e = has_input form none list (right_of (is_one_of (keywords_of form) (name_of operands.Reset)) (takes_all form list) all) (right_of (is_of verbs.Restore operands.Reset) (are_of verbs.Restore list) kinds) e
-has_input form none (operands.Replace ∷ list) all kinds e = has_input form none list (right_of (is_one_of (keywords_of form) (name_of operands.Replace)) (takes_all form list) all) (right_of (is_of verbs.Restore operands.Replace) (are_of verbs.Restore list) kinds) e
-has_input form none ((operands.Rename rename) ∷ list) all kinds e = has_input form none list (right_of (is_one_of (keywords_of form) (name_of (operands.Rename rename))) (takes_all form list) all) (right_of (is_of verbs.Restore (operands.Rename rename)) (are_of verbs.Restore list) kinds) e
-has_input form none (operands.Tolerate ∷ list) all kinds e = has_input form none list (right_of (is_one_of (keywords_of form) (name_of operands.Tolerate)) (takes_all form list) all) (right_of (is_of verbs.Restore operands.Tolerate) (are_of verbs.Restore list) kinds) e
-has_input form none (operands.Wait ∷ list) all kinds e = has_input form none list (right_of (is_one_of (keywords_of form) (name_of operands.Wait)) (takes_all form list) all) (right_of (is_of verbs.Restore operands.Wait) (are_of verbs.Restore list) kinds) e
-has_input form none (operands.Optimize ∷ list) all kinds e = has_input form none list (right_of (is_one_of (keywords_of form) (name_of operands.Optimize)) (takes_all form list) all) (right_of (is_of verbs.Restore operands.Optimize) (are_of verbs.Restore list) kinds) e
+has_input form none ((operands.Target unit) ∷ list) all kinds e = has_input form none list (and_second (is_one_of (keywords_of form) (name_of (operands.Target unit))) (takes_all form list) all) (and_second (is_of verbs.Restore (operands.Target unit)) (are_of verbs.Restore list) kinds) e
+has_input form none ((operands.Outputs names) ∷ list) all kinds e = has_input form none list (and_second (is_one_of (keywords_of form) (name_of (operands.Outputs names))) (takes_all form list) all) (and_second (is_of verbs.Restore (operands.Outputs names)) (are_of verbs.Restore list) kinds) e
+has_input form none ((operands.Dataset filter) ∷ list) all kinds e = has_input form none list (and_second (is_one_of (keywords_of form) (name_of (operands.Dataset filter))) (takes_all form list) all) (and_second (is_of verbs.Restore (operands.Dataset filter)) (are_of verbs.Restore list) kinds) e
+has_input form none ((operands.Include patterns) ∷ list) all kinds e = has_input form none list (and_second (is_one_of (keywords_of form) (name_of (operands.Include patterns))) (takes_all form list) all) (and_second (is_of verbs.Restore (operands.Include patterns)) (are_of verbs.Restore list) kinds) e
+has_input form none ((operands.Exclude patterns) ∷ list) all kinds e = has_input form none list (and_second (is_one_of (keywords_of form) (name_of (operands.Exclude patterns))) (takes_all form list) all) (and_second (is_of verbs.Restore (operands.Exclude patterns)) (are_of verbs.Restore list) kinds) e
+has_input form none ((operands.By criteria) ∷ list) all kinds e = has_input form none list (and_second (is_one_of (keywords_of form) (name_of (operands.By criteria))) (takes_all form list) all) (and_second (is_of verbs.Restore (operands.By criteria)) (are_of verbs.Restore list) kinds) e
+has_input form none ((operands.Index number) ∷ list) all kinds e = has_input form none list (and_second (is_one_of (keywords_of form) (name_of (operands.Index number))) (takes_all form list) all) (and_second (is_of verbs.Restore (operands.Index number)) (are_of verbs.Restore list) kinds) e
+has_input form none ((operands.Limit number) ∷ list) all kinds e = has_input form none list (and_second (is_one_of (keywords_of form) (name_of (operands.Limit number))) (takes_all form list) all) (and_second (is_of verbs.Restore (operands.Limit number)) (are_of verbs.Restore list) kinds) e
+has_input form none (operands.Delete ∷ list) all kinds e = has_input form none list (and_second (is_one_of (keywords_of form) (name_of operands.Delete)) (takes_all form list) all) (and_second (is_of verbs.Restore operands.Delete) (are_of verbs.Restore list) kinds) e
+has_input form none (operands.Purge ∷ list) all kinds e = has_input form none list (and_second (is_one_of (keywords_of form) (name_of operands.Purge)) (takes_all form list) all) (and_second (is_of verbs.Restore operands.Purge) (are_of verbs.Restore list) kinds) e
+has_input form none (operands.Reset ∷ list) all kinds e = has_input form none list (and_second (is_one_of (keywords_of form) (name_of operands.Reset)) (takes_all form list) all) (and_second (is_of verbs.Restore operands.Reset) (are_of verbs.Restore list) kinds) e
+has_input form none (operands.Replace ∷ list) all kinds e = has_input form none list (and_second (is_one_of (keywords_of form) (name_of operands.Replace)) (takes_all form list) all) (and_second (is_of verbs.Restore operands.Replace) (are_of verbs.Restore list) kinds) e
+has_input form none ((operands.Rename rename) ∷ list) all kinds e = has_input form none list (and_second (is_one_of (keywords_of form) (name_of (operands.Rename rename))) (takes_all form list) all) (and_second (is_of verbs.Restore (operands.Rename rename)) (are_of verbs.Restore list) kinds) e
+has_input form none (operands.Tolerate ∷ list) all kinds e = has_input form none list (and_second (is_one_of (keywords_of form) (name_of operands.Tolerate)) (takes_all form list) all) (and_second (is_of verbs.Restore operands.Tolerate) (are_of verbs.Restore list) kinds) e
+has_input form none (operands.Wait ∷ list) all kinds e = has_input form none list (and_second (is_one_of (keywords_of form) (name_of operands.Wait)) (takes_all form list) all) (and_second (is_of verbs.Restore operands.Wait) (are_of verbs.Restore list) kinds) e
+has_input form none (operands.Optimize ∷ list) all kinds e = has_input form none list (and_second (is_one_of (keywords_of form) (name_of operands.Optimize)) (takes_all form list) all) (and_second (is_of verbs.Restore operands.Optimize) (are_of verbs.Restore list) kinds) e
 
 -- DATASET stands, or a part of a filter
 abbrev pub HasFilter : List Operand → Type 0
@@ -668,27 +669,27 @@ no_part forms.RestoreFull e = (refl, refl, refl)
 
 pub has_dataset : (form : Form) → has_no_parts form ≡ true → (list : List Operand) → takes_all form list ≡ true → one_clashes list keywords.Dataset ≡ true → (filter : Filter) × ((said list).filter ≡ Some filter)
 has_dataset form none [] all e = cc
-has_dataset form none (operands.Vtoc ∷ list) all e = has_dataset form none list (right_of (is_one_of (keywords_of form) (name_of operands.Vtoc)) (takes_all form list) all) e
-has_dataset form none (operands.Full ∷ list) all e = has_dataset form none list (right_of (is_one_of (keywords_of form) (name_of operands.Full)) (takes_all form list) all) e
-has_dataset form none ((operands.Unit unit) ∷ list) all e = has_dataset form none list (right_of (is_one_of (keywords_of form) (name_of (operands.Unit unit))) (takes_all form list) all) e
-has_dataset form none ((operands.LogicalUnit unit) ∷ list) all e = has_dataset form none list (right_of (is_one_of (keywords_of form) (name_of (operands.LogicalUnit unit))) (takes_all form list) all) e
-has_dataset form none ((operands.Input input) ∷ list) all e = has_dataset form none list (right_of (is_one_of (keywords_of form) (name_of (operands.Input input))) (takes_all form list) all) e
-has_dataset form none ((operands.Target unit) ∷ list) all e = has_dataset form none list (right_of (is_one_of (keywords_of form) (name_of (operands.Target unit))) (takes_all form list) all) e
-has_dataset form none ((operands.Outputs names) ∷ list) all e = has_dataset form none list (right_of (is_one_of (keywords_of form) (name_of (operands.Outputs names))) (takes_all form list) all) e
+has_dataset form none (operands.Vtoc ∷ list) all e = has_dataset form none list (and_second (is_one_of (keywords_of form) (name_of operands.Vtoc)) (takes_all form list) all) e
+has_dataset form none (operands.Full ∷ list) all e = has_dataset form none list (and_second (is_one_of (keywords_of form) (name_of operands.Full)) (takes_all form list) all) e
+has_dataset form none ((operands.Unit unit) ∷ list) all e = has_dataset form none list (and_second (is_one_of (keywords_of form) (name_of (operands.Unit unit))) (takes_all form list) all) e
+has_dataset form none ((operands.LogicalUnit unit) ∷ list) all e = has_dataset form none list (and_second (is_one_of (keywords_of form) (name_of (operands.LogicalUnit unit))) (takes_all form list) all) e
+has_dataset form none ((operands.Input input) ∷ list) all e = has_dataset form none list (and_second (is_one_of (keywords_of form) (name_of (operands.Input input))) (takes_all form list) all) e
+has_dataset form none ((operands.Target unit) ∷ list) all e = has_dataset form none list (and_second (is_one_of (keywords_of form) (name_of (operands.Target unit))) (takes_all form list) all) e
+has_dataset form none ((operands.Outputs names) ∷ list) all e = has_dataset form none list (and_second (is_one_of (keywords_of form) (name_of (operands.Outputs names))) (takes_all form list) all) e
 has_dataset form none ((operands.Dataset filter) ∷ list) all e = (filter, refl)
-has_dataset form none ((operands.Include patterns) ∷ list) all e = let this = left_of (is_one_of (keywords_of form) keywords.Include) (takes_all form list) all in let not_this = (no_part form none).0 in cc
-has_dataset form none ((operands.Exclude patterns) ∷ list) all e = let this = left_of (is_one_of (keywords_of form) keywords.Exclude) (takes_all form list) all in let not_this = (no_part form none).1 in cc
-has_dataset form none ((operands.By criteria) ∷ list) all e = let this = left_of (is_one_of (keywords_of form) keywords.By) (takes_all form list) all in let not_this = (no_part form none).2 in cc
-has_dataset form none ((operands.Index number) ∷ list) all e = has_dataset form none list (right_of (is_one_of (keywords_of form) (name_of (operands.Index number))) (takes_all form list) all) e
-has_dataset form none ((operands.Limit number) ∷ list) all e = has_dataset form none list (right_of (is_one_of (keywords_of form) (name_of (operands.Limit number))) (takes_all form list) all) e
-has_dataset form none (operands.Delete ∷ list) all e = has_dataset form none list (right_of (is_one_of (keywords_of form) (name_of operands.Delete)) (takes_all form list) all) e
-has_dataset form none (operands.Purge ∷ list) all e = has_dataset form none list (right_of (is_one_of (keywords_of form) (name_of operands.Purge)) (takes_all form list) all) e
-has_dataset form none (operands.Reset ∷ list) all e = has_dataset form none list (right_of (is_one_of (keywords_of form) (name_of operands.Reset)) (takes_all form list) all) e
-has_dataset form none (operands.Replace ∷ list) all e = has_dataset form none list (right_of (is_one_of (keywords_of form) (name_of operands.Replace)) (takes_all form list) all) e
-has_dataset form none ((operands.Rename rename) ∷ list) all e = has_dataset form none list (right_of (is_one_of (keywords_of form) (name_of (operands.Rename rename))) (takes_all form list) all) e
-has_dataset form none (operands.Tolerate ∷ list) all e = has_dataset form none list (right_of (is_one_of (keywords_of form) (name_of operands.Tolerate)) (takes_all form list) all) e
-has_dataset form none (operands.Wait ∷ list) all e = has_dataset form none list (right_of (is_one_of (keywords_of form) (name_of operands.Wait)) (takes_all form list) all) e
-has_dataset form none (operands.Optimize ∷ list) all e = has_dataset form none list (right_of (is_one_of (keywords_of form) (name_of operands.Optimize)) (takes_all form list) all) e
+has_dataset form none ((operands.Include patterns) ∷ list) all e = let this = and_first (is_one_of (keywords_of form) keywords.Include) (takes_all form list) all in let not_this = (no_part form none).0 in cc
+has_dataset form none ((operands.Exclude patterns) ∷ list) all e = let this = and_first (is_one_of (keywords_of form) keywords.Exclude) (takes_all form list) all in let not_this = (no_part form none).1 in cc
+has_dataset form none ((operands.By criteria) ∷ list) all e = let this = and_first (is_one_of (keywords_of form) keywords.By) (takes_all form list) all in let not_this = (no_part form none).2 in cc
+has_dataset form none ((operands.Index number) ∷ list) all e = has_dataset form none list (and_second (is_one_of (keywords_of form) (name_of (operands.Index number))) (takes_all form list) all) e
+has_dataset form none ((operands.Limit number) ∷ list) all e = has_dataset form none list (and_second (is_one_of (keywords_of form) (name_of (operands.Limit number))) (takes_all form list) all) e
+has_dataset form none (operands.Delete ∷ list) all e = has_dataset form none list (and_second (is_one_of (keywords_of form) (name_of operands.Delete)) (takes_all form list) all) e
+has_dataset form none (operands.Purge ∷ list) all e = has_dataset form none list (and_second (is_one_of (keywords_of form) (name_of operands.Purge)) (takes_all form list) all) e
+has_dataset form none (operands.Reset ∷ list) all e = has_dataset form none list (and_second (is_one_of (keywords_of form) (name_of operands.Reset)) (takes_all form list) all) e
+has_dataset form none (operands.Replace ∷ list) all e = has_dataset form none list (and_second (is_one_of (keywords_of form) (name_of operands.Replace)) (takes_all form list) all) e
+has_dataset form none ((operands.Rename rename) ∷ list) all e = has_dataset form none list (and_second (is_one_of (keywords_of form) (name_of (operands.Rename rename))) (takes_all form list) all) e
+has_dataset form none (operands.Tolerate ∷ list) all e = has_dataset form none list (and_second (is_one_of (keywords_of form) (name_of operands.Tolerate)) (takes_all form list) all) e
+has_dataset form none (operands.Wait ∷ list) all e = has_dataset form none list (and_second (is_one_of (keywords_of form) (name_of operands.Wait)) (takes_all form list) all) e
+has_dataset form none (operands.Optimize ∷ list) all e = has_dataset form none list (and_second (is_one_of (keywords_of form) (name_of operands.Optimize)) (takes_all form list) all) e
 
 -- ---- FULL
 
@@ -718,24 +719,24 @@ full_stands (operands.Optimize ∷ list) e = full_stands list e
 
 pub no_full : (form : Form) → is_one_of (keywords_of form) keywords.Full ≡ false → (list : List Operand) → takes_all form list ≡ true → has keywords.Full list ≡ false
 no_full form none [] all = refl
-no_full form none (operands.Vtoc ∷ list) all = no_full form none list (right_of (is_one_of (keywords_of form) (name_of operands.Vtoc)) (takes_all form list) all)
-no_full form none (operands.Full ∷ list) all = let this = left_of (is_one_of (keywords_of form) keywords.Full) (takes_all form list) all in cc
-no_full form none ((operands.Unit unit) ∷ list) all = no_full form none list (right_of (is_one_of (keywords_of form) (name_of (operands.Unit unit))) (takes_all form list) all)
-no_full form none ((operands.LogicalUnit unit) ∷ list) all = no_full form none list (right_of (is_one_of (keywords_of form) (name_of (operands.LogicalUnit unit))) (takes_all form list) all)
-no_full form none ((operands.Input input) ∷ list) all = no_full form none list (right_of (is_one_of (keywords_of form) (name_of (operands.Input input))) (takes_all form list) all)
-no_full form none ((operands.Target unit) ∷ list) all = no_full form none list (right_of (is_one_of (keywords_of form) (name_of (operands.Target unit))) (takes_all form list) all)
-no_full form none ((operands.Outputs names) ∷ list) all = no_full form none list (right_of (is_one_of (keywords_of form) (name_of (operands.Outputs names))) (takes_all form list) all)
-no_full form none ((operands.Dataset filter) ∷ list) all = no_full form none list (right_of (is_one_of (keywords_of form) (name_of (operands.Dataset filter))) (takes_all form list) all)
-no_full form none ((operands.Include patterns) ∷ list) all = no_full form none list (right_of (is_one_of (keywords_of form) (name_of (operands.Include patterns))) (takes_all form list) all)
-no_full form none ((operands.Exclude patterns) ∷ list) all = no_full form none list (right_of (is_one_of (keywords_of form) (name_of (operands.Exclude patterns))) (takes_all form list) all)
-no_full form none ((operands.By criteria) ∷ list) all = no_full form none list (right_of (is_one_of (keywords_of form) (name_of (operands.By criteria))) (takes_all form list) all)
-no_full form none ((operands.Index number) ∷ list) all = no_full form none list (right_of (is_one_of (keywords_of form) (name_of (operands.Index number))) (takes_all form list) all)
-no_full form none ((operands.Limit number) ∷ list) all = no_full form none list (right_of (is_one_of (keywords_of form) (name_of (operands.Limit number))) (takes_all form list) all)
-no_full form none (operands.Delete ∷ list) all = no_full form none list (right_of (is_one_of (keywords_of form) (name_of operands.Delete)) (takes_all form list) all)
-no_full form none (operands.Purge ∷ list) all = no_full form none list (right_of (is_one_of (keywords_of form) (name_of operands.Purge)) (takes_all form list) all)
-no_full form none (operands.Reset ∷ list) all = no_full form none list (right_of (is_one_of (keywords_of form) (name_of operands.Reset)) (takes_all form list) all)
-no_full form none (operands.Replace ∷ list) all = no_full form none list (right_of (is_one_of (keywords_of form) (name_of operands.Replace)) (takes_all form list) all)
-no_full form none ((operands.Rename rename) ∷ list) all = no_full form none list (right_of (is_one_of (keywords_of form) (name_of (operands.Rename rename))) (takes_all form list) all)
-no_full form none (operands.Tolerate ∷ list) all = no_full form none list (right_of (is_one_of (keywords_of form) (name_of operands.Tolerate)) (takes_all form list) all)
-no_full form none (operands.Wait ∷ list) all = no_full form none list (right_of (is_one_of (keywords_of form) (name_of operands.Wait)) (takes_all form list) all)
-no_full form none (operands.Optimize ∷ list) all = no_full form none list (right_of (is_one_of (keywords_of form) (name_of operands.Optimize)) (takes_all form list) all)
+no_full form none (operands.Vtoc ∷ list) all = no_full form none list (and_second (is_one_of (keywords_of form) (name_of operands.Vtoc)) (takes_all form list) all)
+no_full form none (operands.Full ∷ list) all = let this = and_first (is_one_of (keywords_of form) keywords.Full) (takes_all form list) all in cc
+no_full form none ((operands.Unit unit) ∷ list) all = no_full form none list (and_second (is_one_of (keywords_of form) (name_of (operands.Unit unit))) (takes_all form list) all)
+no_full form none ((operands.LogicalUnit unit) ∷ list) all = no_full form none list (and_second (is_one_of (keywords_of form) (name_of (operands.LogicalUnit unit))) (takes_all form list) all)
+no_full form none ((operands.Input input) ∷ list) all = no_full form none list (and_second (is_one_of (keywords_of form) (name_of (operands.Input input))) (takes_all form list) all)
+no_full form none ((operands.Target unit) ∷ list) all = no_full form none list (and_second (is_one_of (keywords_of form) (name_of (operands.Target unit))) (takes_all form list) all)
+no_full form none ((operands.Outputs names) ∷ list) all = no_full form none list (and_second (is_one_of (keywords_of form) (name_of (operands.Outputs names))) (takes_all form list) all)
+no_full form none ((operands.Dataset filter) ∷ list) all = no_full form none list (and_second (is_one_of (keywords_of form) (name_of (operands.Dataset filter))) (takes_all form list) all)
+no_full form none ((operands.Include patterns) ∷ list) all = no_full form none list (and_second (is_one_of (keywords_of form) (name_of (operands.Include patterns))) (takes_all form list) all)
+no_full form none ((operands.Exclude patterns) ∷ list) all = no_full form none list (and_second (is_one_of (keywords_of form) (name_of (operands.Exclude patterns))) (takes_all form list) all)
+no_full form none ((operands.By criteria) ∷ list) all = no_full form none list (and_second (is_one_of (keywords_of form) (name_of (operands.By criteria))) (takes_all form list) all)
+no_full form none ((operands.Index number) ∷ list) all = no_full form none list (and_second (is_one_of (keywords_of form) (name_of (operands.Index number))) (takes_all form list) all)
+no_full form none ((operands.Limit number) ∷ list) all = no_full form none list (and_second (is_one_of (keywords_of form) (name_of (operands.Limit number))) (takes_all form list) all)
+no_full form none (operands.Delete ∷ list) all = no_full form none list (and_second (is_one_of (keywords_of form) (name_of operands.Delete)) (takes_all form list) all)
+no_full form none (operands.Purge ∷ list) all = no_full form none list (and_second (is_one_of (keywords_of form) (name_of operands.Purge)) (takes_all form list) all)
+no_full form none (operands.Reset ∷ list) all = no_full form none list (and_second (is_one_of (keywords_of form) (name_of operands.Reset)) (takes_all form list) all)
+no_full form none (operands.Replace ∷ list) all = no_full form none list (and_second (is_one_of (keywords_of form) (name_of operands.Replace)) (takes_all form list) all)
+no_full form none ((operands.Rename rename) ∷ list) all = no_full form none list (and_second (is_one_of (keywords_of form) (name_of (operands.Rename rename))) (takes_all form list) all)
+no_full form none (operands.Tolerate ∷ list) all = no_full form none list (and_second (is_one_of (keywords_of form) (name_of operands.Tolerate)) (takes_all form list) all)
+no_full form none (operands.Wait ∷ list) all = no_full form none list (and_second (is_one_of (keywords_of form) (name_of operands.Wait)) (takes_all form list) all)
+no_full form none (operands.Optimize ∷ list) all = no_full form none list (and_second (is_one_of (keywords_of form) (name_of operands.Optimize)) (takes_all form list) all)

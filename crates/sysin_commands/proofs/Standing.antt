@@ -14,24 +14,10 @@ use Rattle.sysin_forms.specs.Operand.{number_of, name_of, clash}
 use Rattle.sysin_forms.specs.Form.{verb_of_form, forms_of, keywords_of, place_of, is_one_of}
 use Rattle.sysin_commands.specs.Command.{takes_all}
 use Rattle.sysin_commands.specs.CommandProgress.{one_clashes, has_form, may_stand, has_room, may_have_more}
+use Rattle.std.proofs.lemmas.Bool.{or_right, and_from, not-true}
+use Rattle.ckd_image.proofs.Bools.{and_first, and_second}
 
 -- ---- tests of two facts
-
-pub both : (a b : Bool) → a ≡ true → b ≡ true → (a && b) ≡ true
-both true b e f = f
-both false b e f = e
-
-pub left_of : (a b : Bool) → (a && b) ≡ true → a ≡ true
-left_of true b e = refl
-left_of false b e = e
-
-pub right_of : (a b : Bool) → (a && b) ≡ true → b ≡ true
-right_of true b e = e
-right_of false b e = cc
-
-pub not_true : (a : Bool) → not a ≡ true → a ≡ false
-not_true true e = cc
-not_true false e = refl
 
 pub is_not : (a : Bool) → a ≡ false → not a ≡ true
 is_not true e = cc
@@ -140,10 +126,6 @@ same_place keyword other e = sym (placed other) ∙ ap keyword_at (same_number (
 pub clash_self : (keyword : Keyword) → clash keyword keyword ≡ true
 clash_self keyword = rw (equal_numbers (number_of keyword)) refl
 
-later : (a b : Bool) → b ≡ true → (a || b) ≡ true
-later true b e = refl
-later false b e = e
-
 -- one of a list passes a test that it passes
 pub one_passes : (list : List Keyword) (keyword : Keyword) (test : Keyword → Bool) → is_one_of list keyword ≡ true → test keyword ≡ true → list_any test list ≡ true
 one_passes [] keyword test e f = e
@@ -152,7 +134,7 @@ one_passes (other ∷ list) keyword test e f = by_place (one_passes list keyword
     by_place : (is_one_of list keyword ≡ true → test keyword ≡ true → list_any test list ≡ true) → (a : Bool) → (place_of other == place_of keyword) ≡ a → (a || is_one_of list keyword) ≡ true
         → list_any test (other ∷ list) ≡ true
     by_place more true p g = let same = same_place keyword other p in let here : test other ≡ true = ap test same ∙ f in rw here refl
-    by_place more false p g = later (test other) (list_any test list) (more g f)
+    by_place more false p g = or_right (test other) (list_any test list) (more g f)
 
 abbrev Passes : List Keyword → (Keyword → Bool) → Type 0
 Passes list test = (keyword : Keyword) × (is_one_of list keyword ≡ true) × (test keyword ≡ true)
@@ -163,24 +145,24 @@ some_passes (first ∷ list) test e = by_test (some_passes list test) (test firs
   where
     by_test : (list_any test list ≡ true → Passes list test) → (a : Bool) → test first ≡ a → (a || list_any test list) ≡ true → Passes (first ∷ list) test
     by_test more true f g = (first, (rw (equal_numbers (place_of first)) refl), f)
-    by_test more false f g = let s = more g in (s.0, later (place_of first == place_of s.0) (is_one_of list s.0) s.1, s.2)
+    by_test more false f g = let s = more g in (s.0, or_right (place_of first == place_of s.0) (is_one_of list s.0) s.1, s.2)
 
 -- ---- what may stand
 
 pub none_clashes : (verb : Verb) (list : List Operand) (keyword : Keyword) → may_stand verb list keyword ≡ true → one_clashes list keyword ≡ false
-none_clashes verb list keyword e = not_true (one_clashes list keyword) (right_of (has_form verb list keyword) (not (one_clashes list keyword)) e)
+none_clashes verb list keyword e = not-true (one_clashes list keyword) (and_second (has_form verb list keyword) (not (one_clashes list keyword)) e)
 
 pub form_with_one : (verb : Verb) (list : List Operand) (keyword : Keyword) → may_stand verb list keyword ≡ true
     → (form : Form) × (verb_of_form form ≡ verb) × (takes_all form list ≡ true) × (is_one_of (keywords_of form) keyword ≡ true)
 form_with_one verb list keyword e =
-    let f = some_form verb (λ (form : Form). takes_all form list && is_one_of (keywords_of form) keyword) (left_of (has_form verb list keyword) (not (one_clashes list keyword)) e) in
-    (f.0, f.1, left_of (takes_all f.0 list) (is_one_of (keywords_of f.0) keyword) f.2, right_of (takes_all f.0 list) (is_one_of (keywords_of f.0) keyword) f.2)
+    let f = some_form verb (λ (form : Form). takes_all form list && is_one_of (keywords_of form) keyword) (and_first (has_form verb list keyword) (not (one_clashes list keyword)) e) in
+    (f.0, f.1, and_first (takes_all f.0 list) (is_one_of (keywords_of f.0) keyword) f.2, and_second (takes_all f.0 list) (is_one_of (keywords_of f.0) keyword) f.2)
 
 pub may : (verb : Verb) (form : Form) (list : List Operand) (keyword : Keyword) → verb_of_form form ≡ verb → takes_all form list ≡ true → is_one_of (keywords_of form) keyword ≡ true
     → one_clashes list keyword ≡ false → may_stand verb list keyword ≡ true
 may verb form list keyword own all one none =
-    both (has_form verb list keyword) (not (one_clashes list keyword))
-    (form_at verb form (λ (form : Form). takes_all form list && is_one_of (keywords_of form) keyword) own (both (takes_all form list) (is_one_of (keywords_of form) keyword) all one))
+    and_from (has_form verb list keyword) (not (one_clashes list keyword))
+    (form_at verb form (λ (form : Form). takes_all form list && is_one_of (keywords_of form) keyword) own (and_from (takes_all form list) (is_one_of (keywords_of form) keyword) all one))
     (is_not (one_clashes list keyword) none)
 
 -- one may where there is room
@@ -188,33 +170,33 @@ pub room_for : (verb : Verb) (list : List Operand) → may_have_more verb list �
 room_for verb list e =
     let f = some_form verb (λ (form : Form). has_room form list) e in
     let free : Keyword → Bool = λ keyword. not (one_clashes list keyword) in
-    let all = left_of (takes_all f.0 list) (list_any free (keywords_of f.0)) f.2 in
-    let s = some_passes (keywords_of f.0) free (right_of (takes_all f.0 list) (list_any free (keywords_of f.0)) f.2) in
-    (s.0, may verb f.0 list s.0 f.1 all s.1 (not_true (one_clashes list s.0) s.2))
+    let all = and_first (takes_all f.0 list) (list_any free (keywords_of f.0)) f.2 in
+    let s = some_passes (keywords_of f.0) free (and_second (takes_all f.0 list) (list_any free (keywords_of f.0)) f.2) in
+    (s.0, may verb f.0 list s.0 f.1 all s.1 (not-true (one_clashes list s.0) s.2))
 
 pub has_more : (verb : Verb) (list : List Operand) (keyword : Keyword) → may_stand verb list keyword ≡ true → may_have_more verb list ≡ true
 has_more verb list keyword e =
     let f = form_with_one verb list keyword e in
     let free : Keyword → Bool = λ keyword. not (one_clashes list keyword) in
     form_at verb f.0 (λ (form : Form). has_room form list) f.1
-    (both (takes_all f.0 list) (list_any free (keywords_of f.0)) f.2 (one_passes (keywords_of f.0) keyword free f.3 (is_not (one_clashes list keyword) (none_clashes verb list keyword e))))
+    (and_from (takes_all f.0 list) (list_any free (keywords_of f.0)) f.2 (one_passes (keywords_of f.0) keyword free f.3 (is_not (one_clashes list keyword) (none_clashes verb list keyword e))))
 
 -- ---- all of a form
 
 pub takes_more : (form : Form) (list : List Operand) (operand : Operand) → takes_all form list ≡ true → is_one_of (keywords_of form) (name_of operand) ≡ true → takes_all form (list ++ operand ∷ []) ≡ true
-takes_more form [] operand e f = both (is_one_of (keywords_of form) (name_of operand)) true f refl
+takes_more form [] operand e f = and_from (is_one_of (keywords_of form) (name_of operand)) true f refl
 takes_more form (first ∷ list) operand e f =
-    let here = left_of (is_one_of (keywords_of form) (name_of first)) (takes_all form list) e in
-    let later = right_of (is_one_of (keywords_of form) (name_of first)) (takes_all form list) e in
-    both (is_one_of (keywords_of form) (name_of first)) (takes_all form (list ++ operand ∷ [])) here (takes_more form list operand later f)
+    let here = and_first (is_one_of (keywords_of form) (name_of first)) (takes_all form list) e in
+    let later = and_second (is_one_of (keywords_of form) (name_of first)) (takes_all form list) e in
+    and_from (is_one_of (keywords_of form) (name_of first)) (takes_all form (list ++ operand ∷ [])) here (takes_more form list operand later f)
 
 pub takes_front : (form : Form) (firsts : List Operand) (operand : Operand) (others : List Operand) → takes_all form (firsts ++ operand ∷ others) ≡ true
     → (takes_all form firsts ≡ true) × (is_one_of (keywords_of form) (name_of operand) ≡ true)
-takes_front form [] operand others e = (refl, left_of (is_one_of (keywords_of form) (name_of operand)) (takes_all form others) e)
+takes_front form [] operand others e = (refl, and_first (is_one_of (keywords_of form) (name_of operand)) (takes_all form others) e)
 takes_front form (first ∷ firsts) operand others e =
-    let here = left_of (is_one_of (keywords_of form) (name_of first)) (takes_all form (firsts ++ operand ∷ others)) e in
-    let f = takes_front form firsts operand others (right_of (is_one_of (keywords_of form) (name_of first)) (takes_all form (firsts ++ operand ∷ others)) e) in
-    (both (is_one_of (keywords_of form) (name_of first)) (takes_all form firsts) here f.0, f.1)
+    let here = and_first (is_one_of (keywords_of form) (name_of first)) (takes_all form (firsts ++ operand ∷ others)) e in
+    let f = takes_front form firsts operand others (and_second (is_one_of (keywords_of form) (name_of first)) (takes_all form (firsts ++ operand ∷ others)) e) in
+    (and_from (is_one_of (keywords_of form) (name_of first)) (takes_all form firsts) here f.0, f.1)
 
 -- the names alone count
 pub takes_names : (form : Form) (list others : List Operand) → map name_of list ≡ map name_of others → takes_all form others ≡ true → takes_all form list ≡ true
@@ -223,6 +205,6 @@ takes_names form (operand ∷ list) [] same e = cc
 takes_names form (operand ∷ list) (other ∷ others) same e =
     let names : name_of operand ≡ name_of other = cc in
     let more : map name_of list ≡ map name_of others = cc in
-    let here = left_of (is_one_of (keywords_of form) (name_of other)) (takes_all form others) e in
-    let later = right_of (is_one_of (keywords_of form) (name_of other)) (takes_all form others) e in
-    both (is_one_of (keywords_of form) (name_of operand)) (takes_all form list) (ap (is_one_of (keywords_of form)) names ∙ here) (takes_names form list others more later)
+    let here = and_first (is_one_of (keywords_of form) (name_of other)) (takes_all form others) e in
+    let later = and_second (is_one_of (keywords_of form) (name_of other)) (takes_all form others) e in
+    and_from (is_one_of (keywords_of form) (name_of operand)) (takes_all form list) (ap (is_one_of (keywords_of form)) names ∙ here) (takes_names form list others more later)

@@ -17,9 +17,10 @@ use Rattle.sysin_operands.specs.Operand.{OperandReads}
 use Rattle.sysin_operands.proofs.Operands as operands
 use Rattle.sysin_filters.specs.Filter.{IsPart, part_of}
 use Rattle.sysin_filters.specs.Progress.{may_stand, MayStandAt}
-use Rattle.sysin_filters.proofs.Series.{overlap, first_of_series}
+use Rattle.sysin_filters.proofs.Series.{first_of_series}
 use Rattle.sysin_filters.proofs.Parts.{is_part_bracket, part_of_brackets, one_keyword, part_of_plain, plain_of_part, part_name, cut}
 use Rattle.sysin_filters.proofs.Following.{Follow}
+use Rattle.sysin_values.proofs.LongCriteria.{overlap}
 
 -- a keyword of a part that may stand, and more behind it
 pub record IsBegun (parts : List Operand) (text : List Token) : Type 0 where
@@ -102,7 +103,7 @@ ends_in_bracket limited part text front (keyword, bracket, p, r) e =
     let last : Close ≡ Comma = (same_from_push (Word r.word ∷ Open ∷ r.content) front Close Comma same).1 in
     cc
 
-none_left : (a b : List Token) → [] ≡ a ++ b → (a ≡ []) × (b ≡ [])
+pub none_left : (a b : List Token) → [] ≡ a ++ b → (a ≡ []) × (b ≡ [])
 none_left [] b e = (refl, sym e)
 none_left (sign ∷ a) b e = cc
 

@@ -9,9 +9,10 @@ use Rattle.sysin_forms.specs.Made.{said, filter_made}
 use Rattle.sysin_values.specs.Begun.{CanGoOn}
 use Rattle.sysin_values.specs.Exact.{OneValue, EndsAtClose}
 use Rattle.sysin_filters.specs.Filter.{IsSeriesOf, IsPart, IsFilter}
-use Rattle.sysin_filters.proofs.Series.{overlap, series_map, series_begins, behind, Agree, EndsOrGoes}
+use Rattle.sysin_filters.proofs.Series.{series_map, series_begins, behind, Agree, EndsOrGoes}
 use Rattle.sysin_filters.proofs.Parts.{loosen, part_begins, cut, agree}
 use Rattle.sysin_filters.proofs.Following.{follow_begins, all_follow, one_series}
+use Rattle.sysin_values.proofs.LongCriteria.{overlap}
 
 agree_back : (limited : Bool) → Agree (IsPart limited) (IsPart true) name_of
 agree_back limited = record {

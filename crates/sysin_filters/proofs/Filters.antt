@@ -71,7 +71,7 @@ started old new text token come s =
       (s.keyword, s.brackets, s.may),
     )
 
-some_more : (parts : List Operand) (part : Operand) → parts ++ part ∷ [] ≢ []
+pub some_more : (parts : List Operand) (part : Operand) → parts ++ part ∷ [] ≢ []
 some_more [] part = λ e. cc
 some_more (first ∷ parts) part = λ e. cc
 

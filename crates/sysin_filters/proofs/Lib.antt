@@ -5,5 +5,5 @@ pub mod Parts
 pub mod Following
 pub mod Begun
 pub mod Filters
-pub mod Taking
+mod Taking
 pub mod Closing

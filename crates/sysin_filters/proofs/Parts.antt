@@ -10,7 +10,6 @@ use Rattle.sysin_words.specs.declared.lead.Verb.TheVariants as verbs
 use Rattle.sysin_words.specs.Keyword.{keyword_of}
 use Rattle.sysin_forms.specs.declared.operand.Operand.{Operand}
 use Rattle.sysin_forms.specs.Operand.{name_of, is_part}
-use Rattle.sysin_values.specs.Begun.{CanGoOn, Begin}
 use Rattle.sysin_operands.specs.declared.bracket.Bracket.{Bracket}
 use Rattle.sysin_operands.specs.declared.bracket.Bracket.TheVariants as brackets
 use Rattle.sysin_operands.specs.Bracket.{bracket_of, IsContent, IsPlainOperand}
@@ -19,8 +18,10 @@ use Rattle.sysin_operands.proofs.Contents as contents
 use Rattle.sysin_operands.proofs.Unlimited as unlimited
 use Rattle.sysin_operands.proofs.Bracketed.{one, alone_has_none}
 use Rattle.sysin_filters.specs.Filter.{IsPart, part_of}
-use Rattle.sysin_filters.proofs.Series.{overlap, Agree, BeginsWithWord}
+use Rattle.sysin_filters.proofs.Series.{Agree, BeginsWithWord}
 use Rattle.sysin_filters.proofs.Shorter.{no_shorter_patterns, no_shorter_criteria}
+use Rattle.sysin_operands.proofs.Operands.{begin_nothing}
+use Rattle.sysin_values.proofs.LongCriteria.{overlap}
 
 -- ---- keywords
 
@@ -253,7 +254,7 @@ no_shorter bracket part other front rest (inr (inr e)) s t =
     no_shorter_criteria b.0.0 b.1.0 front rest b.0.1 b.1.1
 
 -- no last bracket goes on with a content
-no_longer : (limited : Bool) (bracket : Bracket) (part other : Operand) (front rest : List Token) → IsContent bracket true part front → IsContent bracket limited other (front ++ Close ∷ rest) → ⊥
+pub no_longer : (limited : Bool) (bracket : Bracket) (part other : Operand) (front rest : List Token) → IsContent bracket true part front → IsContent bracket limited other (front ++ Close ∷ rest) → ⊥
 no_longer true bracket part other front rest s t =
     contents.ends bracket part front s (inl (rest, other, subst (λ (z : List Token). IsContent bracket true other z) (sym (append_assoc front (Close ∷ []) rest)) t))
 no_longer false bracket part other front rest s t =
@@ -327,14 +328,14 @@ part_of_plain verb limited part word keyword bracket tail k p (inr (other, its, 
     let its_is : bracket ≡ its = cc in
     (other, its, subst (λ (z : Bracket). part_of other ≡ Some z) its_is (ap part_of (sym same) ∙ p), r)
 
-whole : (text content more : List Token) (word : List ℕ) → text ≡ Word word ∷ Open ∷ (content ++ Close ∷ []) → text ++ more ≡ Word word ∷ Open ∷ (content ++ Close ∷ more)
-whole text content more word e = ap (λ (t : List Token). t ++ more) e ∙ ap (λ (t : List Token). Word word ∷ Open ∷ t) (append_assoc content (Close ∷ []) more)
+pub bracketed : (text content more : List Token) (word : List ℕ) → text ≡ Word word ∷ Open ∷ (content ++ Close ∷ []) → text ++ more ≡ Word word ∷ Open ∷ (content ++ Close ∷ more)
+bracketed text content more word e = ap (λ (t : List Token). t ++ more) e ∙ ap (λ (t : List Token). Word word ∷ Open ∷ t) (append_assoc content (Close ∷ []) more)
 
 -- parts agree as far as both go
 pub cut : (limited : Bool) (part other : Operand) (s t a b : List Token) → IsPart true part s → IsPart limited other t → s ++ a ≡ t ++ b → (s ≡ t) × (a ≡ b) × (name_of part ≡ name_of other)
 cut limited part other s t a b (keyword, bracket, p, r) (keyword', bracket', p', r') same =
     let both : Word r.word ∷ Open ∷ (r.content ++ Close ∷ a) ≡ Word r'.word ∷ Open ∷ (r'.content ++ Close ∷ b) =
-    sym (whole s r.content a r.word r.tokens) ∙ same ∙ whole t r'.content b r'.word r'.tokens in
+    sym (bracketed s r.content a r.word r.tokens) ∙ same ∙ bracketed t r'.content b r'.word r'.tokens in
     let words : r.word ≡ r'.word = cc in
     let tails : r.content ++ Close ∷ a ≡ r'.content ++ Close ∷ b = cc in
     let k = r.spelled in
@@ -366,20 +367,16 @@ agree_whole = record {
 
 -- ---- samples
 
-no_comma : (front : List Token) → [] ≡ front ++ Comma ∷ [] → ⊥
+pub no_comma : (front : List Token) → [] ≡ front ++ Comma ∷ [] → ⊥
 no_comma [] e = cc
 no_comma (sign ∷ front) e = cc
-
-some_content : (bracket : Bracket) → Begin (IsContent bracket) [] → CanGoOn (IsContent bracket) true []
-some_content bracket (inl g) = g
-some_content bracket (inr e) = absurd (no_comma e.front e.comma)
 
 abbrev IsSample : Keyword → Type 0
 IsSample keyword = (part : Operand) × (text : List Token) × IsPart true part text × (name_of part ≡ keyword)
 
 a_part : (keyword : Keyword) (bracket : Bracket) (word : List ℕ) → part_of keyword ≡ Some bracket → keyword_of word ≡ Some keyword → IsSample keyword
 a_part keyword bracket word p k =
-    let c = some_content bracket ((contents.exact bracket).right (start_of bracket) [] (contents.exact bracket).begins) in
+    let c = begin_nothing bracket ((contents.exact bracket).right (start_of bracket) [] (contents.exact bracket).begins) in
     let s : IsPart true c.1 (Word word ∷ Open ∷ (c.0 ++ Close ∷ [])) = (keyword, bracket, p, record { word = word; content = c.0; tokens = refl; spelled = k; inside = c.2 }) in
     (c.1, Word word ∷ Open ∷ (c.0 ++ Close ∷ []), s, part_name true c.1 (Word word ∷ Open ∷ (c.0 ++ Close ∷ [])) s)
 

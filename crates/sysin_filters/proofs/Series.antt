@@ -5,18 +5,6 @@ use Rattle.sysin_text.specs.declared.token.Token.{Token}
 use Rattle.sysin_text.specs.declared.token.Token.TheVariants.{Comma, Word}
 use Rattle.sysin_filters.specs.Filter.{IsSeriesOf}
 
--- two beginnings of the same tokens
-pub overlap : {X : Type 0} (a b c d : List X) → a ++ b ≡ c ++ d → ((e : List X) × (c ≡ a ++ e) × (b ≡ e ++ d)) ⊎ ((e : List X) × (a ≡ c ++ e) × (d ≡ e ++ b))
-overlap [] b c d same = inl (c, refl, same)
-overlap (x ∷ a) b [] d same = inr (x ∷ a, refl, sym same)
-overlap (x ∷ a) b (y ∷ c) d same =
-    let heads : x ≡ y = cc in
-    let tails : a ++ b ≡ c ++ d = cc in
-    elim (overlap a b c d tails) [
-      | inl o ↦ let e = o.1 in inl (o.0, cc, o.2)
-      | inr o ↦ let e = o.1 in inr (o.0, cc, o.2)
-    ]
-
 -- ---- one more thing
 
 -- what may stand before a thing

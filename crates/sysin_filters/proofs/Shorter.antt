@@ -1,7 +1,6 @@
 -- Where a last bracket stands within a part, no longer list ends before it.
 use Rattle.std.proofs.Common.{◌≡◌, ◌⊎◌, inl, inr, ℕ, ◌≤◌, List, [], ◌∷◌, ◌++◌, length, refl, sym, ap, subst, ◌∙◌, true, false, arith, None, append_assoc, length-append}
 use Rattle.std.specs.Prelude.{◌==◌, map}
-use Rattle.std.proofs.lemmas.Bool.Decides.{nat_tests}
 use Rattle.std.proofs.lemmas.Bool.{cases_lt}
 use Rattle.std.proofs.lemmas.List.{map-append}
 use Rattle.by_rules.specs.declared.criterion.Criterion.{Criterion}
@@ -11,12 +10,13 @@ use Rattle.by_rules.specs.Token.{Symbol}
 use Rattle.by_rules.specs.Grammar.{IsCriterion, IsSequence, most_criteria}
 use Rattle.by_rules.specs.Reading.{start, run}
 use Rattle.by_rules.proofs.Complete.{at, run_then, complete}
-use Rattle.by_rules.proofs.Sound.{IsBefore}
+use Rattle.by_rules.proofs.Sound.{IsBefore, criterion_more}
 use Rattle.sysin_text.specs.declared.token.Token.{Token}
 use Rattle.sysin_text.specs.declared.token.Token.TheVariants.{Close}
 use Rattle.sysin_values.specs.Values.{rule_of, IsWordOf, IsPatterns, IsCriteria, SaysPattern}
 use Rattle.sysin_values.proofs.Lists.{IsRest, behind_list}
 use Rattle.sysin_values.proofs.WordLists.{closed_word}
+use Rattle.sysin_values.proofs.LongCriteria.{is_full}
 
 -- ---- patterns
 
@@ -51,16 +51,6 @@ put_behind (first ∷ second ∷ list) front criterion text whole (inl j) (a, b,
 put_behind (first ∷ second ∷ list) front criterion text whole (inr j) (a, b, joined, d, more) c =
     subst (λ (w : List Symbol). IsSequence (first ∷ second ∷ (list ++ criterion ∷ [])) w) (sym j)
     (a, b ++ rules.Comma ∷ text, grow front a b (rules.Comma ∷ text) joined, d, put_behind (second ∷ list) b criterion text (b ++ rules.Comma ∷ text) (inr refl) more c)
-
-criterion_more : (list : List Criterion) (done : List Symbol) (criterion : Criterion) (text : List Symbol) → IsBefore list done → IsCriterion criterion text
-    → IsSequence (list ++ criterion ∷ []) (done ++ text)
-criterion_more list done criterion text (inl none) c = rw (none.0, none.1) c
-criterion_more list done criterion text (inr (inl s)) c = put_behind list done criterion text (done ++ text) (inl refl) s c
-criterion_more list done criterion text (inr (inr (front, e, s))) c =
-    put_behind list front criterion text (done ++ text) (inr (ap (λ (t : List Symbol). t ++ text) e ∙ append_assoc front (rules.Comma ∷ []) text)) s c
-
-is_full : (n : ℕ) → n ≡ most_criteria → (n == most_criteria) ≡ true
-is_full n e = grind (arith, nat_tests)
 
 none_opens : (list : List Criterion) (rest : List Symbol) → length list ≡ most_criteria → run (at states.Ended list []) (rules.Open ∷ rest) ≡ None
 none_opens list rest full = rw (is_full (length list) full) refl

@@ -81,7 +81,7 @@ given verb (places.Ended said) text operand r s = ap places.Ended (one verb said
 
 -- ---- what is read is right
 
-begin_nothing : (bracket : Bracket) → Begin (IsContent bracket) [] → CanGoOn (IsContent bracket) true []
+pub begin_nothing : (bracket : Bracket) → Begin (IsContent bracket) [] → CanGoOn (IsContent bracket) true []
 begin_nothing bracket (inl g) = g
 begin_nothing bracket (inr e) = absurd (no_comma e.front e.comma)
   where

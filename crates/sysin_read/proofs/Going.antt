@@ -1,10 +1,9 @@
 -- One more token is read right.
-use Rattle.std.proofs.Common.{◌≡◌, ◌⊎◌, inl, inr, ℕ, zero, suc, ◌+◌, ◌<◌, ◌≤◌, List, [], ◌∷◌, ◌++◌, length, refl, sym, ap, subst, ◌∙◌, Bool, true, false, Some, append_assoc, arith}
+use Rattle.std.proofs.Common.{◌≡◌, ◌⊎◌, inl, inr, ℕ, zero, suc, ◌+◌, ◌<◌, ◌≤◌, List, [], ◌∷◌, ◌++◌, length, refl, sym, ap, subst, ◌∙◌, false, append_assoc, arith}
 use Rattle.std.proofs.lemmas.List.{map-append}
 use Rattle.std.proofs.lemmas.List.Elements.{All-nil, All-push}
 use Rattle.sysin_text.specs.declared.token.Token.{Token}
 use Rattle.sysin_text.specs.declared.token.Placed.{Placed}
-use Rattle.sysin_text.proofs.Bools.{bool_cases}
 use Rattle.sysin_words.specs.declared.lead.Verb.{Verb}
 use Rattle.sysin_words.specs.declared.lead.Lead.{Lead}
 use Rattle.sysin_words.specs.declared.lead.Lead.TheVariants as leads
@@ -35,6 +34,7 @@ use Rattle.sysin_read.proofs.Blocks.{if_leads}
 use Rattle.sysin_read.proofs.Ending.{room_around, room_stays, room_of_else, room_with_else}
 use Rattle.sysin_read.proofs.Lines.{IsEnder, one_ender}
 use Rattle.sysin_read.proofs.Moving.{MayRest, MayState, MayBlock, behind_command, behind_set, behind_if, behind_do, behind_else, around_it, behind_end, behind_empty, begins_block, begins_next, begins_text}
+use Rattle.std.proofs.lemmas.Bool.{cases_Bool}
 
 -- what holds of what an outline has holds of it
 pub of_outline : (P : List Frame → List Step → ℕ → Type 0) (new : Outline) (open' : List Frame) (list : List Step) (count : ℕ) → IsOutline new open' list count → P open' list count
@@ -222,7 +222,7 @@ within_goes : (room : ℕ) (outline : Outline) (reading : CommandReading) (befor
     → IsBegun room outline before first more front → IsLead (leads.Command reading.verb) first → CommandReads reading (tokens_of more) → outline.commands < most_commands → WithinGoes outline reading placed new
     → TextReads new (front ++ placed ∷ [])
 within_goes room outline reading before first more front placed new within b lead reads few (inl (n, (next, g, is))) =
-    let starts : placed.starts ≡ false = elim (bool_cases placed.starts) as (λ _. placed.starts ≡ false) [ inl t ↦ absurd (n (inl t)) | inr f ↦ f ] in
+    let starts : placed.starts ≡ false = elim (cases_Bool placed.starts) as (λ _. placed.starts ≡ false) [ inl t ↦ absurd (n (inl t)) | inr f ↦ f ] in
     let now = (command_laws.exact reading.verb).goes reading next (tokens_of more) placed.token (refl, reads) g in
     subst (λ (r : TextReading). TextReads r (front ++ placed ∷ [])) (sym is) (
       room,

@@ -1,4 +1,4 @@
-pub mod Samples
+mod Samples
 pub mod Around
 pub mod Opening
 pub mod Words
@@ -6,14 +6,14 @@ pub mod Blocks
 pub mod Ending
 pub mod Lines
 pub mod Moving
-pub mod Taking
-pub mod Going
-pub mod Completing
-pub mod Counting
-pub mod Refusing
-pub mod Finishing
-pub mod Columns
-pub mod Places
+mod Taking
+mod Going
+mod Completing
+mod Counting
+mod Refusing
+mod Finishing
+mod Columns
+mod Places
 pub mod OneText
 pub mod OneStep
 pub mod OneFault

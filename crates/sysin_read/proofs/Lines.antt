@@ -5,7 +5,6 @@ use Rattle.std.proofs.lemmas.List.Elements.{All-head, All-tail}
 use Rattle.sysin_text.specs.declared.token.Token.{Token}
 use Rattle.sysin_text.specs.declared.token.Token.TheVariants as tokens
 use Rattle.sysin_text.specs.declared.token.Placed.{Placed}
-use Rattle.sysin_text.proofs.Bools.{bool_cases}
 use Rattle.sysin_words.specs.declared.keyword.Keyword.{Keyword}
 use Rattle.sysin_words.specs.Keyword.{keyword_of}
 use Rattle.sysin_words.specs.declared.lead.Verb.{Verb}
@@ -21,7 +20,7 @@ use Rattle.sysin_heads.specs.Head.{IsHead}
 use Rattle.sysin_heads.proofs.Exactness as head_laws
 use Rattle.sysin_operands.specs.Operand.{IsKeyword}
 use Rattle.sysin_filters.specs.Filter.{IsSeriesOf}
-use Rattle.sysin_filters.proofs.Series.{overlap, Agree, EndsOrGoes, behind, first_of_series, series_map}
+use Rattle.sysin_filters.proofs.Series.{Agree, EndsOrGoes, behind, first_of_series, series_map}
 use Rattle.sysin_commands.specs.Operand.{IsOperand}
 use Rattle.sysin_commands.specs.Command.{IsCommand}
 use Rattle.sysin_commands.proofs.Agreeing.{agree, cut, named, operand_begins, loosen_to}
@@ -32,11 +31,13 @@ use Rattle.sysin_read.specs.Why.{around}
 use Rattle.sysin_read.proofs.Words.{else_is_no_keyword, end_is_no_keyword}
 use Rattle.sysin_read.proofs.Blocks.{statement_leads}
 use Rattle.sysin_read.proofs.Ending.{no_else_here, room_around, closes, starts_here, must_start}
+use Rattle.std.proofs.lemmas.Bool.{cases_Bool}
+use Rattle.sysin_values.proofs.LongCriteria.{overlap}
 
 -- ---- which token stands there
 
 else_of : (placed : Placed) (token : Token) → placed.token ≡ token → IsElse placed ⊎ (¬ IsElse placed)
-else_of placed (tokens.Word word) e = elim (bool_cases (is_else word)) as (λ _. IsElse placed ⊎ (¬ IsElse placed)) [
+else_of placed (tokens.Word word) e = elim (cases_Bool (is_else word)) as (λ _. IsElse placed ⊎ (¬ IsElse placed)) [
   | inl t ↦ inl (word, e, t)
   | inr f ↦ inr (λ w.
       let same : tokens.Word w.0 ≡ tokens.Word word = sym w.1 ∙ e in
@@ -50,7 +51,7 @@ pub else_or_not : (placed : Placed) → IsElse placed ⊎ (¬ IsElse placed)
 else_or_not placed = else_of placed placed.token refl
 
 end_of : (placed : Placed) (token : Token) → placed.token ≡ token → IsEnd placed ⊎ (¬ IsEnd placed)
-end_of placed (tokens.Word word) e = elim (bool_cases (is_end word)) as (λ _. IsEnd placed ⊎ (¬ IsEnd placed)) [
+end_of placed (tokens.Word word) e = elim (cases_Bool (is_end word)) as (λ _. IsEnd placed ⊎ (¬ IsEnd placed)) [
   | inl t ↦ inl (word, e, t)
   | inr f ↦ inr (λ w.
       let same : tokens.Word w.0 ≡ tokens.Word word = sym w.1 ∙ e in

@@ -43,6 +43,7 @@ use Rattle.sysin_commands.specs.declared.command.CommandPlace.TheVariants as pla
 use Rattle.sysin_commands.specs.declared.command.CommandReading.{CommandReading}
 use Rattle.sysin_commands.specs.AnyOperand.{AnyGoes, StartsDataset}
 use Rattle.sysin_commands.specs.CommandProgress.{Behind, StartsOperand, GoesFrom, CommandGoes}
+use Rattle.sysin_operands.proofs.Bracketed.{alone_has_none}
 
 -- ---- tokens
 
@@ -140,28 +141,6 @@ one_given (contents.Outputs old) a b (l, g, x) (m, h, y) = x ∙ ap Rattle.sysin
 one_given (contents.Rename old) a b (g, x) (h, y) = x ∙ sym y
 one_given (contents.Wait old) a b (g, x) (h, y) = x ∙ sym y
 
--- what a keyword alone is has no bracket
-alone_or_bracket : (verb : Verb) (keyword : Keyword) (operand : Operand) (bracket : Bracket) → alone_of keyword ≡ Some operand → bracket_of verb keyword ≡ Some bracket → ⊥
-alone_or_bracket verb keywords.Vtoc operand bracket e f = let g : None ≡ Some bracket = f in cc
-alone_or_bracket verb keywords.Full operand bracket e f = let g : None ≡ Some bracket = f in cc
-alone_or_bracket verb keywords.Delete operand bracket e f = let g : None ≡ Some bracket = f in cc
-alone_or_bracket verb keywords.Purge operand bracket e f = let g : None ≡ Some bracket = f in cc
-alone_or_bracket verb keywords.Reset operand bracket e f = let g : None ≡ Some bracket = f in cc
-alone_or_bracket verb keywords.Replace operand bracket e f = let g : None ≡ Some bracket = f in cc
-alone_or_bracket verb keywords.Input operand bracket e f = let g : None ≡ Some operand = e in cc
-alone_or_bracket verb keywords.LogicalInput operand bracket e f = let g : None ≡ Some operand = e in cc
-alone_or_bracket verb keywords.Output operand bracket e f = let g : None ≡ Some operand = e in cc
-alone_or_bracket verb keywords.Include operand bracket e f = let g : None ≡ Some operand = e in cc
-alone_or_bracket verb keywords.Exclude operand bracket e f = let g : None ≡ Some operand = e in cc
-alone_or_bracket verb keywords.By operand bracket e f = let g : None ≡ Some operand = e in cc
-alone_or_bracket verb keywords.Index operand bracket e f = let g : None ≡ Some operand = e in cc
-alone_or_bracket verb keywords.Limit operand bracket e f = let g : None ≡ Some operand = e in cc
-alone_or_bracket verb keywords.Rename operand bracket e f = let g : None ≡ Some operand = e in cc
-alone_or_bracket verb keywords.Tolerate operand bracket e f = let g : None ≡ Some operand = e in cc
-alone_or_bracket verb keywords.Wait operand bracket e f = let g : None ≡ Some operand = e in cc
-alone_or_bracket verb keywords.Optimize operand bracket e f = let g : None ≡ Some operand = e in cc
-alone_or_bracket verb keywords.Dataset operand bracket e f = let g : None ≡ Some operand = e in cc
-
 abbrev BeginsWith : Verb → Keyword → OperandPlace → Type 0
 BeginsWith verb keyword new =
     ((operand : Operand) × (alone_of keyword ≡ Some operand) × (new ≡ plains.Ended operand))
@@ -169,8 +148,8 @@ BeginsWith verb keyword new =
 
 one_begun : (verb : Verb) (keyword : Keyword) (a b : OperandPlace) → BeginsWith verb keyword a → BeginsWith verb keyword b → a ≡ b
 one_begun verb keyword a b (inl (p, s, x)) (inl (q, t, y)) = x ∙ ap plains.Ended (some_is (alone_of keyword) p q s t) ∙ sym y
-one_begun verb keyword a b (inl (p, s, x)) (inr (q, t, y)) = absurd (alone_or_bracket verb keyword p q s t)
-one_begun verb keyword a b (inr (p, s, x)) (inl (q, t, y)) = absurd (alone_or_bracket verb keyword q p t s)
+one_begun verb keyword a b (inl (p, s, x)) (inr (q, t, y)) = absurd (alone_has_none verb keyword p q s t)
+one_begun verb keyword a b (inr (p, s, x)) (inl (q, t, y)) = absurd (alone_has_none verb keyword q p t s)
 one_begun verb keyword a b (inr (p, s, x)) (inr (q, t, y)) = x ∙ ap plains.Named (some_is (bracket_of verb keyword) p q s t) ∙ sym y
 
 pub one_operand : (verb : Verb) (old a b : OperandPlace) (token : Token) → OperandGoes verb old token a → OperandGoes verb old token b → a ≡ b

@@ -18,13 +18,12 @@ use Rattle.sysin_heads.specs.declared.head.HeadPlace.TheVariants as head_places
 use Rattle.sysin_heads.specs.Head.{IsHead}
 use Rattle.sysin_heads.specs.Reading as head_reading
 use Rattle.sysin_heads.proofs.Exactness as head_laws
-use Rattle.sysin_filters.proofs.Series.{overlap}
 use Rattle.sysin_commands.specs.declared.fault.CommandFault.{CommandFault}
 use Rattle.sysin_commands.specs.declared.fault.CommandFault.TheVariants as faults
 use Rattle.sysin_commands.specs.declared.command.CommandPlace.{CommandPlace}
 use Rattle.sysin_commands.specs.declared.command.CommandPlace.TheVariants as command_places
 use Rattle.sysin_commands.specs.declared.command.CommandReading.{CommandReading}
-use Rattle.sysin_commands.specs.CommandProgress.{CommandReads, CommandGives, CommandStops, StopsFrom, EndsAt, Makes}
+use Rattle.sysin_commands.specs.CommandProgress.{CommandReads, CommandGives, CommandStops, StopsFrom, EndsAt}
 use Rattle.sysin_commands.specs.Command.{IsCommand}
 use Rattle.sysin_commands.proofs.Agreeing.{agree}
 use Rattle.sysin_commands.proofs.Commands as command_laws
@@ -48,6 +47,7 @@ use Rattle.sysin_read.proofs.Ending.{no_else_here, room_around, closes, other, e
 use Rattle.sysin_read.proofs.Lines.{IsEnder, Enders, rest_enders, rest_ender, IsNoOperand, ender_in_line, else_no_operand, end_no_operand, starts_none, no_command_behind, agree_back, split_tokens, heads_end, loosen_head}
 use Rattle.sysin_read.proofs.Moving.{May, MayRest, MayState, MayBlock, opens_command, opens_if, opens_do}
 use Rattle.sysin_read.proofs.Going.{begins_fresh}
+use Rattle.sysin_values.proofs.LongCriteria.{overlap}
 
 -- ---- tokens behind which a text goes on
 

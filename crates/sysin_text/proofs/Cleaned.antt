@@ -4,7 +4,7 @@ use Rattle.std.proofs.lemmas.List.{take_more_set, take_more, drop_all, take_all,
 use Rattle.std.specs.Prelude.{◌||◌, ◌==◌, if◌then◌else◌, Option, Some, None}
 use Rattle.std.specs.Option.{option_map}
 use Rattle.sysin_text.specs.Cleaning.{begins_with, close_of, inside, byte_read, bytes_read, is_mark, has_mark, before_mark}
-use Rattle.sysin_text.proofs.Bools.{if_true, if_false}
+use Rattle.ckd_image.proofs.Bools.{if_true, if_false}
 
 -- ---- the end of a comment
 

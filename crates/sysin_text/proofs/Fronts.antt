@@ -2,7 +2,7 @@
 use Rattle.std.proofs.Common.{◌≡◌, ℕ, ◌+◌, ◌<◌, ◌≤◌, List, [], ◌∷◌, ◌++◌, length, take, drop, get_or, sym, ap, ◌∙◌, true, false, append_assoc, append-nil}
 use Rattle.std.proofs.lemmas.List.{take_more, drop_all, take_all, drop_more}
 use Rattle.sysin_text.specs.Signs.{is_word_byte, word_front}
-use Rattle.sysin_text.proofs.Bools.{if_true, if_false}
+use Rattle.ckd_image.proofs.Bools.{if_true, if_false}
 
 pub word_ends : (bytes : List ℕ) (at : ℕ) → at < length bytes → is_word_byte (get_or bytes at 0) ≡ false → word_front bytes ≡ take at bytes ++ word_front (drop at bytes) → take at bytes ≡ word_front bytes
 word_ends bytes at lt n i =

@@ -1,6 +1,6 @@
-pub mod Samples
-pub mod Bools
-pub mod Splits
-pub mod Cleaned
-pub mod Fronts
-pub mod Steps
+mod Samples
+mod Bools
+mod Splits
+mod Cleaned
+mod Fronts
+mod Steps

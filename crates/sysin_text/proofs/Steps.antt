@@ -11,7 +11,8 @@ use Rattle.sysin_text.specs.Cleaning.{goes_on, read_of}
 use Rattle.sysin_text.specs.Signs.{token_of, width_of, front_of}
 use Rattle.sysin_text.specs.Tokens.{tokens_in, before_lines, joined, started}
 use Rattle.sysin_text.specs.Left.{tokens_behind, tokens_from, tokens_left}
-use Rattle.sysin_text.proofs.Bools.{if_true, if_false}
+use Rattle.ckd_image.proofs.Bools.{if_true, if_false}
+use Rattle.std.proofs.Math.Bool.{or-false, or-true}
 
 -- a blank is passed
 pub blank_passed : (number place : ℕ) (bytes : List ℕ) → place < length bytes → get_or bytes place 0 ≡ 32 → tokens_behind number (place + 1) bytes ≡ tokens_behind number place bytes
@@ -88,25 +89,17 @@ empty_front : (starts : Bool) → (if starts then started [] else []) ≡ []
 empty_front true = refl
 empty_front false = refl
 
-or_false : (b : Bool) → (b || false) ≡ b
-or_false true = refl
-or_false false = refl
-
-or_true : (b : Bool) → (b || true) ≡ true
-or_true true = refl
-or_true false = refl
-
 goes_to : (starts on next : Bool) (tokens : List Placed) (lines : List (List Placed))
     → tokens_from (starts || not on) (before_lines next tokens lines) ≡ tokens_from starts (before_lines on [] (before_lines next tokens lines))
-goes_to starts true true tokens [] = ap (λ (b : Bool). tokens_from b (tokens ∷ [])) (or_false starts)
-goes_to starts true true tokens (line ∷ lines) = ap (λ (b : Bool). tokens_from b ((tokens ++ line) ∷ lines)) (or_false starts)
-goes_to starts true false tokens lines = ap (λ (b : Bool). tokens_from b (tokens ∷ lines)) (or_false starts)
+goes_to starts true true tokens [] = ap (λ (b : Bool). tokens_from b (tokens ∷ [])) (or-false starts)
+goes_to starts true true tokens (line ∷ lines) = ap (λ (b : Bool). tokens_from b ((tokens ++ line) ∷ lines)) (or-false starts)
+goes_to starts true false tokens lines = ap (λ (b : Bool). tokens_from b (tokens ∷ lines)) (or-false starts)
 goes_to starts false true tokens [] =
-    ap (λ (b : Bool). tokens_from b (tokens ∷ [])) (or_true starts) ∙ sym (ap (λ (t : List Placed). t ++ flat_map started (tokens ∷ [])) (empty_front starts))
+    ap (λ (b : Bool). tokens_from b (tokens ∷ [])) (or-true starts) ∙ sym (ap (λ (t : List Placed). t ++ flat_map started (tokens ∷ [])) (empty_front starts))
 goes_to starts false true tokens (line ∷ lines) =
-    ap (λ (b : Bool). tokens_from b ((tokens ++ line) ∷ lines)) (or_true starts) ∙ sym (ap (λ (t : List Placed). t ++ flat_map started ((tokens ++ line) ∷ lines)) (empty_front starts))
+    ap (λ (b : Bool). tokens_from b ((tokens ++ line) ∷ lines)) (or-true starts) ∙ sym (ap (λ (t : List Placed). t ++ flat_map started ((tokens ++ line) ∷ lines)) (empty_front starts))
 goes_to starts false false tokens lines =
-    ap (λ (b : Bool). tokens_from b (tokens ∷ lines)) (or_true starts) ∙ sym (ap (λ (t : List Placed). t ++ flat_map started (tokens ∷ lines)) (empty_front starts))
+    ap (λ (b : Bool). tokens_from b (tokens ∷ lines)) (or-true starts) ∙ sym (ap (λ (t : List Placed). t ++ flat_map started (tokens ∷ lines)) (empty_front starts))
 
 pub next_line : (starts on : Bool) (number place : ℕ) (bytes rest line behind : List ℕ) → tokens_behind number place bytes ≡ [] → lines_of rest ≡ line ∷ lines_of behind
     → tokens_left (starts || not on) (number + 1) 0 (read_of line) (goes_on line) behind ≡ tokens_left starts number place bytes on rest

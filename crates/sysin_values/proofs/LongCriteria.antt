@@ -21,7 +21,7 @@ use Rattle.sysin_values.specs.Begun.{CanGoOn}
 use Rattle.sysin_values.specs.Criteria.{CriteriaStop, CriteriaReads}
 
 -- two beginnings of the same symbols
-overlap : {X : Type 0} (a b c d : List X) → a ++ b ≡ c ++ d → ((e : List X) × (c ≡ a ++ e) × (b ≡ e ++ d)) ⊎ ((e : List X) × (a ≡ c ++ e) × (d ≡ e ++ b))
+pub overlap : {X : Type 0} (a b c d : List X) → a ++ b ≡ c ++ d → ((e : List X) × (c ≡ a ++ e) × (b ≡ e ++ d)) ⊎ ((e : List X) × (a ≡ c ++ e) × (d ≡ e ++ b))
 overlap [] b c d same = inl (c, refl, same)
 overlap (x ∷ a) b [] d same = inr (x ∷ a, refl, sym same)
 overlap (x ∷ a) b (y ∷ c) d same =
@@ -103,7 +103,7 @@ opened (criterion ∷ next' ∷ list) symbols (first, rest, inl e, c, s) = (_, e
 opened (criterion ∷ next' ∷ list) symbols (first, rest, inr e, c, s) = (_, e ∙ ap (λ (t : List Symbol). t ++ rules.Comma ∷ rest) c.text)
 
 -- behind criteria that are full
-is_full : (n : ℕ) → n ≡ most_criteria → (n == most_criteria) ≡ true
+pub is_full : (n : ℕ) → n ≡ most_criteria → (n == most_criteria) ≡ true
 is_full n e = grind (arith, nat_tests)
 
 abbrev After : List Criterion → Machine

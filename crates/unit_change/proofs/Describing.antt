@@ -69,7 +69,7 @@ runs_described volume (row ∷ rows) (set ∷ sets) are =
     let here : map run_in set.extents ≡ runs_in (heads_of volume.device) row.extents = ap (map run_in) are.0.extents_are ∙ runs_in_row (heads_of volume.device) row.extents in
     (λ i. here i ++ runs_described volume rows sets are.1 i)
 
-uses_described : (heads : ℕ) (rows : List Row) (sets : List DataSet) → DescribesSets heads rows sets → sum_by records_of_set sets ≡ sum_by records_for rows
+pub uses_described : (heads : ℕ) (rows : List Row) (sets : List DataSet) → DescribesSets heads rows sets → sum_by records_of_set sets ≡ sum_by records_for rows
 uses_described heads [] [] are = refl
 uses_described heads [] (set ∷ sets) are = absurd are
 uses_described heads (row ∷ rows) [] are = absurd are

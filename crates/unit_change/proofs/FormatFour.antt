@@ -1,84 +1,35 @@
 -- The format 4 that a label's pointer names is one of the records of the VTOC.
-use Rattle.std.proofs.Common.{◌≡◌, ◌≢◌, ℕ, zero, suc, ◌+◌, ◌-◌, ◌<◌, ◌≤◌, ◌==◌, List, [], ◌∷◌, ◌++◌, length, map, find, Bool, true, false, cond, All, Contains, Option, Some, None, refl, sym, ap, subst, ◌∙◌, arith}
+use Rattle.std.proofs.Common.{◌≡◌, ◌≢◌, ℕ, ◌+◌, ◌-◌, ◌<◌, ◌≤◌, ◌==◌, List, [], ◌∷◌, ◌++◌, length, find, Bool, true, All, Contains, Option, Some, None, refl, sym, ap, subst, ◌∙◌, arith}
 use Rattle.std.specs.Prelude.{nat_le, nat_lt, slice_index_or}
-use Rattle.std.proofs.lemmas.Bool.{and_parts, leb-true, ltb-true, eqb-true}
-use Rattle.std.proofs.lemmas.List.Elements.{All-nil, All-cons, All-get_or}
+use Rattle.std.proofs.lemmas.Bool.{and_parts, leb-true, ltb-true}
+use Rattle.std.proofs.lemmas.List.Elements.{All-get_or}
 use Rattle.ckd_image.specs.declared.head.Head.{Head}
 use Rattle.ckd_image.specs.declared.track.Cchhr.{Cchhr}
-use Rattle.ckd_image.specs.declared.track.Rec.{Rec}
 use Rattle.ckd_image.specs.declared.track.Track.{Track}
 use Rattle.ckd_image.specs.declared.track.TrackAt.{TrackAt}
 use Rattle.ckd_image.specs.Address.{address_of}
 use Rattle.ckd_image.specs.Device.{heads_of}
 use Rattle.ckd_image.specs.Track.{IsTrackText}
-use Rattle.volume_model.specs.declared.place.Breach.{Breach}
 use Rattle.volume_model.specs.declared.place.Placed.{Placed}
 use Rattle.volume_model.specs.declared.place.Vtoc.{Vtoc}
 use Rattle.volume_model.specs.Check.{records_of, bad_tracks, bad_dscbs, bad_names, bad_pointers, bad_fives, bad_ranges, bad_overlaps, bad_free, breaches_of}
-use Rattle.volume_model.specs.Directory.{placed_from, placed_in}
+use Rattle.volume_model.specs.Directory.{placed_from}
 use Rattle.volume_model.specs.Dscbs.{extent_at}
 use Rattle.volume_model.specs.Reads.{fields_of_4}
 use Rattle.volume_model.specs.Space.{end_of, has_track, run_of, track_at}
 use Rattle.volume_model.specs.Sound.{Slots, dscb_of, IsTrackReading, IsFormat4, IsVtoc, limit_of}
 use Rattle.vtoc_check.proofs.Overlapping.{run_facts}
-use Rattle.vtoc_core.proofs.Pairs.{front_none}
-use Rattle.vtoc_core.proofs.Placed.{NumberedFrom, numbered_from}
-use Rattle.vtoc_layout.proofs.Distinct.{in_later, in_front, in_back}
-use Rattle.vtoc_write.proofs.Texts.{is_address}
+use Rattle.vtoc_core.proofs.Placed.{numbered_from}
 use Rattle.vtoc_rewrite.proofs.Addresses.{address_fits, one_address, one_text_anywhere}
+use Rattle.ckd_image.proofs.Lists.{left_nil}
+use Rattle.ckd_image.proofs.Devices.{is_address}
+use Rattle.vtoc_render.proofs.render_laws.Before.{tracks_are}
+use Rattle.vtoc_render.proofs.LoadsSlots.{on_track, in_tracks}
 
 -- ---- a record among those of a VTOC
 
 abbrev at_place : ℕ → ℕ → List ℕ → Placed
 at_place track n bytes = record { place = record { track = track; record_number = n }; bytes = bytes }
-
--- the record with a number, on its track
-on_track : (track n r : ℕ) (recs : List Rec) (rec : Rec) → NumberedFrom n recs → find (λ x. x.r == r) recs ≡ Some rec
-    → Contains (placed_from track n (map dscb_of recs)) (at_place track r (dscb_of rec))
-on_track track n r [] rec numbered found = absurd cc
-on_track track n r (x ∷ recs) rec numbered found = by (x.r == r) refl found (on_track track (n + 1) r recs rec numbered.1)
-  where
-    placed : List Placed
-    placed = placed_from track (n + 1) (map dscb_of recs)
-
-    by : (b : Bool) → (x.r == r) ≡ b → cond b (Some x) (find (λ x. x.r == r) recs) ≡ Some rec
-        → (find (λ x. x.r == r) recs ≡ Some rec → Contains placed (at_place track r (dscb_of rec))) → Contains (at_place track n (dscb_of x) ∷ placed) (at_place track r (dscb_of rec))
-    by true here e later =
-        let number : n ≡ r = sym numbered.0 ∙ eqb-true x.r r here in
-        let same : x ≡ rec = cc in
-        (0, omega arith, λ i. at_place track (number i) (dscb_of (same i)))
-    by false other e later = in_later (at_place track n (dscb_of x)) (at_place track r (dscb_of rec)) placed (later e)
-
--- a record of a track, among those of all
-in_tracks : (first k : ℕ) (tracks : List (Option (List (List ℕ)))) (dscbs : List (List ℕ)) (placed : Placed) → slice_index_or tracks k None ≡ Some dscbs
-    → Contains (placed_from (first + k) 1 dscbs) placed → Contains (placed_in first tracks) placed
-in_tracks first k [] dscbs placed e c = absurd (none e)
-  where
-    none : None ≡ Some dscbs → ⊥
-    none e = cc
-in_tracks first zero (None ∷ tracks) dscbs placed e c = absurd cc
-in_tracks first zero (Some here ∷ tracks) dscbs placed e c =
-    let same : here ≡ dscbs = cc in
-    let track : first + 0 ≡ first = omega arith in
-    in_front (placed_from first 1 here) (placed_in (first + 1) tracks) placed
-    (subst (λ (dscbs : List (List ℕ)). Contains (placed_from first 1 dscbs) placed) (sym same) (subst (λ (n : ℕ). Contains (placed_from n 1 dscbs) placed) track c))
-in_tracks first (suc k) (None ∷ tracks) dscbs placed e c =
-    let track : first + suc k ≡ first + 1 + k = omega arith in
-    in_tracks (first + 1) k tracks dscbs placed e (subst (λ (n : ℕ). Contains (placed_from n 1 dscbs) placed) track c)
-in_tracks first (suc k) (Some here ∷ tracks) dscbs placed e c =
-    let track : first + suc k ≡ first + 1 + k = omega arith in
-    in_back (placed_from first 1 here) (placed_in (first + 1) tracks) placed
-    (in_tracks (first + 1) k tracks dscbs placed e (subst (λ (n : ℕ). Contains (placed_from n 1 dscbs) placed) track c))
-
--- each track is read where none is told
-tracks_are : (track : ℕ) (tracks : List (Option (List (List ℕ)))) → bad_tracks track tracks ≡ [] → All (λ dscbs. dscbs ≢ None) tracks
-tracks_are track [] e = All-nil (λ (dscbs : Option (List (List ℕ))). dscbs ≢ None)
-tracks_are track (None ∷ more) e = absurd (bare (bad_tracks (track + 1) more) e)
-  where
-    bare : {x : Breach} (xs : List Breach) → x ∷ xs ≡ [] → ⊥
-    bare {x} xs e = let q : x ∷ xs ≡ [] = e in cc
-tracks_are track (Some dscbs ∷ more) e =
-    All-cons (λ (dscbs : Option (List (List ℕ))). dscbs ≢ None) (Some dscbs) more (λ same. cc) (tracks_are (track + 1) more e)
 
 all_read : (vtoc : Vtoc) → breaches_of vtoc ≡ [] → All (λ dscbs. dscbs ≢ None) vtoc.tracks
 all_read vtoc sound =
@@ -90,8 +41,8 @@ all_read vtoc sound =
     let six = five ++ bad_ranges vtoc in
     let seven = six ++ bad_overlaps vtoc in
     tracks_are vtoc.run.first vtoc.tracks
-    (front_none one (bad_dscbs vtoc) (front_none two (bad_names vtoc) (front_none three (bad_pointers vtoc) (front_none four (bad_fives vtoc)
-    (front_none five (bad_ranges vtoc) (front_none six (bad_overlaps vtoc) (front_none seven (bad_free vtoc) sound)))))))
+    (left_nil one (bad_dscbs vtoc) (left_nil two (bad_names vtoc) (left_nil three (bad_pointers vtoc) (left_nil four (bad_fives vtoc)
+    (left_nil five (bad_ranges vtoc) (left_nil six (bad_overlaps vtoc) (left_nil seven (bad_free vtoc) sound)))))))
 
 -- ---- the track of the format 4
 

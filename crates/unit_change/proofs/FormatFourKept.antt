@@ -22,7 +22,7 @@ use Rattle.volume_change.specs.declared.change.Change.TheVariants.{Repair, Put, 
 use Rattle.vtoc_render.specs.declared.change.Rendered.{Rendered}
 use Rattle.vtoc_render.specs.Change.{WritesRecords, IsChangeWritten}
 use Rattle.unit_change.proofs.FormatFour.{home_of, KeepsFormat4}
-use Rattle.unit_change.proofs.OneVtoc.{one_four}
+use Rattle.vtoc_rewrite.proofs.OneVtoc.{one_format_4}
 
 writes_records : (volume : Volume) (slots : List ℕ) (change : Change) (rendered : Rendered) (vtoc : Vtoc) (four : Placed) → change ≢ Mark → IsChangeWritten volume slots change rendered vtoc four
     → WritesRecords volume slots change rendered vtoc four
@@ -46,6 +46,6 @@ keeps_four head label old new before after slots volume change rendered vtoc fou
     stands_after was new after (edits_of is.records) rendered.blocks is.records.four blocks (subst (λ (run : Run). AreSlotsAfter run rendered.blocks old new) was.volume_is.vtoc_is slots_after)
     (four_found was.sized (has_layout was) plan) (stated_long four.bytes is.records.four.bytes plan.highest plan.free (four_long was) plan.planned.four_is) plan.planned.four_is.format
     plan.planned.four_is.fields (stated_valid four.bytes is.records.four.bytes plan.highest plan.free (four_long was) plan.planned.four_is after) in
-    let new_bytes : last ≡ is.records.four.bytes = one_four _ new label.vtoc last stands.stands.bytes new_short other stands.stands.format_4 ∙ sym stands.four_is in
-    let old_bytes : first ≡ four.bytes = one_four _ old label.vtoc first was.stands.stands.bytes old_short one was.stands.stands.format_4 ∙ sym was.stands.four_is in
+    let new_bytes : last ≡ is.records.four.bytes = one_format_4 _ new label.vtoc last stands.stands.bytes new_short other stands.stands.format_4 ∙ sym stands.four_is in
+    let old_bytes : first ≡ four.bytes = one_format_4 _ old label.vtoc first was.stands.stands.bytes old_short one was.stands.stands.format_4 ∙ sym was.stands.four_is in
     ap fields_of_4 new_bytes ∙ plan.planned.four_is.fields ∙ sym (ap fields_of_4 old_bytes)

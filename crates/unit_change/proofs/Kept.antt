@@ -1,31 +1,17 @@
 -- Data sets whose tracks don't change keep their texts.
-use Rattle.std.proofs.Common.{◌≡◌, inl, inr, ℕ, zero, suc, ◌+◌, ◌<◌, List, [], ◌∷◌, ◌++◌, map, All, refl, sym, ap, subst, arith}
+use Rattle.std.proofs.Common.{◌≡◌, ℕ, ◌+◌, ◌<◌, List, [], ◌∷◌, ◌++◌, map, refl, sym, ap, subst}
 use Rattle.std.specs.List.{AllByRecursion}
-use Rattle.std.proofs.lemmas.List.Elements.{All-nil, All-cons, All-append, All-map, recursion_from_All}
+use Rattle.std.proofs.lemmas.List.Elements.{recursion_from_All}
 use Rattle.free_map.specs.Runs.{InRuns}
 use Rattle.free_map.proofs.Gaps.{append_left, append_right}
 use Rattle.volume_model.specs.Directory.{DirectoryRow}
-use Rattle.volume_model.specs.Dscbs.{numbers_below}
 use Rattle.volume_model.specs.Reads.{IsTextAt, AreTexts, IsDataSet, AreDataSets}
 use Rattle.volume_model.specs.Sound.{Slots}
-use Rattle.volume_model.specs.Unit.{Text, Extent, DataSet, run_in, tracks_in, tracks_of, runs_of_sets}
+use Rattle.volume_model.specs.Unit.{Text, Extent, DataSet, run_in, tracks_of, runs_of_sets}
 use Rattle.unit_change.specs.Described.{own_place}
+use Rattle.volume_model.proofs.Numbers.{tracks_all}
 
 -- ---- tracks
-
-numbers_all : (P : ℕ → Type 0) (n : ℕ) → ((k : ℕ) → k < n → P k) → All P (numbers_below n)
-numbers_all P zero each = All-nil P
-numbers_all P (suc n) each = All-append P (numbers_below n) (n ∷ []) (numbers_all P n (λ k less. each k (omega (arith, less)))) (All-cons P n [] (each n (omega arith)) (All-nil P))
-
--- what holds of each track of the runs holds of the tracks in order
-pub tracks_all : (P : ℕ → Type 0) (extents : List Extent) → ((track : ℕ) → InRuns (map run_in extents) track → P track) → All P (tracks_of extents)
-tracks_all P [] each = All-nil P
-tracks_all P (extent ∷ extents) each =
-    let first = extent.run.first in
-    All-append P (tracks_in extent.run) (tracks_of extents)
-    (All-map P (λ place. first + place) (numbers_below extent.run.len)
-    (numbers_all (λ place. P (first + place)) extent.run.len (λ place less. each (first + place) (inl (omega arith, omega (arith, less))))))
-    (tracks_all P extents (λ track there. each track (inr there)))
 
 -- ---- texts
 

@@ -25,7 +25,7 @@ use Rattle.vtoc_core.specs.Loaded.{row_in}
 use Rattle.vtoc_layout.specs.Layout.{SetRecords, IsLayoutOf, AreExtentsApart, AreDistinct, layout_of, sets_of, row_by, name_of, extents_in_set}
 use Rattle.vtoc_layout.proofs.Apart.{map_flat}
 use Rattle.vtoc_layout.proofs.Distinct.{at_first, in_later, in_flat, from_flat}
-use Rattle.vtoc_layout.proofs.FreeRules.{held_in}
+use Rattle.vtoc_layout.proofs.FreeRules.{held_in, held_by}
 use Rattle.vtoc_layout.proofs.ExtentRules.{extents_permuted}
 use Rattle.vtoc_layout.proofs.Layouts.{rows}
 use Rattle.vtoc_load.specs.LoadedVtoc.{IsLoadedVtoc}
@@ -37,7 +37,7 @@ use Rattle.volume_change.specs.Runs.{runs_in}
 use Rattle.vtoc_render.specs.Next.{runs_of_rows, used_by}
 use Rattle.vtoc_render.proofs.LoadsPlan.{nothing_more}
 use Rattle.vtoc_render.proofs.NextCounts.{one_four}
-use Rattle.vtoc_render.proofs.PlacedTracks.{IsUnused, unused_free, free_unused, run_with, none_shared}
+use Rattle.vtoc_render.proofs.PlacedTracks.{IsUnused, unused_free, free_unused, none_shared}
 use Rattle.unit_change.proofs.FormatFour.{home_of, four_there}
 use Rattle.unit_change.proofs.OneOrder.{name_in, distinct_moved}
 
@@ -46,7 +46,7 @@ use Rattle.unit_change.proofs.OneOrder.{name_in, distinct_moved}
 -- the runs of elements in another order have the same tracks
 moved : {X : Type 0} (f : X → List Run) (xs ys : List X) (track : ℕ) → IsPermutation xs ys → InRuns (flat_map f xs) track → InRuns (flat_map f ys) track
 moved f xs ys track same h =
-    let run = run_with (flat_map f xs) track h in
+    let run = held_by (flat_map f xs) track h in
     let x = from_flat f xs run.0 run.1 in
     held_in (flat_map f ys) run.0 track (in_flat f ys x.0 run.0 (Contains-permutation xs ys x.0 same x.1) x.2) run.2
 
@@ -156,7 +156,7 @@ module _ {head : Head} {label : Label} {slots : Slots} {sliding : Bool} {loaded 
   -- a track of a data set isn't one of the VTOC
   pub rows_off_vtoc : (track : ℕ) → InRuns (runs_of_rows loaded loaded.rows) track → ¬ HasTrack is.vtoc.run track
   rows_off_vtoc track h held =
-      let run = run_with by_sets track (to_sets track h) in
+      let run = held_by by_sets track (to_sets track h) in
       none_shared run.0 vtoc.run track (All-contains (λ (r : Run). overlap r vtoc.run ≡ false) by_sets run.0 apart.off_vtoc run.1) run.2 held
 
   -- the tracks of the VTOC are usable
@@ -188,5 +188,5 @@ module _ {head : Head} {label : Label} {slots : Slots} {sliding : Bool} {loaded 
 pub in_all_rows : (volume : Volume) (row : Row) (track : ℕ) → Contains volume.rows row → InRuns (runs_of_rows volume (row ∷ [])) track → InRuns (runs_of_rows volume volume.rows) track
 in_all_rows volume row track there h =
     let f : Row → List Run = λ row. runs_in (heads_of volume.device) row.extents in
-    let run = run_with (f row) track (subst (λ (runs : List Run). InRuns runs track) (nothing_more (f row)) h) in
+    let run = held_by (f row) track (subst (λ (runs : List Run). InRuns runs track) (nothing_more (f row)) h) in
     held_in (flat_map f volume.rows) run.0 track (in_flat f volume.rows row run.0 there run.1) run.2

@@ -13,14 +13,11 @@ use Rattle.std.proofs.lemmas.List.MinMax.{ranks_by}
 use Rattle.std.proofs.lemmas.List.Sorted.{sorted_far, Contains-permutation, IsPermutation-sym, IsPermutation-trans, IsPermutation-map, length_permutation}
 use Rattle.volume_model.specs.Directory.{DirectoryRow, name_before, AreInOrder}
 use Rattle.vtoc_layout.specs.Layout.{AreDistinct}
-use Rattle.vtoc_layout.proofs.Distinct.{Parted, parted, first_or_later, at_first, distinct_others, in_map, one_of_map}
+use Rattle.vtoc_layout.proofs.Distinct.{Parted, parted, first_or_later, at_first, distinct_others, one_of_map}
 use Rattle.vtoc_render.proofs.PlacedLists.{taken_out}
+use Rattle.layout_edit.proofs.Changes.{distinct_of_map}
 
 -- ---- lists of distinct elements
-
-distinct_of_map : {X Y : Type 0} (f : X → Y) (xs : List X) → AreDistinct (map f xs) → AreDistinct xs
-distinct_of_map f [] d = tt
-distinct_of_map f (x ∷ xs) d = (λ c. d.0 (in_map f xs x c), distinct_of_map f xs d.1)
 
 -- in another order they are as distinct
 pub distinct_moved : {X : Type 0} (ys xs : List X) → AreDistinct xs → IsPermutation xs ys → AreDistinct ys

@@ -2,7 +2,6 @@
 use Rattle.std.proofs.Common.{◌≡◌, ◌⊎◌, inl, inr, ℕ, ◌≤◌, List, [], length, false, refl, sym, subst, ◌∙◌, arith}
 use Rattle.std.proofs.lemmas.Bool.{false≢true}
 use Rattle.ckd_image.specs.declared.device.Device.{Device}
-use Rattle.ckd_image.specs.declared.device.Device.TheVariants.{D3390, D3380}
 use Rattle.ckd_image.specs.declared.fault.CkdFault.TheVariants.{BadHead}
 use Rattle.ckd_image.specs.declared.head.Head.{Head}
 use Rattle.ckd_image.specs.declared.head.HeadRule.TheVariants as rules
@@ -10,7 +9,7 @@ use Rattle.ckd_image.specs.declared.track.Cchhr.{Cchhr}
 use Rattle.ckd_image.specs.declared.track.Track.{Track}
 use Rattle.ckd_image.specs.Address.{address_of}
 use Rattle.ckd_image.specs.Device.{heads_of}
-use Rattle.ckd_image.specs.Head.{NamesDevice, HasHeads, HasSlot, IsCylinders, IsHead, IsHeadFault}
+use Rattle.ckd_image.specs.Head.{HasHeads, HasSlot, IsCylinders, IsHead, IsHeadFault}
 use Rattle.vol_label.specs.declared.fault.LabelFault.TheVariants.{BadLabel}
 use Rattle.vol_label.specs.declared.label.Label.{Label}
 use Rattle.vol_label.specs.Label.{IsLabelFault, IsLabel}
@@ -26,14 +25,9 @@ use Rattle.volume_model.specs.Unit.{OnlineVolume, UnitModel, online, offline}
 use Rattle.vtoc_rewrite.proofs.Addresses.{one_text_anywhere}
 use Rattle.unit_change.specs.Described.{AreShort, own_place}
 use Rattle.unit_change.proofs.OneVtoc.{none_told, one_check}
+use Rattle.ckd_image.proofs.Devices.{one_device}
 
 -- ---- heads
-
-pub one_device : (head : List ℕ) (one other : Device) → NamesDevice one head → NamesDevice other head → one ≡ other
-one_device head D3390 D3390 a b = refl
-one_device head D3380 D3380 a b = refl
-one_device head D3390 D3380 a b = absurd (omega (arith, a, b))
-one_device head D3380 D3390 a b = absurd (omega (arith, a, b))
 
 pub no_head : (head : List ℕ) (blocks why : ℕ) → IsHeadFault head blocks (BadHead why) → (device : Device) → ¬ IsHead head blocks device
 no_head head blocks why (rules.Magic, number, broken) device is = broken.2 is.magic

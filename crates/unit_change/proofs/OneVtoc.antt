@@ -1,11 +1,9 @@
 -- The slots of a unit read as one VTOC at most, and its check fails in one way.
-use Rattle.std.proofs.Common.{◌≡◌, ◌⊎◌, inl, inr, ℕ, ◌+◌, ◌<◌, ◌≤◌, List, [], length, map, find, Bool, ◌==◌, Contains, Option, Some, None, refl, sym, ap, subst, ◌∙◌, arith}
+use Rattle.std.proofs.Common.{◌≡◌, ◌⊎◌, inl, inr, ℕ, ◌+◌, ◌<◌, ◌≤◌, List, [], length, Bool, ◌==◌, Contains, Option, None, refl, sym, ap, subst, ◌∙◌, arith}
 use Rattle.std.proofs.lemmas.List.{ext_get_or}
-use Rattle.std.proofs.lemmas.Option.{same_Some}
 use Rattle.ckd_image.specs.declared.head.Head.{Head}
 use Rattle.ckd_image.specs.declared.track.Cchhr.{Cchhr}
 use Rattle.ckd_image.specs.declared.track.Track.{Track}
-use Rattle.ckd_image.specs.Address.{address_of}
 use Rattle.ckd_image.specs.Device.{heads_of}
 use Rattle.free_map.specs.declared.run.Run.{Run}
 use Rattle.volume_model.specs.declared.place.Breach.{Breach}
@@ -16,29 +14,13 @@ use Rattle.volume_model.specs.declared.rule.VtocRule.TheVariants as rules
 use Rattle.volume_model.specs.Check.{breaches_of, IsNotAfter, IsLowestBreach}
 use Rattle.volume_model.specs.Dscbs.{number_at, extent_at}
 use Rattle.volume_model.specs.Rules.{number_of}
-use Rattle.volume_model.specs.Space.{track_at, run_of}
-use Rattle.volume_model.specs.Sound.{Slots, dscb_of, IsTrackReading, IsReading, IsFormat4, HasGeometry, HasVtocExtent, IsFirstRuleBroken, limit_of, is_valid, IsVtoc, IsCheckFault}
-use Rattle.vtoc_rewrite.proofs.Addresses.{one_text_anywhere}
+use Rattle.volume_model.specs.Space.{run_of}
+use Rattle.volume_model.specs.Sound.{Slots, IsReading, IsFormat4, HasGeometry, HasVtocExtent, IsFirstRuleBroken, limit_of, is_valid, IsVtoc, IsCheckFault}
 use Rattle.unit_change.specs.Described.{AreShort}
 use Rattle.unit_change.proofs.FormatFour.{home_of, home_in, run_inside}
+use Rattle.vtoc_rewrite.proofs.OneVtoc.{one_format_4, one_track}
 
 -- ---- the tracks
-
-pub one_four : (heads : ℕ) (slots : Slots) (pointer : Cchhr) (a b : List ℕ) → length (slots (track_at heads pointer.at)) ≤ 65536
-    → IsFormat4 heads slots pointer a → IsFormat4 heads slots pointer b → a ≡ b
-one_four heads slots pointer a b short one other =
-    let text : one.text ≡ other.text = one_text_anywhere pointer.at (slots (track_at heads pointer.at)) one.text other.text short one.stands other.stands in
-    let rec : one.rec ≡ other.rec =
-    same_Some one.rec other.rec (sym one.numbered ∙ ap (λ (t : Track). find (λ x. x.r == pointer.r) t.recs) text ∙ other.numbered) in
-    one.bytes_are ∙ ap dscb_of rec ∙ sym other.bytes_are
-
-one_track : (heads track : ℕ) (slot : List ℕ) (a b : Option (List (List ℕ))) → length slot ≤ 65536 → IsTrackReading heads track slot a → IsTrackReading heads track slot b → a ≡ b
-one_track heads track slot None None short one other = refl
-one_track heads track slot None (Some b) short one other = absurd (one b other)
-one_track heads track slot (Some a) None short one other = absurd (other a one)
-one_track heads track slot (Some a) (Some b) short one other =
-    let text : one.text ≡ other.text = one_text_anywhere (address_of heads track) slot one.text other.text short one.stands other.stands in
-    ap Some (one.dscbs_are ∙ ap (λ (t : Track). map dscb_of t.recs) text ∙ sym other.dscbs_are)
 
 one_reading : (heads : ℕ) (slots : Slots) (run : Run) (a b : List (Option (List (List ℕ)))) → ((k : ℕ) → k < run.len → length (slots (run.first + k)) ≤ 65536)
     → IsReading heads slots run a → IsReading heads slots run b → a ≡ b
@@ -65,7 +47,7 @@ module _ (head : Head) (blocks : ℕ) (slots : Slots) (pointer : Cchhr) (sliding
   )
     where
       bytes : one.bytes ≡ other.bytes
-      bytes = one_four (heads_of head.device) slots pointer one.bytes other.bytes (home_short a one) one.format_4 other.format_4
+      bytes = one_format_4 (heads_of head.device) slots pointer one.bytes other.bytes (home_short a one) one.format_4 other.format_4
 
       heads : a.heads ≡ b.heads
       heads = one.heads_are ∙ sym other.heads_are
@@ -95,7 +77,7 @@ module _ (head : Head) (blocks : ℕ) (slots : Slots) (pointer : Cchhr) (sliding
   -- the format 4s are one where the label's track is one of the image's
   module _ (inside : home_of head pointer < head.tracks) where
     four_same : (a b : List ℕ) → IsFormat4 (heads_of head.device) slots pointer a → IsFormat4 (heads_of head.device) slots pointer b → a ≡ b
-    four_same a b one other = one_four (heads_of head.device) slots pointer a b (short (home_of head pointer) (omega (arith, inside, whole))) one other
+    four_same a b one other = one_format_4 (heads_of head.device) slots pointer a b (short (home_of head pointer) (omega (arith, inside, whole))) one other
 
     -- where the rules of all stand, none of the first three fails
     none_first : (rule : VtocRule) (vtoc : Vtoc) → IsVtoc head slots pointer sliding vtoc → ¬ IsFirstRuleBroken head slots pointer rule

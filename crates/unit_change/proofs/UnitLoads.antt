@@ -21,7 +21,7 @@ use Rattle.unit_change.proofs.LoadedTracks.{four, four_here}
 use Rattle.unit_change.proofs.LoadedUnits.{pointer_short}
 
 -- slots of a whole number of tracks have each track's whole
-slot_long : (device : Device) (first k len : ℕ) (slots : List ℕ) → k < len → length slots ≡ len * slot_of device
+pub slot_long : (device : Device) (first k len : ℕ) (slots : List ℕ) → k < len → length slots ≡ len * slot_of device
     → length (take (slot_of device) (drop ((first + k - first) * slot_of device) slots)) ≡ slot_of device
 slot_long D3390 first k len slots less long =
     omega (arith, length-take (slot_of D3390) (drop ((first + k - first) * slot_of D3390) slots), length-drop ((first + k - first) * slot_of D3390) slots, less, long)

@@ -28,7 +28,7 @@ address_in : (device : Device) (at : TrackAt) (tracks : ℕ) → at.head < heads
 address_in D3390 at tracks head within few = (omega (arith, within, few), omega (arith, head))
 address_in D3380 at tracks head within few = (omega (arith, within, few), omega (arith, head))
 
-few_tracks : (head : List ℕ) (blocks : ℕ) (image : Head) → HasImage head blocks image → image.tracks ≤ 65535
+pub few_tracks : (head : List ℕ) (blocks : ℕ) (image : Head) → HasImage head blocks image → image.tracks ≤ 65535
 few_tracks head blocks image has = omega (arith, has.tracks_are, has.stands.cylinders.1)
 
 -- slots that were read are those of the unit, by the size that its device says

@@ -1,7 +1,7 @@
-pub mod Stopping
+mod Stopping
 pub mod Reading
 pub mod Slotted
-pub mod Refusals
+mod Refusals
 pub mod Runs
-pub mod States
+mod States
 pub mod Keeping

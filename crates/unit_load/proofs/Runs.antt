@@ -1,7 +1,6 @@
 -- The run of a VTOC on a unit whose head passes.
-use Rattle.std.proofs.Common.{◌≡◌, ℕ, ◌+◌, ◌*◌, ◌≤◌, List, true, ap, refl, arith}
-use Rattle.std.specs.Prelude.{◌==◌, ◌||◌, nat_le, nat_lt, if◌then◌else◌}
-use Rattle.std.proofs.lemmas.Bool.{and_parts, leb-true, ltb-true}
+use Rattle.std.proofs.Common.{◌≡◌, ℕ, ◌+◌, ◌*◌, ◌≤◌, List, ap, refl, arith}
+use Rattle.std.specs.Prelude.{◌==◌, ◌||◌, if◌then◌else◌}
 use Rattle.std.proofs.Math.Nat.{min-le_right}
 use Rattle.ckd_image.specs.declared.device.Device.{Device}
 use Rattle.ckd_image.specs.declared.device.Device.TheVariants.{D3390, D3380}
@@ -14,9 +13,10 @@ use Rattle.dasd_pool.specs.Calls.{size_in}
 use Rattle.free_map.specs.declared.run.Run.{Run}
 use Rattle.free_map.specs.Runs.{HasTrack}
 use Rattle.volume_model.specs.Sound.{Slots, limit_of}
-use Rattle.volume_model.specs.Space.{track_at, end_of, has_track}
+use Rattle.volume_model.specs.Space.{track_at, end_of}
 use Rattle.vtoc_check.specs.Front.{IsVtocRun}
 use Rattle.vtoc_check.proofs.VtocRead.{run_within, holds_pointer}
+use Rattle.vtoc_core.proofs.Spaces.{true_holds}
 
 pub track_is : (device : Device) (at : TrackAt) → at.cylinder * 15 + at.head ≡ track_at (heads_of device) at
 track_is D3390 at = refl
@@ -37,10 +37,5 @@ run_blocks head slots pointer run blocks tracks is =
     let most : limit_of head is.bytes ≤ head.tracks = min-le_right _ head.tracks in
     omega (arith, within, most, tracks)
 
-track_in : (track : ℕ) (run : Run) → has_track track run ≡ true → HasTrack run track
-track_in track run has =
-    let parts = and_parts (nat_le run.first track) (nat_lt track (end_of run)) has in
-    (leb-true run.first track parts.0, ltb-true track (end_of run) parts.1)
-
 pub run_holds : (head : Head) (slots : Slots) (pointer : Cchhr) (run : Run) → IsVtocRun head slots pointer run → HasTrack run (track_at (heads_of head.device) pointer.at)
-run_holds head slots pointer run is = track_in (track_at (heads_of head.device) pointer.at) run (holds_pointer head slots pointer run is)
+run_holds head slots pointer run is = true_holds (track_at (heads_of head.device) pointer.at) run (holds_pointer head slots pointer run is)

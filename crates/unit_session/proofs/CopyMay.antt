@@ -35,7 +35,7 @@ use Rattle.unit_session.specs.Copies.{AreCopied, AreCopiesOf, AreRowCopies, Have
 use Rattle.unit_session.proofs.CopyPlaces.{ArePlaced, IsPlaced, few_blocks, free_below, kept_of, not_free, one_named, plan_placed, put_distinct, row_below}
 use Rattle.unit_session.proofs.CopyTargets.{IsMoved, each_target, get_contains, pairs_of, source_there, targets_between, targets_distinct}
 use Rattle.unit_session.proofs.CopyingHeld.{copies_hold_texts}
-use Rattle.unit_session.proofs.Rendered.{one_loaded}
+use Rattle.unit_steps.proofs.OneChange.{same_volume}
 
 -- copies of a data set's tracks onto those of a row that was placed
 pub record AreCopiesTo (units : List UnitState) (copies : Copies) : Type 0 where
@@ -128,7 +128,7 @@ module _ {shape : Shape} (units : List UnitState) (vtocs : List (List ℕ)) (hav
 
   source_unwritten : (move : TextMove) → Contains copies.moves.items move → ¬ IsTarget copies copies.from move.from
   source_unwritten move there target =
-      let same : to.volume ≡ to.source = one_loaded units copies.from to.volume to.source (subst (λ (u : ℕ). IsLoadedAt units u to.volume) (sym target.0) to.loaded) to.source_loaded in
+      let same : to.volume ≡ to.source = same_volume units copies.from to.volume to.source (subst (λ (u : ℕ). IsLoadedAt units u to.volume) (sym target.0) to.loaded) to.source_loaded in
       not_free source_from to.origin to.origin_there move.from (source_held move there)
       (subst (λ (v : Volume). IsFree v.free move.from) same (target_free move.from target.1))
 
@@ -178,7 +178,7 @@ module _ {shape : Shape} (units : List UnitState) (vtocs : List (List ℕ)) (hav
     where
       stays : (k track : ℕ) → copies.from ≡ copies.unit → slice_get source_tracks k ≡ Some track → slice_get target_tracks k ≡ Some track → ¬ Contains (targets_of copies) track
       stays k track one here there written =
-          let same : to.volume ≡ to.source = one_loaded units copies.from to.volume to.source (subst (λ (u : ℕ). IsLoadedAt units u to.volume) (sym one) to.loaded) to.source_loaded in
+          let same : to.volume ≡ to.source = same_volume units copies.from to.volume to.source (subst (λ (u : ℕ). IsLoadedAt units u to.volume) (sym one) to.loaded) to.source_loaded in
           not_free source_from to.origin to.origin_there track (get_contains source_tracks k track here) (subst (λ (v : Volume). IsFree v.free track) same (target_free track written))
 
 -- ---- of a plan
@@ -207,8 +207,8 @@ copies_hold units vtocs plan copies old new have keep is are found leave = by pl
         subst (λ (d : Device). HoldTexts (heads_of d) (old from) S (new unit) T) device
         (subst (λ (u : ℕ). HoldTexts (heads_of copies.device) (old u) S (new unit) T) copied.from_is
         (subst (λ (u : ℕ). HoldTexts (heads_of copies.device) (old copies.from) S (new u) T) copied.unit_is (row_holds units vtocs have keep copies to old new found leave))) in
-        let source_is : source' ≡ source = one_loaded units from source' source at' at in
-        let volume_is : volume' ≡ volume = one_loaded units unit volume' volume there' there in
+        let source_is : source' ≡ source = same_volume units from source' source at' at in
+        let volume_is : volume' ≡ volume = same_volume units unit volume' volume there' there in
         let kept = (kept_of units vtocs have keep from source at).2 in
         let origin_is : origin' ≡ origin = one_named kept name origin' origin (subst (λ (v : Volume). HasRow v name origin') source_is has') has in
         let row_is : row' ≡ row = one_put change row' row put' put in

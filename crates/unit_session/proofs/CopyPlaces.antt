@@ -25,7 +25,7 @@ use Rattle.vtoc_core.specs.declared.volume.Row.{Row}
 use Rattle.vtoc_core.specs.declared.volume.Volume.{Volume}
 use Rattle.vtoc_core.specs.Loaded.{field_of, row_in, HasItsName}
 use Rattle.vtoc_layout.specs.Layout.{AreDistinct, extents_by, extents_in_set, layout_of, runs_by, sets_of}
-use Rattle.vtoc_layout.proofs.Distinct.{at_first, from_map, in_flat, in_later, in_map, one_of_map}
+use Rattle.vtoc_layout.proofs.Distinct.{at_first, from_map, in_flat, in_later, one_of_map}
 use Rattle.volume_change.specs.declared.change.Change.{Change}
 use Rattle.volume_change.specs.declared.change.Change.TheVariants.{Swap, Remove}
 use Rattle.volume_change.specs.Runs.{runs_in}
@@ -53,7 +53,9 @@ use Rattle.unit_steps.specs.Plans.{IsLoadedAt, HasRow, Plans, PlansCopy, PlansMo
 use Rattle.unit_steps.proofs.Blocks.{few, from_slots, home_short}
 use Rattle.unit_steps.proofs.Rows.{runs_of_extents, runs_of_one, runs_on}
 use Rattle.unit_session.proofs.CopyTargets.{get_contains, get_there, in_runs, runs_distinct}
-use Rattle.unit_session.proofs.Rendered.{one_loaded}
+use Rattle.ckd_image.proofs.Lists.{contains_map}
+use Rattle.unit_steps.proofs.OneChange.{same_volume}
+use Rattle.unit_steps.proofs.Putting.{may_put}
 
 -- ---- the tracks of a row
 
@@ -102,7 +104,7 @@ module _ {head : List ℕ} {blocks : ℕ} {volume : Volume} {slots : List ℕ} (
       subst (λ (l : List ExtentField). Contains l found.0) (ap (λ (d : DirectoryRow). d.extents) (sym of_set.same)) found.1 in
       let of_all : Contains (extents_by layout) found.0 = in_flat extents_in_set (sets_of vtoc) of_set.set found.0 of_set.there in_set in
       let same : run_of vtoc.heads found.0 ≡ run = ap (λ (heads : ℕ). run_of heads found.0) (sym (heads_same was)) ∙ found.2 in
-      let of_runs : Contains (runs_by vtoc.heads layout) run = subst (Contains (runs_by vtoc.heads layout)) same (in_map (run_of vtoc.heads) (extents_by layout) found.0 of_all) in
+      let of_runs : Contains (runs_by vtoc.heads layout) run = subst (Contains (runs_by vtoc.heads layout)) same (contains_map (run_of vtoc.heads) (extents_by layout) found.0 of_all) in
       ends was run (in_later track_0 run (vtoc.run ∷ extents_in vtoc) (in_later vtoc.run run (extents_in vtoc) (extent_there was run of_runs)))
 
   runs_below : (runs : List Run) → ((run : Run) → Contains runs run → end_of run ≤ volume.usable) → (track : ℕ) → InRuns runs track → track < blocks
@@ -153,10 +155,6 @@ ArePlaced units (texts.Rows from name) (change ∷ changes) =
     (source volume : Volume) (origin row : Row) → IsLoadedAt units from source → HasRow source name origin → IsLoadedAt units change.0 volume → IsPutBy change.1 row
     → IsPlaced from change.0 source volume origin row
 ArePlaced units _ _ = Unit {0}
-
-may_put : (volume : Volume) (replaced : Bool) (name : Dsn) (row : Row) → MayChange volume (putting replaced name row) → (gone : List Row) × MayPut volume gone row
-may_put volume true name row may = (may.1.0 ∷ [], may.1.3)
-may_put volume false name row may = ([], may.0)
 
 -- a copy takes at least as many tracks as its origin
 tracks_longer : (device : Device) (kind tracks : ℕ) → tracks ≤ tracks_for (heads_of device) kind tracks
@@ -218,20 +216,20 @@ module _ (units : List UnitState) where
     copied_placed : {replaced : Bool} {from : ℕ} {origin : Dsn} {unit : ℕ} {name : Dsn} {to : List Run} {change : Change} (plan : PlansCopy replaced units from origin unit name to change)
         → (rest : List (ℕ × Change)) → ArePlaced units (texts.Rows from origin) ((unit, change) ∷ rest)
     copied_placed {replaced = replaced} {from = from} {origin = origin} {unit = unit} {name = name} plan rest source volume old row at has there put =
-        let source_is = one_loaded units from source plan.source at plan.source_loaded in
+        let source_is = same_volume units from source plan.source at plan.source_loaded in
         let kept = (kept_of units vtocs have keep from plan.source plan.source_loaded).2 in
         let old_is = one_named kept origin old plan.old (subst (λ (v : Volume). HasRow v origin old) source_is has) plan.old_is in
-        placed_as from unit source plan.source volume plan.volume old plan.old row plan.row source_is (one_loaded units unit volume plan.volume there plan.loaded) old_is
+        placed_as from unit source plan.source volume plan.volume old plan.old row plan.row source_is (same_volume units unit volume plan.volume there plan.loaded) old_is
         (put_row replaced name plan.row row (subst (λ (c : Change). IsPutBy c row) plan.change_is put)) (copy_placed plan)
 
     moved_placed : {unit : ℕ} {name : Dsn} {to : List Run} {changes : List (ℕ × Change)} (plan : PlansMove units unit name to changes)
         → ArePlaced units (texts.Rows unit name) ((unit, Swap name plan.swap.row) ∷ [])
     moved_placed {unit} {name} plan source volume origin row at has there put =
         let swap = plan.swap in
-        let source_is = one_loaded units unit source swap.volume at swap.loaded in
+        let source_is = same_volume units unit source swap.volume at swap.loaded in
         let from = (kept_of units vtocs have keep unit swap.volume swap.loaded).2 in
         let origin_is = one_named from name origin swap.old (subst (λ (v : Volume). HasRow v name origin) source_is has) swap.old_is in
-        placed_as unit unit source swap.volume volume swap.volume origin swap.old row swap.row source_is (one_loaded units unit volume swap.volume there swap.loaded) origin_is put
+        placed_as unit unit source swap.volume volume swap.volume origin swap.old row swap.row source_is (same_volume units unit volume swap.volume there swap.loaded) origin_is put
         (move_placed plan)
 
     none_placed : (tracks : Tracks) (changes : List (ℕ × Change)) → tracks ≡ texts.None → ArePlaced units tracks changes

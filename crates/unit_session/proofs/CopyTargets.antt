@@ -14,7 +14,7 @@ use Rattle.volume_model.specs.Space.{overlap}
 use Rattle.volume_model.specs.Unit.{tracks_in}
 use Rattle.vtoc_layout.specs.Layout.{AreApart, AreDistinct}
 use Rattle.vtoc_layout.proofs.Apart.{all_from}
-use Rattle.vtoc_layout.proofs.Distinct.{first_or_later, at_first, in_later, in_none, from_filter, from_flat, from_map, distinct_append}
+use Rattle.vtoc_layout.proofs.Distinct.{first_or_later, at_first, in_later, in_none, from_filter, from_flat, from_map, distinct_append, in_below, below_distinct, shifted_distinct}
 use Rattle.vtoc_layout.proofs.FreeRules.{held_in}
 use Rattle.unit_steps.proofs.vtoc_render.PlacedTracks.{none_shared}
 use Rattle.unit_session.specs.declared.copies.TextMove.{TextMove}
@@ -123,47 +123,6 @@ source_there one source target move there =
 
 -- ---- the tracks of runs
 
-in_below : (n k : ℕ) → Contains (numbers_below n) k → k < n
-in_below zero k there = absurd (in_none k there)
-in_below (suc n) k there = by (in_below n k) (in_either (numbers_below n) (n ∷ []) k there)
-  where
-    in_either : (xs ys : List ℕ) (x : ℕ) → Contains (xs ++ ys) x → Contains xs x ⊎ Contains ys x
-    in_either [] ys x c = inr c
-    in_either (y ∷ xs) ys x c = next (in_either xs ys x) (first_or_later y x (xs ++ ys) c)
-      where
-        next : (Contains (xs ++ ys) x → Contains xs x ⊎ Contains ys x) → ((y ≡ x) ⊎ Contains (xs ++ ys) x) → Contains (y ∷ xs) x ⊎ Contains ys x
-        next later (inl same) = inl (subst (Contains (y ∷ xs)) same (at_first y xs))
-        next later (inr behind) = elim (later behind) [
-          | inl front ↦ inl (in_later y x xs front)
-          | inr back ↦ inr back
-        ]
-
-    last : ((n ≡ k) ⊎ Contains [] k) → k < suc n
-    last (inl same) = omega (arith, same)
-    last (inr none) = absurd (in_none k none)
-
-    by : (Contains (numbers_below n) k → k < n) → Contains (numbers_below n) k ⊎ Contains (n ∷ []) k → k < suc n
-    by later (inl front) = omega (arith, later front)
-    by later (inr back) = last (first_or_later n k [] back)
-
-below_distinct : (n : ℕ) → AreDistinct (numbers_below n)
-below_distinct zero = tt
-below_distinct (suc n) =
-    distinct_append (numbers_below n) (n ∷ []) (below_distinct n) (λ there. in_none n there, tt)
-    (λ k front back. absurd (omega (arith, in_below n k front, by k (first_or_later n k [] back))))
-  where
-    by : (k : ℕ) → ((n ≡ k) ⊎ Contains [] k) → n ≡ k
-    by k (inl same) = same
-    by k (inr none) = absurd (in_none k none)
-
-add_distinct : (first : ℕ) (places : List ℕ) → AreDistinct places → AreDistinct (map (λ place. first + place) places)
-add_distinct first [] distinct = tt
-add_distinct first (place ∷ places) distinct = (
-  λ there. let found = from_map (λ place. first + place) places (first + place) there in
-      distinct.0 (subst (Contains places) (let same : found.0 ≡ place = omega (arith, found.2) in same) found.1),
-  add_distinct first places distinct.1,
-)
-
 in_run : (run : Run) (track : ℕ) → Contains (tracks_in run) track → HasTrack run track
 in_run run track there =
     let found = from_map (λ place. run.first + place) (numbers_below run.len) track there in
@@ -178,6 +137,6 @@ in_runs runs track there =
 pub runs_distinct : (runs : List Run) → AreApart runs → AreDistinct (flat_map tracks_in runs)
 runs_distinct [] apart = tt
 runs_distinct (run ∷ runs) apart =
-    distinct_append (tracks_in run) (flat_map tracks_in runs) (add_distinct run.first (numbers_below run.len) (below_distinct run.len)) (runs_distinct runs apart.1)
+    distinct_append (tracks_in run) (flat_map tracks_in runs) (shifted_distinct run.first (numbers_below run.len) (below_distinct run.len)) (runs_distinct runs apart.1)
     (λ track here there. let found = from_flat tracks_in runs track there in
     none_shared run found.0 track (All-contains (λ (other : Run). overlap run other ≡ false) runs found.0 apart.0 found.1) (in_run run track here) (in_run found.0 track found.2))

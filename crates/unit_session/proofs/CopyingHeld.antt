@@ -10,7 +10,7 @@ use Rattle.ckd_image.specs.Address.{address_of}
 use Rattle.ckd_image.specs.Device.{heads_of}
 use Rattle.ckd_image.specs.Track.{IsTrackText}
 use Rattle.dasd_pool.specs.Disk.{Image}
-use Rattle.vtoc_layout.proofs.Distinct.{at_first, in_later, in_map, in_filter}
+use Rattle.vtoc_layout.proofs.Distinct.{at_first, in_later, in_filter}
 use Rattle.volume_model.specs.Reads.{IsTextAt, AreTexts}
 use Rattle.volume_model.specs.Sound.{Slots}
 use Rattle.volume_model.specs.Unit.{Text, good, bad}
@@ -19,6 +19,7 @@ use Rattle.move_core.specs.Steps.{empty_text}
 use Rattle.unit_session.specs.declared.copies.TextMove.{TextMove}
 use Rattle.unit_session.specs.declared.copies.Copies.{Copies}
 use Rattle.unit_session.specs.Copies.{moves_between, targets_of, HaveTexts, IsTextCopied, IsEmptied, AreCopied}
+use Rattle.ckd_image.proofs.Lists.{contains_map}
 
 module _ (heads : ℕ) (old new : Slots) where
   -- tracks that are emptied
@@ -55,7 +56,7 @@ pub in_moves : (one_unit : Bool) (source target : List ℕ) (k from to : ℕ) �
     → Contains (moves_between one_unit source target) (record { from = from; to = to })
 in_moves one_unit source target k from to here there moves =
     let moving : ℕ × ℕ → Bool = λ pair. not (one_unit && (pair.0 == pair.1)) in
-    in_map (λ (pair : ℕ × ℕ). record { from = pair.0; to = pair.1 }) (filter moving (zip source target)) (from, to)
+    contains_map (λ (pair : ℕ × ℕ). record { from = pair.0; to = pair.1 }) (filter moving (zip source target)) (from, to)
     (in_filter moving (zip source target) (from, to) (in_zip source target k from to here there) (ap not moves))
 
 -- What copies leave on the tracks of a row: its texts, in their order, and empty tracks behind them. A track that stays its own isn't written.

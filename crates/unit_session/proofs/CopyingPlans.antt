@@ -1,5 +1,5 @@
 -- What is copied for a plan, and where it goes.
-use Rattle.std.proofs.Common.{◌≡◌, ℕ, Bool, true, false, List, [], ◌∷◌, Some, refl, sym, subst}
+use Rattle.std.proofs.Common.{◌≡◌, ℕ, Bool, List, [], ◌∷◌, Some, refl, sym, subst}
 use Rattle.std.specs.Prelude.{slice_get}
 use Rattle.std.proofs.lemmas.Option.{same_Some, none-some}
 use Rattle.dsn_filter.specs.declared.dsn.Dsn.{Dsn}
@@ -12,12 +12,9 @@ use Rattle.move_core.specs.declared.steps.Step.TheVariants as steps
 use Rattle.unit_steps.specs.declared.plan.Tracks.{Tracks}
 use Rattle.unit_steps.specs.declared.plan.Tracks.TheVariants as texts
 use Rattle.unit_steps.specs.Copied.{IsPutBy}
-use Rattle.unit_steps.specs.Plans.{Plans, PlansCopy, putting}
+use Rattle.unit_steps.specs.Plans.{Plans, PlansCopy}
 use Rattle.unit_session.specs.Copies.{HasSource, HasTarget}
-
-is_put_by : (replaced : Bool) (name : Dsn) (row : Row) → IsPutBy (putting replaced name row) row
-is_put_by true name row = refl
-is_put_by false name row = refl
+use Rattle.unit_steps.proofs.Putting.{put_by}
 
 -- where texts are copied, their data set and the row that is put are there
 abbrev pub IsCopied : List UnitState → Tracks → List (ℕ × Change) → Type 0
@@ -28,7 +25,7 @@ copied_put : {replaced : Bool} {units : List UnitState} {from : ℕ} {origin : D
     → HasSource units from origin × HasTarget units unit change
 copied_put {replaced} {name = name} plan = (
   (plan.source, plan.old, plan.source_loaded, plan.old_is),
-  (plan.volume, plan.row, plan.loaded, subst (λ (c : Change). IsPutBy c plan.row) (sym plan.change_is) (is_put_by replaced name plan.row)),
+  (plan.volume, plan.row, plan.loaded, subst (λ (c : Change). IsPutBy c plan.row) (sym plan.change_is) (put_by replaced name plan.row)),
 )
 
 none_copied : (units : List UnitState) (changes : List (ℕ × Change)) → IsCopied units texts.None changes

@@ -19,18 +19,18 @@ use Rattle.ckd_image.proofs.OneText.{one_text}
 use Rattle.dasd_pool.specs.Disk.{Image, Shape, is_at}
 use Rattle.volume_model.specs.Reads.{IsTextAt}
 use Rattle.move_core.specs.Steps.{empty_text}
-use Rattle.vtoc_layout.proofs.Distinct.{in_map}
-use Rattle.vtoc_write.proofs.Texts.{is_address}
 use Rattle.unit_session.specs.declared.copies.TextMove.{TextMove}
 use Rattle.unit_session.specs.declared.copies.Copies.{Copies}
 use Rattle.unit_session.specs.Copies.{MayCopy, IsTextCopied, IsEmptied, AreCopied, IsTarget, IsFirstBad, targets_of, is_among}
 use Rattle.unit_session.proofs.CopyingBlocks.{among_apart, at_apart}
+use Rattle.ckd_image.proofs.Lists.{contains_map}
+use Rattle.ckd_image.proofs.Devices.{is_address}
 
 -- ---- targets
 
 pub to_is_target : (copies : Copies) (move : TextMove) → Contains copies.moves.items move → Contains (targets_of copies) move.to
 to_is_target copies move there =
-    Contains-append_left (map (λ m. m.to) copies.moves.items) copies.empty.items move.to (in_map (λ (m : TextMove). m.to) copies.moves.items move there)
+    Contains-append_left (map (λ m. m.to) copies.moves.items) copies.empty.items move.to (contains_map (λ (m : TextMove). m.to) copies.moves.items move there)
 
 pub empty_is_target : (copies : Copies) (track : ℕ) → Contains copies.empty.items track → Contains (targets_of copies) track
 empty_is_target copies track there = Contains-append_right (map (λ m. m.to) copies.moves.items) copies.empty.items track there
@@ -170,7 +170,7 @@ module _ (copies : Copies) (apart : AllPairs (λ one other. one ≢ other) (targ
   both_copied old mid new still keeps copied emptied = record {
     texts = λ k d less text stands.
         let move = get_or copies.moves.items k d in
-        let there : Contains tos move.to = in_map (λ (m : TextMove). m.to) copies.moves.items move (Contains-get_or copies.moves.items k d less) in
+        let there : Contains tos move.to = contains_map (λ (m : TextMove). m.to) copies.moves.items move (Contains-get_or copies.moves.items k d less) in
         subst (λ (slot : List ℕ). IsTrackText (address_of (heads_of copies.device) move.to) slot text)
         (sym (keeps copies.unit move.to (among_apart copies.unit copies.empty.items copies.unit move.to (λ both. not_both tos copies.empty.items move.to apart there both.1))))
         (copied k d less text stands);

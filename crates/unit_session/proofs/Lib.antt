@@ -1,24 +1,24 @@
-pub mod Loading
-pub mod Modelling
-pub mod Beginning
-pub mod Searching
-pub mod Rendered
-pub mod Switched
-pub mod Patched
-pub mod Vtocs
-pub mod CopyingBlocks
-pub mod CopyingTexts
-pub mod CopyTargets
-pub mod CopyPlaces
-pub mod CopyMay
-pub mod CopyingMoves
-pub mod CopyingPlans
-pub mod CopyingHeld
-pub mod CopyingTargets
-pub mod PlanVolumes
-pub mod CopyDone
-pub mod Prepared
-pub mod SetTexts
-pub mod Seen
-pub mod Registered
-pub mod Sparing
+mod Loading
+mod Modelling
+mod Beginning
+mod Searching
+mod Rendered
+mod Switched
+mod Patched
+mod Vtocs
+mod CopyingBlocks
+mod CopyingTexts
+mod CopyTargets
+mod CopyPlaces
+mod CopyMay
+mod CopyingMoves
+mod CopyingPlans
+mod CopyingHeld
+mod CopyingTargets
+mod PlanVolumes
+mod CopyDone
+mod Prepared
+mod SetTexts
+mod Seen
+mod Registered
+mod Sparing

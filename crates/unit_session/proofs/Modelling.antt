@@ -19,7 +19,7 @@ use Rattle.redo_core.specs.declared.control.Control.TheVariants.{Idle}
 use Rattle.redo_core.specs.Phases.{IsAtRest}
 use Rattle.redo_core.specs.Reading.{journal_of, Reading}
 use Rattle.redo_core.proofs.Crash.{closed_overlay}
-use Rattle.redo_core.proofs.Heads.{one_device, no_head}
+use Rattle.redo_core.proofs.Heads.{no_head}
 use Rattle.volume_model.specs.declared.why.Why.TheVariants as whys
 use Rattle.volume_model.specs.Reads.{IsUnit, IsOnline, HasImage, IsFirstText, HasBadLabel, HasLabelOf}
 use Rattle.volume_model.specs.Sound.{Slots}
@@ -36,6 +36,7 @@ use Rattle.unit_load.specs.declared.state.UnitState.TheVariants as states
 use Rattle.unit_load.specs.State.{IsStateOf}
 use Rattle.unit_steps.specs.Loaded.{HaveStates, AreLoaded, IsModel, AreModels}
 use Rattle.unit_session.specs.Sessions.{HasNothingOpen}
+use Rattle.ckd_image.proofs.Devices.{one_device}
 
 -- ---- one unit
 

@@ -11,7 +11,6 @@ use Rattle.unit_steps.specs.vtoc_render.declared.change.Rendered.{Rendered}
 use Rattle.unit_steps.specs.vtoc_render.Loads.{LoadsFrom}
 use Rattle.unit_steps.specs.vtoc_render.Next.{MayChange}
 use Rattle.unit_load.specs.declared.state.UnitState.{UnitState}
-use Rattle.unit_load.specs.declared.state.UnitState.TheVariants.{Online}
 use Rattle.unit_steps.specs.Plans.{IsLoadedAt}
 use Rattle.unit_steps.specs.Rendering.{WasRendered, WereRendered, entry_for, entries_of}
 use Rattle.unit_session.specs.declared.fault.PlanFault.{PlanFault}
@@ -19,10 +18,6 @@ use Rattle.unit_session.specs.declared.fault.PlanFault.TheVariants as faults
 use Rattle.unit_session.specs.Planned.{HaveVolumes, IsRenderFault, AreRenderFault}
 
 -- ---- volumes
-
--- a unit has one volume
-pub one_loaded : (units : List UnitState) (unit : ℕ) (a b : Volume) → IsLoadedAt units unit a → IsLoadedAt units unit b → a ≡ b
-one_loaded units unit a b here there = let same : Some (Online a) ≡ Some (Online b) = sym here ∙ there in cc
 
 pub have_one : (units : List UnitState) (vtocs : List (List ℕ)) (changes : List (ℕ × Change)) (i : ℕ) (change : ℕ × Change) → i < length changes → change ≡ get_or changes i change
     → HaveVolumes units vtocs changes → HaveVolumes units vtocs ((change.0, change.1) ∷ [])

@@ -23,14 +23,14 @@ use Rattle.unit_session.specs.Copies.{AreCopiesOf, AreRowCopies, HaveTexts, OnCo
 use Rattle.unit_session.specs.Texts.{AreSeen, AreTracksAt, HasTextOn, HasTexts, IsSeen}
 use Rattle.unit_session.proofs.CopyPlaces.{ArePlaced, kept_of, one_named, plan_placed}
 use Rattle.unit_session.proofs.CopyTargets.{source_there}
-use Rattle.unit_session.proofs.Rendered.{one_loaded}
+use Rattle.unit_steps.proofs.OneChange.{same_volume}
 
 -- each track of a data set was found to have a text
 pub texts_found : {shape : Shape} (units : List UnitState) (vtocs : List (List ℕ)) (unit : ℕ) (name : Dsn) (device : Device) (tracks : List ℕ) (contents : Image) → HaveStates shape units
     → KeepVtocs shape units vtocs → AreTracksAt units unit name device tracks → All (HasTextOn (heads_of device) (contents unit)) tracks
     → HasTexts units contents (record { unit = unit; name = name })
 texts_found units vtocs unit name device tracks contents have keep at each volume row loaded has =
-    let volume_is : volume ≡ at.volume = one_loaded units unit volume at.volume loaded at.loaded in
+    let volume_is : volume ≡ at.volume = same_volume units unit volume at.volume loaded at.loaded in
     let kept = (kept_of units vtocs have keep unit at.volume at.loaded).2 in
     let row_is : row ≡ at.row = one_named kept name row at.row (subst (λ (v : Volume). HasRow v name row) volume_is has) at.row_is in
     subst (λ (v : Volume). All (HasTextOn (heads_of v.device) (contents unit)) (tracks_in v row)) (sym volume_is)

@@ -13,7 +13,7 @@ use Rattle.unit_steps.specs.Rendering.{AreOfUnits, ArePatched, VtocsAfter}
 use Rattle.unit_steps.proofs.Lists.{get_set_other}
 use Rattle.unit_steps.proofs.Readying.{pairs_rest}
 use Rattle.unit_session.specs.Planned.{BlocksAreOf, MayPatchUnit, MayPatch}
-use Rattle.unit_session.proofs.Rendered.{one_loaded}
+use Rattle.unit_steps.proofs.OneChange.{same_volume}
 
 -- no change before is of this unit
 abbrev pub AreOthers : ℕ → List (ℕ × Change) → Type 0
@@ -116,7 +116,7 @@ module _ (units : List UnitState) (old mid : List (List ℕ)) (changes : List (�
   unit_ready volume slots loaded at =
       let P : Volume → List ℕ → Type 0 = λ v l. (length l ≡ v.vtoc.len * slot_of v.device) × BlocksAreOf v.vtoc (slot_of v.device) one.blocks in
       subst (λ (l : List ℕ). P volume l) (same_Some ready.slots slots (sym there ∙ slots_at slots at))
-      (subst (λ (v : Volume). P v ready.slots) (one_loaded units change.0 ready.volume volume ready.loaded loaded) (ready.whole, ready.blocks))
+      (subst (λ (v : Volume). P v ready.slots) (same_volume units change.0 ready.volume volume ready.loaded loaded) (ready.whole, ready.blocks))
 
   pub vtocs_more : (volume : Volume) (before after : List ℕ) (new : List (List ℕ)) → IsLoadedAt units change.0 volume → before ≡ get_or mid change.0 before
       → ArePatched volume.vtoc (slot_of volume.device) one.blocks before after → new ≡ slice_set mid change.0 after

@@ -2,10 +2,9 @@
 use Rattle.std.proofs.Common.{◌≡◌, ◌≢◌, ◌⊎◌, inl, inr, ℕ, ◌+◌, ◌-◌, ◌*◌, ◌<◌, ◌≤◌, List, [], ◌∷◌, ◌++◌, length, take, drop, replicate, map, All, Any, Contains, Bool, Option, Some, None, false, refl, sym, ap, subst, ◌∙◌, arith}
 use Rattle.std.specs.Prelude.{cond, slice_index_or}
 use Rattle.std.proofs.lemmas.Bool.{eq-eqb, ne_eqb}
-use Rattle.std.proofs.lemmas.List.{get_or-map, length-append, length-replicate, length-take, length-drop}
+use Rattle.std.proofs.lemmas.List.{get_or-map, length-append, length-replicate}
 use Rattle.std.proofs.lemmas.List.Elements.{All-contains, All-contains_itself, All-get_or, All-weaker, All-head, All-tail}
 use Rattle.ckd_image.specs.declared.device.Device.{Device}
-use Rattle.ckd_image.specs.declared.device.Device.TheVariants.{D3390, D3380}
 use Rattle.ckd_image.specs.declared.head.Head.{Head}
 use Rattle.ckd_image.specs.declared.track.Track.{Track}
 use Rattle.ckd_image.specs.declared.track.TrackAt.{TrackAt}
@@ -23,7 +22,7 @@ use Rattle.vtoc_load.specs.LoadedVtoc.{IsLoadedVtoc}
 use Rattle.vtoc_write.specs.declared.blocks.Block.{Block}
 use Rattle.vtoc_write.specs.Edited.{rec_after, text_after}
 use Rattle.vtoc_write.specs.Written.{slot_at, block_of, IsRewritten, IsBlockFor, AreAscending, AreRewritten}
-use Rattle.vtoc_write.proofs.Texts.{front_within, long_after, short_slot}
+use Rattle.vtoc_write.proofs.Texts.{front_within, long_after}
 use Rattle.vtoc_rewrite.proofs.Addresses.{one_text_anywhere}
 use Rattle.layout_edit.specs.Change.{edits_of}
 use Rattle.unit_change.specs.render_laws.Rendered.{WasLoaded}
@@ -36,7 +35,9 @@ use Rattle.unit_change.specs.vtoc_render.Loads.{OfEachVtoc}
 use Rattle.unit_change.proofs.FormatFour.{home_of, home_in}
 use Rattle.unit_change.proofs.LoadedTracks.{four, four_here}
 use Rattle.unit_load.specs.Kept.{IsFromSlots}
-use Rattle.unit_steps.proofs.Freeing.{few_tracks}
+use Rattle.ckd_image.proofs.Devices.{short_slot}
+use Rattle.unit_change.proofs.UnitLoads.{slot_long}
+use Rattle.unit_load.proofs.Keeping.{few_tracks}
 
 -- ---- lists of blocks
 
@@ -99,13 +100,6 @@ slot_anew edits heads track old new short is same =
     none_changes (rec_after edits track) is.text.recs (ap (λ (t : Track). t.recs) texts) is.changes
 
 -- ---- the slots of a VTOC
-
-slot_long : (device : Device) (first k len : ℕ) (slots : List ℕ) → k < len → length slots ≡ len * slot_of device
-    → length (take (slot_of device) (drop ((first + k - first) * slot_of device) slots)) ≡ slot_of device
-slot_long D3390 first k len slots less long =
-    omega (arith, length-take (slot_of D3390) (drop ((first + k - first) * slot_of D3390) slots), length-drop ((first + k - first) * slot_of D3390) slots, less, long)
-slot_long D3380 first k len slots less long =
-    omega (arith, length-take (slot_of D3380) (drop ((first + k - first) * slot_of D3380) slots), length-drop ((first + k - first) * slot_of D3380) slots, less, long)
 
 module _ {head : List ℕ} {blocks : ℕ} {volume : Volume} {slots : List ℕ} (from : IsFromSlots head blocks volume slots) where
   abbrev is : IsLoadedVtoc from.image from.label from.unit false volume

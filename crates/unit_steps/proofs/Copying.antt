@@ -32,7 +32,7 @@ use Rattle.unit_load.specs.State.{IsStateOf}
 use Rattle.move_core.proofs.Frames.{format4_moves}
 use Rattle.unit_steps.specs.Copied.{IsFreeAt, DifferOnFree}
 use Rattle.unit_steps.specs.Laws.{CopiedUnitsLoad}
-use Rattle.unit_steps.proofs.Freeing.{few_tracks}
+use Rattle.unit_load.proofs.Keeping.{few_tracks}
 
 -- ---- a VTOC
 

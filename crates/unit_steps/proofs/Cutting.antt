@@ -2,12 +2,13 @@
 use Rattle.std.proofs.Common.{◌≡◌, inl, inr, ℕ, zero, suc, ◌+◌, ◌-◌, ◌<◌, ◌≤◌, List, [], ◌∷◌, ◌++◌, length, map, take, Bool, true, false, refl, sym, ap, ◌∙◌, arith}
 use Rattle.std.specs.Prelude.{◌==◌, nat_le, if◌then◌else◌}
 use Rattle.std.proofs.lemmas.Bool.{cases_eq, eqb-true, leb-true, leb-false}
-use Rattle.std.proofs.lemmas.List.{append-nil, length-append, length-map, take-append-le, take-map, take_all}
+use Rattle.std.proofs.lemmas.List.{append-nil, length-map, take-append-le, take-map, take_all}
 use Rattle.volume_model.specs.Dscbs.{numbers_below}
 use Rattle.volume_model.specs.Reads.{AreTexts}
 use Rattle.volume_model.specs.Sound.{Slots}
 use Rattle.volume_model.specs.Unit.{Text, Extent, tracks_in, tracks_of}
 use Rattle.move_core.specs.Steps.{cut}
+use Rattle.volume_model.proofs.Numbers.{numbers_long}
 
 -- ---- lists
 
@@ -21,10 +22,6 @@ take_past (x ∷ xs) ys zero few = absurd (omega (arith, few))
 take_past {X} (x ∷ xs) ys (suc n) few =
     let same : n - length xs ≡ suc n - length (x ∷ xs) = omega arith in
     ap (λ (zs : List X). x ∷ zs) (take_past xs ys n (omega (arith, few)) ∙ ap (λ (k : ℕ). xs ++ take k ys) same)
-
-numbers_long : (n : ℕ) → length (numbers_below n) ≡ n
-numbers_long zero = refl
-numbers_long (suc n) = omega (arith, length-append (numbers_below n) (n ∷ []), numbers_long n)
 
 numbers_taken : (keep len : ℕ) → keep ≤ len → take keep (numbers_below len) ≡ numbers_below keep
 numbers_taken keep zero few = (let none : keep ≡ 0 = omega (arith, few) in take_none keep ∙ ap numbers_below (sym none))

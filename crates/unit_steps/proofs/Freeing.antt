@@ -2,7 +2,6 @@
 use Rattle.std.proofs.Common.{◌≡◌, inl, inr, ℕ, ◌<◌, ◌≤◌, List, false, sym, ap, subst, ◌∙◌, arith}
 use Rattle.std.specs.Prelude.{slice_index, codes}
 use Rattle.std.proofs.lemmas.Bool.{cases_Bool}
-use Rattle.ckd_image.specs.declared.head.Head.{Head}
 use Rattle.ckd_image.specs.Bytes.{Begins}
 use Rattle.dasd_pool.specs.Disk.{State}
 use Rattle.free_map.specs.Free.{IsFree}
@@ -10,7 +9,7 @@ use Rattle.free_map.specs.Runs.{InRuns}
 use Rattle.redo_core.specs.declared.control.Control.{Control}
 use Rattle.redo_core.specs.Format.{head_text}
 use Rattle.redo_core.specs.Reading.{journal_of}
-use Rattle.volume_model.specs.Reads.{HasImage, IsVital, IsVitalTrack}
+use Rattle.volume_model.specs.Reads.{IsVital, IsVitalTrack}
 use Rattle.volume_model.specs.Unit.{OnlineVolume, UnitModel, IsFreeTrack, runs_of_sets}
 use Rattle.vtoc_core.specs.declared.volume.Volume.{Volume}
 use Rattle.unit_change.specs.Described.{own_place, Describes}
@@ -24,10 +23,7 @@ use Rattle.unit_steps.specs.Copied.{IsFreeAt}
 use Rattle.unit_steps.specs.Laws.{FreeTracksMayBeWritten}
 use Rattle.unit_steps.specs.Loaded.{AreLoaded}
 use Rattle.unit_steps.proofs.Idle.{control_idle, unit_stands}
-
--- the tracks of an image are those of the largest volume
-pub few_tracks : (head : List ℕ) (blocks : ℕ) (image : Head) → HasImage head blocks image → image.tracks ≤ 65535
-few_tracks head blocks image is = omega (arith, is.tracks_are, is.stands.cylinders.1)
+use Rattle.unit_load.proofs.Keeping.{few_tracks}
 
 not_vital : (loaded : Volume) (volume : OnlineVolume) (track : ℕ) → Describes loaded volume → IsFree loaded.free track → ¬ IsVitalTrack own_place volume track
 not_vital loaded volume track describes free vital = by ((describes.free_are.exact track).1 free) vital

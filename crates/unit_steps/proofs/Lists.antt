@@ -1,10 +1,8 @@
 -- Lists by their places, and lists of which no element stands twice.
-use Rattle.std.proofs.Common.{◌≡◌, ◌≢◌, ◌⊎◌, inl, inr, ℕ, zero, suc, List, [], ◌∷◌, map, Contains, Some, refl, sym, ap, subst, ◌∙◌}
+use Rattle.std.proofs.Common.{◌≡◌, ◌≢◌, ◌⊎◌, inl, inr, ℕ, zero, suc, List, [], ◌∷◌, Some, refl, sym, ap, subst, ◌∙◌}
 use Rattle.std.specs.Prelude.{slice_get, slice_set}
 use Rattle.std.proofs.lemmas.Bool.{cases_eq}
 use Rattle.std.proofs.lemmas.Option.{none-some, same_Some}
-use Rattle.vtoc_layout.specs.Layout.{AreDistinct}
-use Rattle.vtoc_layout.proofs.Distinct.{first_or_later, in_none, in_map}
 
 module _ {X : Type 0} where
   get_set : (xs : List X) (i : ℕ) (x y : X) → slice_get xs i ≡ Some y → slice_get (slice_set xs i x) i ≡ Some x
@@ -37,14 +35,3 @@ both_set {X} {Y} xs ys i x x' y y' P at at' here others u z w there there' =
     each_set xs i x x' (λ u z. (w : Y) → slice_get (slice_set ys i y) u ≡ Some w → P u z w) at
     (λ w got. subst (P i x) (same_Some y w (sym (get_set ys i y y' at') ∙ got)) here)
     (λ u z apart got w got'. others u z w apart got (sym (get_set_other ys i u y apart) ∙ got')) u z there w there'
-
--- elements that differ by what a function says of them are one where it says the same
-pub one_by : {X Y : Type 0} (f : X → Y) (xs : List X) (x y : X) → AreDistinct (map f xs) → Contains xs x → Contains xs y → f x ≡ f y → x ≡ y
-one_by f [] x y distinct here there same = absurd (in_none x here)
-one_by {X} {Y} f (z ∷ xs) x y distinct here there same = by (one_by f xs x y distinct.1) (first_or_later z x xs here) (first_or_later z y xs there)
-  where
-    by : (Contains xs x → Contains xs y → f x ≡ f y → x ≡ y) → ((z ≡ x) ⊎ Contains xs x) → ((z ≡ y) ⊎ Contains xs y) → x ≡ y
-    by later (inl a) (inl b) = sym a ∙ b
-    by later (inl a) (inr b) = absurd (distinct.0 (subst (λ (v : Y). Contains (map f xs) v) (sym (ap f a ∙ same)) (in_map f xs y b)))
-    by later (inr a) (inl b) = absurd (distinct.0 (subst (λ (v : Y). Contains (map f xs) v) (sym (ap f b ∙ sym same)) (in_map f xs x a)))
-    by later (inr a) (inr b) = later a b same

@@ -39,7 +39,7 @@ use Rattle.unit_steps.proofs.Units.{IsSetOf, IsTaken}
 
 -- ---- what a change puts, beside others or in a place
 
-put_by : (replaced : Bool) (name : Dsn) (row : Row) → IsPutBy (putting replaced name row) row
+pub put_by : (replaced : Bool) (name : Dsn) (row : Row) → IsPutBy (putting replaced name row) row
 put_by true name row = refl
 put_by false name row = refl
 
@@ -52,7 +52,7 @@ put_texts : (heads : ℕ) (slots : Slots) (replaced : Bool) (name : Dsn) (row : 
 put_texts heads slots true name row texts are = are
 put_texts heads slots false name row texts are = are
 
-may_put : (volume : Volume) (replaced : Bool) (name : Dsn) (row : Row) → MayChange volume (putting replaced name row) → (gone : List Row) × MayPut volume gone row
+pub may_put : (volume : Volume) (replaced : Bool) (name : Dsn) (row : Row) → MayChange volume (putting replaced name row) → (gone : List Row) × MayPut volume gone row
 may_put volume true name row may = (may.1.0 ∷ [], may.1.3)
 may_put volume false name row may = ([], may.0)
 

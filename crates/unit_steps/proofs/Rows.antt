@@ -19,7 +19,7 @@ use Rattle.vtoc_core.specs.declared.volume.Row.{Row}
 use Rattle.vtoc_core.specs.declared.volume.Volume.{Volume}
 use Rattle.vtoc_core.specs.Loaded.{row_in, field_of, HasItsName}
 use Rattle.vtoc_layout.specs.Layout.{AreApart, AreDistinct}
-use Rattle.vtoc_layout.proofs.Distinct.{first_or_later, at_first, in_later, in_none, in_middle}
+use Rattle.vtoc_layout.proofs.Distinct.{first_or_later, at_first, in_later, in_none, in_middle, one_of_map}
 use Rattle.volume_change.specs.Runs.{runs_in}
 use Rattle.unit_change.specs.vtoc_render.Next.{MayPut, runs_of_rows}
 use Rattle.unit_change.proofs.vtoc_render.PlacedTracks.{none_shared}
@@ -28,7 +28,6 @@ use Rattle.unit_change.specs.Described.{own_place, DescribesSets}
 use Rattle.unit_change.proofs.Describing.{in_one_step, runs_in_row}
 use Rattle.unit_change.proofs.OneOrder.{name_in}
 use Rattle.move_core.specs.Steps.{extents_on}
-use Rattle.unit_steps.proofs.Lists.{one_by}
 use Rattle.unit_steps.proofs.Units.{IsOnlineUnit, IsSetOf}
 
 -- ---- one by one
@@ -80,11 +79,11 @@ module _ {head : List ℕ} {blocks : ℕ} {slots : Slots} {volume : Volume} {mod
   -- of one name there is one data set, and one row
   one_set : (a b : DataSet) → Contains is.before.sets a → Contains is.before.sets b → a.name ≡ b.name → a ≡ b
   one_set a b here there same =
-      one_by (λ (set : DataSet). set.name) is.before.sets a b (subst AreDistinct (same_names (heads_of volume.device) slots volume.rows is.before.sets is.sets_are) is.distinct) here there same
+      one_of_map (λ (set : DataSet). set.name) is.before.sets a b (subst AreDistinct (same_names (heads_of volume.device) slots volume.rows is.before.sets is.sets_are) is.distinct) here there same
 
   pub one_row : (a b : Row) → Contains volume.rows a → Contains volume.rows b → a.name ≡ b.name → a ≡ b
   one_row a b here there same =
-      one_by (λ (row : Row). name_in (row_in row)) volume.rows a b (subst AreDistinct (row_names volume.rows) is.distinct) here there
+      one_of_map (λ (row : Row). name_in (row_in row)) volume.rows a b (subst AreDistinct (row_names volume.rows) is.distinct) here there
       (sym (has_name a here) ∙ same ∙ has_name b there)
 
   -- the one that goes has the name of its row

@@ -33,7 +33,7 @@ remove_no_mark name same = cc
 pub repair_no_mark : Repair ≢ Mark
 repair_no_mark same = cc
 
-putting_no_mark : (replaced : Bool) (name : Dsn) (row : Row) → putting replaced name row ≢ Mark
+pub putting_no_mark : (replaced : Bool) (name : Dsn) (row : Row) → putting replaced name row ≢ Mark
 putting_no_mark true name row = swap_no_mark name row
 putting_no_mark false name row = put_no_mark row
 

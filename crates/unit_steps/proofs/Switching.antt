@@ -18,7 +18,6 @@ use Rattle.vtoc_core.specs.declared.volume.Volume.{Volume}
 use Rattle.vtoc_load.specs.LoadedVtoc.{IsLoadedVtoc}
 use Rattle.vtoc_write.specs.declared.blocks.Block.{Block}
 use Rattle.vtoc_write.specs.Written.{block_of, slot_with}
-use Rattle.vtoc_write.proofs.Texts.{short_slot}
 use Rattle.volume_change.specs.declared.change.Change.{Change}
 use Rattle.volume_change.specs.declared.change.Change.TheVariants.{Mark}
 use Rattle.unit_change.specs.vtoc_render.declared.change.Rendered.{Rendered}
@@ -39,6 +38,7 @@ use Rattle.unit_steps.proofs.Lists.{get_set_other, each_set, both_set}
 use Rattle.unit_steps.proofs.Blocks.{AreBlocksOf, few, home_short, from_slots, rendered_blocks}
 use Rattle.unit_steps.proofs.Placing.{slots_with, after_blocks, placed_here, placed_there, placed_both}
 use Rattle.unit_steps.proofs.Readying.{pairs_first, pairs_rest}
+use Rattle.ckd_image.proofs.Devices.{short_slot}
 
 -- ---- one unit
 

@@ -39,10 +39,10 @@ use Rattle.move_core.specs.Steps.{Replaces}
 use Rattle.move_core.proofs.Replacing.{split_at}
 use Rattle.unit_steps.specs.Rendering.{WasRendered, entry_for}
 use Rattle.unit_steps.proofs.Lists.{get_set_other, each_set}
-use Rattle.unit_steps.proofs.Freeing.{few_tracks}
 use Rattle.unit_steps.proofs.Blocks.{AreBlocksOf}
 use Rattle.unit_steps.proofs.Placing.{slots_with, after_blocks, placed_here, placed_there}
 use Rattle.unit_steps.proofs.Switching.{blocks_are, short_after}
+use Rattle.unit_load.proofs.Keeping.{few_tracks}
 
 -- ---- the units of a pool on which nothing is under way
 

@@ -8,16 +8,16 @@ use Rattle.std.proofs.lemmas.Bool.{cases_lt}
 use Rattle.vol_label.specs.CodePage.{ascii_of}
 use Rattle.vol_label.specs.Serial.{IsSerialCharacter, IsSerialByte, IsSerial}
 
-letter_low : (c : ℕ) → 65 ≤ c → c ≤ 73 → ascii_of (0xC1 + (c - 65)) ≡ Some c
+pub letter_low : (c : ℕ) → 65 ≤ c → c ≤ 73 → ascii_of (0xC1 + (c - 65)) ≡ Some c
 letter_low c p q = grind (arith, nat_tests)
 
-letter_middle : (c : ℕ) → 74 ≤ c → c ≤ 82 → ascii_of (0xD1 + (c - 74)) ≡ Some c
+pub letter_middle : (c : ℕ) → 74 ≤ c → c ≤ 82 → ascii_of (0xD1 + (c - 74)) ≡ Some c
 letter_middle c p q = grind (arith, nat_tests)
 
-letter_high : (c : ℕ) → 83 ≤ c → c ≤ 90 → ascii_of (0xE2 + (c - 83)) ≡ Some c
+pub letter_high : (c : ℕ) → 83 ≤ c → c ≤ 90 → ascii_of (0xE2 + (c - 83)) ≡ Some c
 letter_high c p q = grind (arith, nat_tests)
 
-digit : (c : ℕ) → 48 ≤ c → c ≤ 57 → ascii_of (0xF0 + (c - 48)) ≡ Some c
+pub digit : (c : ℕ) → 48 ≤ c → c ≤ 57 → ascii_of (0xF0 + (c - 48)) ≡ Some c
 digit c p q = grind (arith, nat_tests)
 
 -- a character of a serial is in the code page

@@ -1,4 +1,4 @@
 pub mod Characters
 pub mod LabelText
-pub mod PutSerial
+mod PutSerial
 pub mod OneLabel

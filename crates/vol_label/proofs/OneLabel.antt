@@ -65,7 +65,7 @@ at_15 : (b c : ℕ) → ascii_of b ≡ Some c → 91 ≤ c → ⊥
 at_15 b c e p = grind (arith, nat_tests)
 
 -- two bytes of one character are one
-one_code : (a b c : ℕ) → ascii_of a ≡ Some c → ascii_of b ≡ Some c → a ≡ b
+pub one_code : (a b c : ℕ) → ascii_of a ≡ Some c → ascii_of b ≡ Some c → a ≡ b
 one_code a b c p q =
     elim (cases_lt c 32) [
       | inl l0 ↦ absurd (at_0 a c p l0)

@@ -1,8 +1,8 @@
 -- A label with another serial.
-use Rattle.std.proofs.Common.{◌≡◌, ℕ, ◌<◌, ◌≤◌, ◌+◌, ◌==◌, true, List, [], ◌∷◌, ◌++◌, length, map, take, drop, slice_index_or, Some, None, Bool, if◌then◌else◌, find, subst, refl, sym, ap, ◌∙◌, arith}
+use Rattle.std.proofs.Common.{◌≡◌, ℕ, ◌<◌, ◌≤◌, ◌+◌, ◌==◌, true, List, [], ◌∷◌, ◌++◌, length, map, drop, slice_index_or, Some, None, Bool, if◌then◌else◌, find, subst, refl, sym, ap, ◌∙◌, arith}
 use Rattle.std.specs.List.{position, position_or_len, slice_get}
 use Rattle.std.proofs.lemmas.Bool.{lt-ltb}
-use Rattle.std.proofs.lemmas.List.{get_or-map, length-append, length-take-le, length-drop}
+use Rattle.std.proofs.lemmas.List.{get_or-map}
 use Rattle.std.proofs.Math.Seq.{drop-append_seam}
 use Rattle.std.proofs.lemmas.List.Folds.{find_at, find-set}
 use Rattle.std.proofs.lemmas.List.Sums.{passes_at_first}
@@ -15,6 +15,7 @@ use Rattle.ckd_image.specs.Body.{over, IsBodyPut}
 use Rattle.vol_label.specs.declared.label.Label.{Label}
 use Rattle.vol_label.specs.declared.serial.Serial.{Serial}
 use Rattle.vol_label.specs.Label.{label_key, IsLabel, IsSerialPut, HasLabel, KeepsLabel}
+use Rattle.ckd_image.proofs.Overs.{over_length}
 
 -- where the label stands
 abbrev pub place_in : List Rec → ℕ
@@ -44,18 +45,6 @@ other_body serial body six rest spelled long longer =
     ap (over 4 serial.text) spelled
     ∙ ap (λ (n : ℕ). label_key ++ (serial.text ++ drop (4 + n) (label_key ++ (six ++ rest)))) longer
     ∙ ap (λ (tail : List ℕ). label_key ++ (serial.text ++ tail)) (behind_six six rest long)
-
-over_length : (start : ℕ) (piece bytes : List ℕ) → start + length piece ≤ length bytes → length (over start piece bytes) ≡ length bytes
-over_length start piece bytes within =
-    let behind = start + length piece in
-    omega (
-      arith,
-      within,
-      length-append (take start bytes) (piece ++ drop behind bytes),
-      length-append piece (drop behind bytes),
-      length-take-le start bytes (omega (arith, within)),
-      length-drop behind bytes,
-    )
 
 same_rec : (a b : Rec) → Some a ≡ Some b → a ≡ b
 same_rec a b e = cc

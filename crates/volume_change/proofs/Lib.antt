@@ -1,3 +1,3 @@
 pub mod Names
 pub mod Spots
-pub mod Tracks
+mod Tracks

@@ -15,23 +15,13 @@ use Rattle.dsn_filter.specs.Qualifier.{IsLetter, IsInner, IsQualifier}
 use Rattle.dsn_filter.specs.Text.{capitals, dotted}
 use Rattle.vol_label.specs.CodePage.{ascii_of, is_between}
 use Rattle.volume_model.specs.Pinned.{IsNameOf}
+use Rattle.vol_label.proofs.OneLabel.{one_code}
+use Rattle.vol_label.proofs.Characters.{letter_low, letter_middle, letter_high, digit}
 
 -- ---- each character of a name has a code
 
 abbrev pub HasCode : ℕ → Type 0
 HasCode character = (code : ℕ) × (ascii_of code ≡ Some character)
-
-letter_low : (c : ℕ) → 65 ≤ c → c ≤ 73 → ascii_of (0xC1 + (c - 65)) ≡ Some c
-letter_low c p q = grind (arith, nat_tests)
-
-letter_middle : (c : ℕ) → 74 ≤ c → c ≤ 82 → ascii_of (0xD1 + (c - 74)) ≡ Some c
-letter_middle c p q = grind (arith, nat_tests)
-
-letter_high : (c : ℕ) → 83 ≤ c → c ≤ 90 → ascii_of (0xE2 + (c - 83)) ≡ Some c
-letter_high c p q = grind (arith, nat_tests)
-
-digit : (c : ℕ) → 48 ≤ c → c ≤ 57 → ascii_of (0xF0 + (c - 48)) ≡ Some c
-digit c p q = grind (arith, nat_tests)
 
 letter_code : (c : ℕ) → IsLetter c → HasCode c
 letter_code c (inl h) =
@@ -186,9 +176,6 @@ page_is a c e0 = elim (picked (is_between 0xC1 0xC9 a) (65 + (a - 0xC1)) c (rest
   where
     no_character : (c : ℕ) → nothing ≡ Some c → ⊥
     no_character c e = let q : nothing ≡ Some c = e in cc
-
-one_code : (a b c : ℕ) → ascii_of a ≡ Some c → ascii_of b ≡ Some c → a ≡ b
-one_code a b c e f = page_is a c e ∙ sym (page_is b c f)
 
 pub one_text : (name : Dsn) (a b : List ℕ) → IsNameOf name a → IsNameOf name b → a ≡ b
 one_text name a b h k =

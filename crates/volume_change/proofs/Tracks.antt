@@ -9,29 +9,11 @@ use Rattle.free_map.specs.Runs.{HasTrack, InRuns, AreMaximalRuns}
 use Rattle.volume_model.specs.Space.{run_of, end_of}
 use Rattle.vtoc_core.specs.Loaded.{field_of}
 use Rattle.volume_change.specs.Runs.{runs_in, IsFreeAfter}
+use Rattle.free_map.proofs.Gaps.{in_append, append_left, append_right}
 
 pub in_two_steps : (heads : ℕ) (extents : List Extent) → runs_in heads extents ≡ map (λ extent. run_of heads (field_of extent)) extents
 in_two_steps heads [] = refl
 in_two_steps heads (extent ∷ extents) = (λ i. run_of heads (field_of extent) ∷ in_two_steps heads extents i)
-
--- a track is in one of two lists of runs
-pub in_front : (a b : List Run) (track : ℕ) → InRuns a track → InRuns (a ++ b) track
-in_front [] b track h = absurd h
-in_front (run ∷ a) b track (inl h) = inl h
-in_front (run ∷ a) b track (inr h) = inr (in_front a b track h)
-
-pub in_back : (a b : List Run) (track : ℕ) → InRuns b track → InRuns (a ++ b) track
-in_back [] b track h = h
-in_back (run ∷ a) b track h = inr (in_back a b track h)
-
-pub in_either : (a b : List Run) (track : ℕ) → InRuns (a ++ b) track → InRuns a track ⊎ InRuns b track
-in_either [] b track h = inr h
-in_either (run ∷ a) b track (inl h) = inl (inl h)
-in_either (run ∷ a) b track (inr h) = by (in_either a b track h)
-  where
-    by : (InRuns a track ⊎ InRuns b track) → InRuns (run ∷ a) track ⊎ InRuns b track
-    by (inl i) = inl (inr i)
-    by (inr j) = inr j
 
 decided : (runs : List Run) (track : ℕ) → InRuns runs track ⊎ ¬ (InRuns runs track)
 decided [] track = inr (λ h. h)
@@ -67,8 +49,8 @@ free_exact free usable gone put empty used taken after within ends empty_is unus
 }
   where
     in_empty : (track : ℕ) → (IsFree free track ⊎ InRuns gone track) → InRuns empty track
-    in_empty track (inl i) = subst (λ (runs : List Run). InRuns runs track) (sym empty_is) (in_front free.runs gone track i)
-    in_empty track (inr i) = subst (λ (runs : List Run). InRuns runs track) (sym empty_is) (in_back free.runs gone track i)
+    in_empty track (inl i) = subst (λ (runs : List Run). InRuns runs track) (sym empty_is) (append_left free.runs gone track i)
+    in_empty track (inr i) = subst (λ (runs : List Run). InRuns runs track) (sym empty_is) (append_right free.runs gone track i)
 
     below : (track : ℕ) → (IsFree free track ⊎ InRuns gone track) → track < usable
     below track (inl i) = below_end usable free.runs within track i
@@ -79,15 +61,15 @@ free_exact free usable gone put empty used taken after within ends empty_is unus
     out track h (inr i) = h.1 i
 
     to : (track : ℕ) → IsFreeAfter free gone put track → InRuns after track
-    to track h = (left.exact track).0 (below track h.0, λ i. out track h (in_either used put track (subst (λ (runs : List Run). InRuns runs track) taken_is i)))
+    to track h = (left.exact track).0 (below track h.0, λ i. out track h (in_append used put track (subst (λ (runs : List Run). InRuns runs track) taken_is i)))
 
     back : (track : ℕ) → InRuns after track → IsFreeAfter free gone put track
     back track i =
         let h = (left.exact track).1 i in
         let in_taken : InRuns (used ++ put) track → InRuns taken track = λ j. subst (λ (runs : List Run). InRuns runs track) (sym taken_is) j in (
           elim (decided empty track) [
-            | inl there ↦ in_either free.runs gone track (subst (λ (runs : List Run). InRuns runs track) empty_is there)
-            | inr not ↦ absurd (h.1 (in_taken (in_front used put track ((unused.exact track).0 (h.0, not)))))
+            | inl there ↦ in_append free.runs gone track (subst (λ (runs : List Run). InRuns runs track) empty_is there)
+            | inr not ↦ absurd (h.1 (in_taken (append_left used put track ((unused.exact track).0 (h.0, not)))))
           ],
-          λ j. h.1 (in_taken (in_back used put track j)),
+          λ j. h.1 (in_taken (append_right used put track j)),
         )

@@ -3,4 +3,5 @@ pub mod DscbRecords
 pub mod Fields
 pub mod Formats
 pub mod Filters
-pub mod Samples
+mod Samples
+pub mod Numbers

@@ -8,13 +8,14 @@ use Rattle.volume_model.specs.declared.place.Placed.{Placed}
 use Rattle.volume_model.specs.Directory.{same_place}
 use Rattle.volume_model.proofs.Filters.{filter_skip, filter_keep}
 use Rattle.vtoc_layout.specs.Layout.{AreDistinct}
-use Rattle.vtoc_layout.proofs.Distinct.{first_or_later, at_first, in_none, in_later, in_front, in_back, distinct_front, distinct_back, not_both, distinct_append, no_more, in_filter, from_filter, filter_all, in_map, from_map, one_of_map}
+use Rattle.vtoc_layout.proofs.Distinct.{first_or_later, at_first, in_none, in_later, in_front, in_back, distinct_front, distinct_back, not_both, distinct_append, no_more, in_filter, from_filter, filter_all, from_map, one_of_map}
 use Rattle.vtoc_layout.proofs.FiveChains.{one_place, itself}
 use Rattle.vtoc_allot.specs.declared.held.Held.{Held}
 use Rattle.vtoc_allot.specs.declared.held.Wanted.{Wanted}
 use Rattle.vtoc_allot.specs.Allotted.{listed, one_if, is_at, held_places, held_count, wanted_count, given_back, new_ones, new_threes, new_fives, free_count, pool_of, without, TakesFirst, wants_first, IsHeld}
 use Rattle.vtoc_allot.proofs.Parts.{in_drop, distinct_drop}
 use Rattle.volume_model.specs.Dscbs.{is_free_record}
+use Rattle.ckd_image.proofs.Lists.{contains_map}
 
 abbrev place_of : Placed → Place
 place_of placed = placed.place
@@ -96,7 +97,7 @@ distinct_map_filter {X} {Y} f test (x ∷ xs) h = by (distinct_map_filter f test
     by : AreDistinct (map f (filter test xs)) → (b : Bool) → test x ≡ b → AreDistinct (map f (filter test (x ∷ xs)))
     by rest true e =
         subst (λ ys. AreDistinct (map f ys)) (sym (filter_keep test x xs e))
-        ((λ c. let from = from_map f (filter test xs) (f x) c in h.0 (subst (Contains (map f xs)) from.2 (in_map f xs from.0 (from_filter test xs from.0 from.1).0))), rest)
+        ((λ c. let from = from_map f (filter test xs) (f x) c in h.0 (subst (Contains (map f xs)) from.2 (contains_map f xs from.0 (from_filter test xs from.0 from.1).0))), rest)
     by rest false e = subst (λ ys. AreDistinct (map f ys)) (sym (filter_skip test x xs e)) rest
 
 pub filter_either : {X : Type 0} (p q : X → Bool) (xs : List X) → ((x : X) → Contains xs x → q x ≡ true → p x ≡ false)
@@ -143,7 +144,7 @@ given_counted records given apart distinct there = omega (arith, no_more given f
     given_found z h =
         let from = there z h in
         subst (Contains found) from.2
-        (in_map place_of (filter test records) from.0 (in_filter test records from.0 from.1 (ap (is_at given) from.2 ∙ at_there given z h)))
+        (contains_map place_of (filter test records) from.0 (in_filter test records from.0 from.1 (ap (is_at given) from.2 ∙ at_there given z h)))
 
 module _ (records : List Placed) (held : Held) (wanted : Wanted) (is : IsHeld records held) (apart : AreDistinct (map place_of records)) where
   abbrev pub given : List Place
@@ -180,7 +181,7 @@ module _ (records : List Placed) (held : Held) (wanted : Wanted) (is : IsHeld re
       held_there : (z : Place) → Contains (held_places held) z → Contains (map place_of records) z
       held_there z h =
           let used = All-contains (λ place. (placed : Placed) × Contains records placed × (placed.place ≡ place) × (is_free_record placed ≡ false)) (held_places held) z is.there h in
-          subst (Contains (map place_of records)) used.2 (in_map place_of records used.0 used.1)
+          subst (Contains (map place_of records)) used.2 (contains_map place_of records used.0 used.1)
 
   given_long : length given + one_if wanted.one + one_if wanted.three + wanted.fives
       ≡ length (cond wanted.one [] (listed held.one)) + one_if wanted.one + ((length held.threes - one_if wanted.three) + one_if wanted.three) + ((length held.fives - wanted.fives) + wanted.fives)

@@ -13,21 +13,14 @@ use Rattle.vtoc_check.specs.Reach.{is_marked}
 use Rattle.vtoc_check.specs.Tracks.{HasTracks, AreTracksOf, AreMarkedUpTo}
 use Rattle.vtoc_check.proofs.Steps.{later_push}
 use Rattle.vtoc_check.proofs.Marks.{any_passes, passes_any}
-
-or_false : (b : Bool) → (b || false) ≡ b
-or_false true = refl
-or_false false = refl
-
-or_true : (b : Bool) → (b || true) ≡ true
-or_true true = refl
-or_true false = refl
+use Rattle.std.proofs.Math.Bool.{or-false, or-true}
 
 -- ---- one run
 
 pub no_marks_yet : (first : ℕ) (before : List Bool) → AreMarkedUpTo first first before false before
 no_marks_yet first before = record {
   long = refl;
-  marked = λ track. sym (ap (λ (b : Bool). is_marked before track || b) (none_between track (cases_lt track first)) ∙ or_false (is_marked before track));
+  marked = λ track. sym (ap (λ (b : Bool). is_marked before track || b) (none_between track (cases_lt track first)) ∙ or-false (is_marked before track));
   some = λ e. absurd (let q : false ≡ true = e in cc);
   none = λ e track low high. absurd (omega (arith, low, high));
 }
@@ -46,13 +39,13 @@ one_more_mark first end before after hit was low inside is h = record {
 }
   where
     at_end : is_marked after end ≡ is_marked before end
-    at_end = h.marked end ∙ ap (λ (b : Bool). is_marked before end || b) (and_right (nat_le first end) (nat_lt end end) (le-ltb end end (omega arith))) ∙ or_false (is_marked before end)
+    at_end = h.marked end ∙ ap (λ (b : Bool). is_marked before end || b) (and_right (nat_le first end) (nat_lt end end) (le-ltb end end (omega arith))) ∙ or-false (is_marked before end)
 
     marks : (track : ℕ) → ((track ≡ end) ⊎ (track ≡ end → ⊥)) → is_marked (set after end true) track ≡ (is_marked before track || (nat_le first track && nat_lt track (end + 1)))
     marks track (inl same) =
         ap (λ (t : ℕ). is_marked (set after end true) t) same ∙ get_or-set_same after end true false (omega (arith, inside, h.long))
         ∙ sym (ap (λ (b : Bool). is_marked before track || b) (and_from (nat_le first track) (nat_lt track (end + 1)) (le-leb first track (omega (arith, low, same))) (lt-ltb track (end + 1) (omega (arith, same))))
-        ∙ or_true (is_marked before track))
+        ∙ or-true (is_marked before track))
     marks track (inr other) =
         get_or-set_other after end track true false other ∙ h.marked track
         ∙ ap (λ (b : Bool). is_marked before track || (nat_le first track && b)) (one_later (cases_lt track end))

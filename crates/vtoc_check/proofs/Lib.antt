@@ -7,20 +7,20 @@ pub mod Marks
 pub mod Bits
 pub mod FirstFound
 pub mod Overlapping
-pub mod Stated
-pub mod Numbers
-pub mod ReadTracks
-pub mod Walked
-pub mod Gathered
-pub mod Fronts
+mod Stated
+mod Numbers
+mod ReadTracks
+mod Walked
+mod Gathered
+mod Fronts
 pub mod FrontRules
 pub mod Readings
-pub mod Spaces
-pub mod Ends
+mod Spaces
+mod Ends
 pub mod Joined
 pub mod VtocRead
 pub mod ByPlace
-pub mod Chains
-pub mod Walks
+mod Chains
+mod Walks
 pub mod Marking
 pub mod ReadUpTo

@@ -22,6 +22,7 @@ use Rattle.vtoc_check.specs.Slots.{slot_in, AreSlotsOf}
 use Rattle.vtoc_check.specs.Tracks.{HasTracks}
 use Rattle.vtoc_check.proofs.FrontRules.{one_format_4, same_format_4, same_breach}
 use Rattle.vtoc_check.proofs.Overlapping.{run_facts}
+use Rattle.ckd_image.proofs.Devices.{short_slot}
 
 -- ---- sizes
 
@@ -33,12 +34,8 @@ pub some_heads : (device : Device) → 1 ≤ heads_of device
 some_heads devices.D3390 = omega arith
 some_heads devices.D3380 = omega arith
 
-short_slots : (device : Device) → slot_of device ≤ 65536
-short_slots devices.D3390 = omega arith
-short_slots devices.D3380 = omega arith
-
 pub slot_short : (device : Device) (run : Run) (bytes : List ℕ) (track : ℕ) → length (slot_in run (slot_of device) bytes track) ≤ 65536
-slot_short device run bytes track = omega (arith, length-take (slot_of device) (drop ((track - run.first) * slot_of device) bytes), short_slots device)
+slot_short device run bytes track = omega (arith, length-take (slot_of device) (drop ((track - run.first) * slot_of device) bytes), short_slot device)
 
 run_by_limit : (heads limit tracks : ℕ) (run made : Run) → run ≡ made → end_of made ≤ limit → limit ≤ tracks → end_of run ≤ tracks
 run_by_limit heads limit tracks run made e le most = let same : end_of run ≡ end_of made = ap end_of e in omega (arith, same, le, most)

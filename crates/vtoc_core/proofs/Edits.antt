@@ -6,7 +6,9 @@ use Rattle.dscb_rec.specs.declared.field.Entry5.{Entry5}
 use Rattle.dscb_rec.specs.Field.{entry_text, entry_offset}
 use Rattle.ckd_image.specs.Body.{over}
 use Rattle.vtoc_core.specs.Edit.{no_entry, IsBesideEntries, AreEntriesPut}
-use Rattle.vtoc_core.proofs.Overs.{get_before, get_within, get_behind, long_over}
+use Rattle.vtoc_core.proofs.Overs.{get_before, get_within, get_behind}
+use Rattle.std.proofs.lemmas.Bool.{cases_lt}
+use Rattle.ckd_image.proofs.Overs.{over_length}
 
 -- the entries below a place are written
 pub record AreSoFar (count : ℕ) (entries : List Entry5) (old new : List ℕ) : Type 0 where
@@ -30,15 +32,8 @@ high place more = ap (λ (b : Bool). cond b (4 + 5 * place) (45 + 5 * (place - 8
     is : (n : ℕ) → 8 ≤ n → nat_lt n 8 ≡ false
     is n p = grind (arith, nat_tests)
 
-less_or_not : (m n : ℕ) → (m < n) ⊎ (n ≤ m)
-less_or_not m n = by (nat_lt m n) refl
-  where
-    by : (b : Bool) → nat_lt m n ≡ b → (m < n) ⊎ (n ≤ m)
-    by true e = inl (grind (arith, nat_tests))
-    by false e = inr (grind (arith, nat_tests))
-
 pub offset_within : (place : ℕ) → place < 26 → entry_offset place + 5 ≤ 135
-offset_within place less = by (less_or_not place 8)
+offset_within place less = by (cases_lt place 8)
   where
     by : ((place < 8) ⊎ (8 ≤ place)) → entry_offset place + 5 ≤ 135
     by (inl p) = omega (arith, low place p, p)
@@ -46,7 +41,7 @@ offset_within place less = by (less_or_not place 8)
 
 -- an entry before another ends before it
 before_other : (a b : ℕ) → a < b → b < 26 → entry_offset a + 5 ≤ entry_offset b
-before_other a b less within = by (less_or_not a 8) (less_or_not b 8)
+before_other a b less within = by (cases_lt a 8) (cases_lt b 8)
   where
     by : ((a < 8) ⊎ (8 ≤ a)) → ((b < 8) ⊎ (8 ≤ b)) → entry_offset a + 5 ≤ entry_offset b
     by (inl p) (inl q) = omega (arith, low a p, low b q, less)
@@ -56,12 +51,12 @@ before_other a b less within = by (less_or_not a 8) (less_or_not b 8)
 
 -- bytes beside all entries are before an entry or behind it
 beside : (place k : ℕ) → place < 26 → IsBesideEntries k → (k < entry_offset place) ⊎ (entry_offset place + 5 ≤ k)
-beside place k within (inl p) = by (less_or_not place 8)
+beside place k within (inl p) = by (cases_lt place 8)
   where
     by : ((place < 8) ⊎ (8 ≤ place)) → (k < entry_offset place) ⊎ (entry_offset place + 5 ≤ k)
     by (inl q) = inl (omega (arith, low place q, p))
     by (inr q) = inl (omega (arith, high place q, p))
-beside place k within (inr (inl p)) = by (less_or_not place 8)
+beside place k within (inr (inl p)) = by (cases_lt place 8)
   where
     by : ((place < 8) ⊎ (8 ≤ place)) → (k < entry_offset place) ⊎ (entry_offset place + 5 ≤ k)
     by (inl q) = inr (omega (arith, low place q, p, q))
@@ -72,8 +67,8 @@ beside place k within (inr (inr p)) = inr (omega (arith, offset_within place wit
 pub one_more : (count : ℕ) (entries : List Entry5) (old mid new : List ℕ) (entry : Entry5) → count < 26 → length old ≡ 140 → entry ≡ get_or entries count no_entry
     → new ≡ over (entry_offset count) (entry_text entry) mid → AreSoFar count entries old mid → AreSoFar (count + 1) entries old new
 one_more count entries old mid new entry within long is made h = record {
-  long = ap length made ∙ long_over (entry_offset count) (entry_text entry) mid fits ∙ h.long;
-  each = λ place byte less in_entry. read place byte in_entry (less_or_not place count) less;
+  long = ap length made ∙ over_length (entry_offset count) (entry_text entry) mid fits ∙ h.long;
+  each = λ place byte less in_entry. read place byte in_entry (cases_lt place count) less;
   kept = λ k out. ap (λ (bytes : List ℕ). get_or bytes k 0) made ∙ still k (beside count k within out) ∙ h.kept k out;
 }
   where

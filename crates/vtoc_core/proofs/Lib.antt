@@ -2,11 +2,11 @@ pub mod Placed
 pub mod Extents
 pub mod NameOrder
 pub mod Spaces
-pub mod Pairs
+mod Pairs
 pub mod Overs
 pub mod Edits
 pub mod Fields
 pub mod Written
 pub mod Stated
-pub mod Reordered
+mod Reordered
 pub mod Spelled

@@ -1,5 +1,5 @@
 -- Bytes of which a piece is others.
-use Rattle.std.proofs.Common.{◌≡◌, ℕ, ◌+◌, ◌-◌, ◌<◌, ◌≤◌, List, ◌++◌, length, take, drop, get_or, sym, ap, ◌∙◌, arith, length-append, length-drop}
+use Rattle.std.proofs.Common.{◌≡◌, ℕ, ◌+◌, ◌-◌, ◌<◌, ◌≤◌, List, ◌++◌, length, take, drop, get_or, sym, ap, ◌∙◌, arith}
 use Rattle.std.proofs.lemmas.List.{length-take-le, drop-drop, get_or-take, get_or-drop}
 use Rattle.std.proofs.Math.ListN.{get_or-append}
 use Rattle.std.proofs.Math.Seq.{take-append-add, drop-append-add, get_or-append_right}
@@ -47,14 +47,3 @@ get_behind start piece bytes k within less =
     ∙ get_or-append_right piece (drop (start + length piece) bytes) (k - length (take start bytes)) 0 (omega (arith, front, less))
     ∙ get_or-drop (start + length piece) bytes (k - length (take start bytes) - length piece) 0
     ∙ ap (λ (n : ℕ). get_or bytes n 0) (omega (arith, front, less))
-
-pub long_over : (start : ℕ) (piece bytes : List ℕ) → start + length piece ≤ length bytes → length (over start piece bytes) ≡ length bytes
-long_over start piece bytes within =
-    omega (
-      arith,
-      front_long start piece bytes within,
-      length-append (take start bytes) (piece ++ drop (start + length piece) bytes),
-      length-append piece (drop (start + length piece) bytes),
-      length-drop (start + length piece) bytes,
-      within,
-    )

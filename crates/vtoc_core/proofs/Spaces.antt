@@ -1,5 +1,5 @@
 -- The tracks that a volume uses, and the runs of its free ones.
-use Rattle.std.proofs.Common.{◌≡◌, ◌⊎◌, ℕ, zero, suc, ◌<◌, ◌≤◌, max, List, [], ◌∷◌, ◌++◌, length, get_or, Bool, true, false, not, ◌&&◌, ◌||◌, ◌==◌, All, inl, inr, refl, ap, arith}
+use Rattle.std.proofs.Common.{◌≡◌, ◌⊎◌, ℕ, zero, suc, ◌<◌, ◌≤◌, max, List, [], ◌∷◌, ◌++◌, length, get_or, Bool, true, false, not, ◌&&◌, ◌||◌, ◌==◌, All, inl, inr, refl, arith}
 use Rattle.std.specs.Prelude.{IsTrue, nat_lt, nat_le}
 use Rattle.std.specs.List.{list_any, list_all, fold, AllByRecursion}
 use Rattle.std.proofs.lemmas.Bool.Decides.{nat_tests}
@@ -8,6 +8,9 @@ use Rattle.free_map.specs.declared.run.Run.{Run}
 use Rattle.free_map.specs.Runs.{HasTrack, InRuns, AreMaximalRuns}
 use Rattle.volume_model.specs.Space.{end_of, has_track, greatest_end, is_used, is_free}
 use Rattle.volume_model.specs.Check.{track_0, any_overlap, overlap_within}
+use Rattle.std.proofs.lemmas.Bool.{or_right, or_left, or_cases}
+use Rattle.ckd_image.proofs.Bools.{and_first, and_second}
+use Rattle.volume_model.proofs.Numbers.{grows}
 
 -- ---- a track in runs, as a test and as a fact
 
@@ -17,7 +20,7 @@ holds_true track run h = both track run.first (end_of run) h.0 h.1
     both : (t a b : ℕ) → a ≤ t → t < b → (nat_le a t && nat_lt t b) ≡ true
     both t a b p q = grind (arith, nat_tests)
 
-true_holds : (track : ℕ) (run : Run) → has_track track run ≡ true → HasTrack run track
+pub true_holds : (track : ℕ) (run : Run) → has_track track run ≡ true → HasTrack run track
 true_holds track run e = (first track run.first (end_of run) e, behind track run.first (end_of run) e)
   where
     first : (t a b : ℕ) → (nat_le a t && nat_lt t b) ≡ true → a ≤ t
@@ -26,28 +29,17 @@ true_holds track run e = (first track run.first (end_of run) e, behind track run
     behind : (t a b : ℕ) → (nat_le a t && nat_lt t b) ≡ true → t < b
     behind t a b e = grind (arith, nat_tests)
 
-or_true_left : (a b : Bool) → a ≡ true → (a || b) ≡ true
-or_true_left a b e = ap (λ (x : Bool). x || b) e
-
-or_true_right : (a b : Bool) → b ≡ true → (a || b) ≡ true
-or_true_right true b e = refl
-or_true_right false b e = e
-
-or_split : (a b : Bool) → (a || b) ≡ true → (a ≡ true) ⊎ (b ≡ true)
-or_split true b e = inl refl
-or_split false b e = inr e
-
 pub in_runs_true : (track : ℕ) (runs : List Run) → InRuns runs track → list_any (has_track track) runs ≡ true
 in_runs_true track [] h = absurd h
-in_runs_true track (run ∷ runs) (inl h) = or_true_left (has_track track run) (list_any (has_track track) runs) (holds_true track run h)
-in_runs_true track (run ∷ runs) (inr h) = or_true_right (has_track track run) (list_any (has_track track) runs) (in_runs_true track runs h)
+in_runs_true track (run ∷ runs) (inl h) = or_left (has_track track run) (list_any (has_track track) runs) (holds_true track run h)
+in_runs_true track (run ∷ runs) (inr h) = or_right (has_track track run) (list_any (has_track track) runs) (in_runs_true track runs h)
 
 pub true_in_runs : (track : ℕ) (runs : List Run) → list_any (has_track track) runs ≡ true → InRuns runs track
 true_in_runs track [] e = absurd (no e)
   where
     no : false ≡ true → ⊥
     no e = cc
-true_in_runs track (run ∷ runs) e = by (λ rest. true_in_runs track runs rest) (or_split (has_track track run) (list_any (has_track track) runs) e)
+true_in_runs track (run ∷ runs) e = by (λ rest. true_in_runs track runs rest) (or_cases (has_track track run) (list_any (has_track track) runs) e)
   where
     by : (list_any (has_track track) runs ≡ true → InRuns runs track) → ((has_track track run ≡ true) ⊎ (list_any (has_track track) runs ≡ true)) → InRuns (run ∷ runs) track
     by later (inl h) = inl (true_holds track run h)
@@ -66,39 +58,24 @@ zero_is : (t : ℕ) → (t == 0) ≡ true → t ≡ 0
 zero_is t e = grind (arith, nat_tests)
 
 pub used_in : (track : ℕ) (vtoc : Run) (extents : List Run) → is_used vtoc extents track ≡ true → InRuns (used_runs vtoc extents) track
-used_in track vtoc extents e = by (or_split ((track == 0) || has_track track vtoc) (list_any (has_track track) extents) e)
+used_in track vtoc extents e = by (or_cases ((track == 0) || has_track track vtoc) (list_any (has_track track) extents) e)
   where
     two : (((track == 0) ≡ true) ⊎ (has_track track vtoc ≡ true)) → InRuns (used_runs vtoc extents) track
     two (inl z) = let is : track ≡ 0 = zero_is track z in inl (omega (arith, is), omega (arith, is))
     two (inr h) = inr (inl (true_holds track vtoc h))
 
     by : ((((track == 0) || has_track track vtoc) ≡ true) ⊎ (list_any (has_track track) extents ≡ true)) → InRuns (used_runs vtoc extents) track
-    by (inl front) = two (or_split (track == 0) (has_track track vtoc) front)
+    by (inl front) = two (or_cases (track == 0) (has_track track vtoc) front)
     by (inr h) = inr (inr (true_in_runs track extents h))
 
 pub in_used : (track : ℕ) (vtoc : Run) (extents : List Run) → InRuns (used_runs vtoc extents) track → is_used vtoc extents track ≡ true
 in_used track vtoc extents (inl z) =
-    or_true_left ((track == 0) || has_track track vtoc) (list_any (has_track track) extents) (or_true_left (track == 0) (has_track track vtoc) (is_zero track z.1))
+    or_left ((track == 0) || has_track track vtoc) (list_any (has_track track) extents) (or_left (track == 0) (has_track track vtoc) (is_zero track z.1))
 in_used track vtoc extents (inr (inl h)) =
-    or_true_left ((track == 0) || has_track track vtoc) (list_any (has_track track) extents) (or_true_right (track == 0) (has_track track vtoc) (holds_true track vtoc h))
-in_used track vtoc extents (inr (inr h)) = or_true_right ((track == 0) || has_track track vtoc) (list_any (has_track track) extents) (in_runs_true track extents h)
-
-and_left : (a b : Bool) → (a && b) ≡ true → a ≡ true
-and_left true b e = refl
-and_left false b e = e
-
-and_right : (a b : Bool) → (a && b) ≡ true → b ≡ true
-and_right true b e = e
-and_right false b e = absurd (no e)
-  where
-    no : false ≡ true → ⊥
-    no e = cc
+    or_left ((track == 0) || has_track track vtoc) (list_any (has_track track) extents) (or_right (track == 0) (has_track track vtoc) (holds_true track vtoc h))
+in_used track vtoc extents (inr (inr h)) = or_right ((track == 0) || has_track track vtoc) (list_any (has_track track) extents) (in_runs_true track extents h)
 
 -- ---- the ends of runs
-
-grows : (a : ℕ) (runs : List Run) → a ≤ fold (λ end run. max end (end_of run)) a runs
-grows a [] = omega arith
-grows a (run ∷ runs) = omega (arith, grows (max a (end_of run)) runs)
 
 each_end : (a : ℕ) (runs : List Run) (k : ℕ) (d : Run) → k < length runs → end_of (get_or runs k d) ≤ fold (λ end run. max end (end_of run)) a runs
 each_end a [] k d lt = absurd (omega (arith, lt))
@@ -135,7 +112,7 @@ free_runs usable vtoc extents runs h = record {
     of_lt a b e = grind (arith, nat_tests)
 
     below : (track : ℕ) → IsTrue (is_free usable vtoc extents track) → track < usable
-    below track free = lt_of track usable (and_left (nat_lt track usable) (not (is_used vtoc extents track)) (is_true (is_free usable vtoc extents track) free))
+    below track free = lt_of track usable (and_first (nat_lt track usable) (not (is_used vtoc extents track)) (is_true (is_free usable vtoc extents track) free))
 
     not_true : (b : Bool) → not b ≡ true → b ≡ true → ⊥
     not_true true p q = let e : false ≡ true = p in cc
@@ -147,7 +124,7 @@ free_runs usable vtoc extents runs h = record {
 
     unused : (track : ℕ) → IsTrue (is_free usable vtoc extents track) → InRuns (used_runs vtoc extents) track → ⊥
     unused track free is_in =
-        not_true (is_used vtoc extents track) (and_right (nat_lt track usable) (not (is_used vtoc extents track)) (is_true (is_free usable vtoc extents track) free)) (in_used track vtoc extents is_in)
+        not_true (is_used vtoc extents track) (and_second (nat_lt track usable) (not (is_used vtoc extents track)) (is_true (is_free usable vtoc extents track) free)) (in_used track vtoc extents is_in)
 
     both : (a b : Bool) → a ≡ true → b ≡ true → IsTrue (a && b)
     both true true p q = refl

@@ -148,7 +148,7 @@ module _ (name text : List ℕ) (spelled : IsNameText text) (dsn : Dsn) (is : ds
           same_number_lists (take (length text) read) (capitals text) (front_is ∙ sym (length-map text to_ascii_uppercase))
           (λ k lt. let less : k < length text = omega (arith, lt, front_is) in get_or-take (length text) read k 0 less ∙ one k less)
 
-no_text : (text : List ℕ) (fault : NameFault) → IsNameFault text fault → ¬ IsNameText text
+pub no_text : (text : List ℕ) (fault : NameFault) → IsNameFault text fault → ¬ IsNameText text
 no_text text (BadName place) h = h.wrong
 no_text text (BadPattern place) h = absurd h
 no_text text NoMemory h = absurd h

@@ -1,7 +1,6 @@
 -- What a format 5 says after its entries were written.
-use Rattle.std.proofs.Common.{◌≡◌, ◌⊎◌, ℕ, zero, suc, ◌+◌, ◌*◌, ◌/◌, ◌%◌, ◌<◌, ◌≤◌, List, [], ◌∷◌, ◌++◌, length, take, get_or, map, filter, Bool, true, false, cond, refl, sym, ap, subst, ◌∙◌, arith, inl, inr}
+use Rattle.std.proofs.Common.{◌≡◌, ◌⊎◌, ℕ, zero, suc, ◌+◌, ◌*◌, ◌/◌, ◌%◌, ◌<◌, ◌≤◌, List, [], ◌∷◌, ◌++◌, length, take, get_or, map, filter, Bool, cond, refl, sym, ap, subst, ◌∙◌, arith, inl, inr}
 use Rattle.std.specs.Prelude.{nat_lt, All}
-use Rattle.std.proofs.lemmas.Bool.Decides.{nat_tests}
 use Rattle.std.proofs.lemmas.List.{map-append, append-nil, get_or_past, take_all}
 use Rattle.std.proofs.Math.Seq.{take-suc}
 use Rattle.std.proofs.lemmas.List.Elements.{filter-append}
@@ -12,6 +11,7 @@ use Rattle.volume_model.specs.Dscbs.{number_at, numbers_below}
 use Rattle.volume_model.specs.Space.{entry_at, entries_of}
 use Rattle.vtoc_core.specs.Edit.{no_entry, run_of_entry, AreEntriesPut}
 use Rattle.vtoc_core.proofs.Written.{two_bytes}
+use Rattle.std.proofs.lemmas.Bool.{cases_lt}
 
 -- ---- format 5
 
@@ -79,17 +79,10 @@ none_told heads entries n more =
 abbrev last : List Run → Run → List Run
 last runs run = runs ++ cond (nat_lt 0 run.len) (run ∷ []) []
 
-less_or_not : (m n : ℕ) → (m < n) ⊎ (n ≤ m)
-less_or_not m n = by (nat_lt m n) refl
-  where
-    by : (b : Bool) → nat_lt m n ≡ b → (m < n) ⊎ (n ≤ m)
-    by true e = inl (grind (arith, nat_tests))
-    by false e = inr (grind (arith, nat_tests))
-
 below : (heads : ℕ) (entries : List Entry5) (old new : List ℕ) → AreEntriesPut entries old new → All IsEntry5 entries → (n : ℕ) → n ≤ 26
     → entries_below heads new n ≡ told_below heads entries n
 below heads entries old new h fit zero less = refl
-below heads entries old new h fit (suc n) less = one_below heads new n ∙ by (below heads entries old new h fit n (omega (arith, less))) (less_or_not n (length entries))
+below heads entries old new h fit (suc n) less = one_below heads new n ∙ by (below heads entries old new h fit n (omega (arith, less))) (cases_lt n (length entries))
   where
     no_tracks : 0 * heads + 0 ≡ 0
     no_tracks = omega arith

@@ -1,5 +1,5 @@
 -- Lists of which no element stands twice.
-use Rattle.std.proofs.Common.{◌≡◌, ◌⊎◌, ℕ, zero, suc, ◌<◌, ◌≤◌, List, [], ◌∷◌, ◌++◌, ◌||◌, length, map, filter, get_or, Bool, true, false, Contains, refl, sym, ap, subst, ◌∙◌, arith, inl, inr, append_assoc}
+use Rattle.std.proofs.Common.{◌≡◌, ◌⊎◌, ℕ, zero, suc, ◌+◌, ◌<◌, ◌≤◌, List, [], ◌∷◌, ◌++◌, ◌||◌, length, map, filter, get_or, Bool, true, false, Contains, refl, sym, ap, subst, ◌∙◌, arith, inl, inr, append_assoc}
 use Rattle.std.specs.List.{flat_map, list_any}
 use Rattle.std.specs.List.Sorted.{IsPermutation}
 use Rattle.std.proofs.lemmas.List.Elements.{Contains-append_cases}
@@ -9,6 +9,8 @@ use Rattle.std.proofs.lemmas.List.Concat.{flat_map_single}
 use Rattle.volume_model.specs.Check.{with_earlier, later_ones}
 use Rattle.volume_model.proofs.Filters.{filter_skip, filter_keep}
 use Rattle.vtoc_layout.specs.Layout.{AreDistinct}
+use Rattle.ckd_image.proofs.Lists.{contains_map}
+use Rattle.volume_model.specs.Dscbs.{numbers_below}
 
 -- ---- elements
 
@@ -256,14 +258,6 @@ in_flat {X} {Y} f (z ∷ xs) x y h c = by (λ there. in_flat f xs x y there c) (
     by later (inl same) = let P : X → Type 0 = λ w. Contains (f w) y in in_front (f z) (flat_map f xs) y (subst P (sym same) c)
     by later (inr there) = in_back (f z) (flat_map f xs) y (later there)
 
-pub in_map : {X Y : Type 0} (f : X → Y) (xs : List X) (x : X) → Contains xs x → Contains (map f xs) (f x)
-in_map f [] x h = absurd (in_none x h)
-in_map {X} {Y} f (z ∷ xs) x h = by (in_map f xs x) (first_or_later z x xs h)
-  where
-    by : (Contains xs x → Contains (map f xs) (f x)) → ((z ≡ x) ⊎ Contains xs x) → Contains (f z ∷ map f xs) (f x)
-    by later (inl same) = (0, omega arith, ap f same)
-    by later (inr there) = in_later (f z) (f x) (map f xs) (later there)
-
 pub from_map : {X Y : Type 0} (f : X → Y) (xs : List X) (y : Y) → Contains (map f xs) y → (x : X) × Contains xs x × (f x ≡ y)
 from_map f [] y h = absurd (in_none y h)
 from_map {X} {Y} f (x ∷ xs) y h = by (from_map f xs y) (first_or_later (f x) y (map f xs) h)
@@ -282,8 +276,8 @@ one_of_map {X} {Y} f (x ∷ xs) a b d p q e = by (λ p' q'. one_of_map f xs a b 
 
     by : (Contains xs a → Contains xs b → a ≡ b) → ((x ≡ a) ⊎ Contains xs a) → ((x ≡ b) ⊎ Contains xs b) → a ≡ b
     by later (inl s) (inl t) = sym s ∙ t
-    by later (inl s) (inr there) = absurd (d.0 (subst P (sym e ∙ sym (ap f s)) (in_map f xs b there)))
-    by later (inr there) (inl t) = absurd (d.0 (subst P (e ∙ sym (ap f t)) (in_map f xs a there)))
+    by later (inl s) (inr there) = absurd (d.0 (subst P (sym e ∙ sym (ap f s)) (contains_map f xs b there)))
+    by later (inr there) (inl t) = absurd (d.0 (subst P (e ∙ sym (ap f t)) (contains_map f xs a there)))
     by later (inr there) (inr then_too) = later there then_too
 
 -- no element is in the lists of two
@@ -328,3 +322,33 @@ later_nothing {X} related earlier (x ∷ xs) d h =
 -- where only equal elements may be related, and none stands twice, none is related to an earlier one
 pub no_later_ones : {X : Type 0} (related : X → X → Bool) (xs : List X) → AreDistinct xs → ((x y : X) → Contains xs x → Contains xs y → ¬ (x ≡ y) → related x y ≡ false) → later_ones related xs ≡ []
 no_later_ones {X} related xs d h = ap (λ (pairs : List (List X × X)). map (λ (pair : List X × X). pair.1) pairs) (later_nothing related [] xs d h)
+
+-- ---- the numbers below a number
+
+pub in_below : (n k : ℕ) → Contains (numbers_below n) k → k < n
+in_below zero k there = absurd (in_none k there)
+in_below (suc n) k there = elim (Contains-append_cases (numbers_below n) (n ∷ []) k there) [
+  | inl front ↦ omega (arith, in_below n k front)
+  | inr back ↦ omega (arith, only_one n k back)
+]
+  where
+    only_one : (n k : ℕ) → Contains (n ∷ []) k → n ≡ k
+    only_one n k there = elim (first_or_later n k [] there) [ inl same ↦ same | inr none ↦ absurd (in_none k none) ]
+
+pub below_distinct : (n : ℕ) → AreDistinct (numbers_below n)
+below_distinct zero = tt
+below_distinct (suc n) =
+    distinct_append (numbers_below n) (n ∷ []) (below_distinct n) (λ there. in_none n there, tt)
+    (λ k front back. absurd (omega (arith, in_below n k front, by k (first_or_later n k [] back))))
+  where
+    by : (k : ℕ) → ((n ≡ k) ⊎ Contains [] k) → n ≡ k
+    by k (inl same) = same
+    by k (inr none) = absurd (in_none k none)
+
+pub shifted_distinct : (first : ℕ) (places : List ℕ) → AreDistinct places → AreDistinct (map (λ place. first + place) places)
+shifted_distinct first [] distinct = tt
+shifted_distinct first (place ∷ places) distinct = (
+  λ there. let found = from_map (λ (n : ℕ). first + n) places (first + place) there in
+      distinct.0 (subst (Contains places) (let same : found.0 ≡ place = omega (arith, found.2) in same) found.1),
+  shifted_distinct first places distinct.1,
+)

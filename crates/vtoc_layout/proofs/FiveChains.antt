@@ -2,7 +2,7 @@
 use Rattle.std.proofs.Common.{◌≡◌, ◌⊎◌, inl, inr, ℕ, zero, suc, ◌+◌, ◌≤◌, List, [], ◌∷◌, ◌++◌, length, filter, find, Bool, true, false, cond, not, Option, Some, None, refl, sym, ap, subst, ◌∙◌, arith, append_assoc}
 use Rattle.std.specs.Prelude.{◌&&◌, ◌||◌, ◌==◌, nat_lt, if◌then◌else◌}
 use Rattle.std.specs.List.{list_any}
-use Rattle.std.proofs.lemmas.Bool.{and_parts, cases_Bool, eqb-true, eq-eqb, both_ways}
+use Rattle.std.proofs.lemmas.Bool.{and_parts, cases_Bool, eqb-true, eq-eqb, both_ways, or_right, or_left}
 use Rattle.std.proofs.lemmas.List.{append-nil}
 use Rattle.std.proofs.lemmas.List.Folds.{list_any-append}
 use Rattle.ckd_image.specs.declared.track.Cchhr.{Cchhr}
@@ -26,13 +26,6 @@ one_place a b same =
 
 pub itself : (a : Place) → same_place a a ≡ true
 itself a = (λ i. eq-eqb a.track a.track refl i && eq-eqb a.record_number a.record_number refl i)
-
-or_first : (a b : Bool) → a ≡ true → (a || b) ≡ true
-or_first a b is = ap (λ (x : Bool). x || b) is
-
-or_second : (a b : Bool) → b ≡ true → (a || b) ≡ true
-or_second true b is = refl
-or_second false b is = is
 
 or_neither : (a b : Bool) → a ≡ false → b ≡ false → (a || b) ≡ false
 or_neither a b p q = (λ i. p i || q i)
@@ -58,7 +51,7 @@ left_more earlier five (one ∷ fives) = by (left_more earlier five fives) (case
   where
     by : length (left (earlier ++ five ∷ []) fives) ≤ length (left earlier fives) → ((is_among earlier one ≡ true) ⊎ (is_among earlier one ≡ false)) → ((is_among (earlier ++ five ∷ []) one ≡ true) ⊎ (is_among (earlier ++ five ∷ []) one ≡ false))
         → length (left (earlier ++ five ∷ []) (one ∷ fives)) ≤ length (left earlier (one ∷ fives))
-    by rest (inl seen) (inr new) = absurd (both_ways (is_among (earlier ++ five ∷ []) one) new (among_last earlier five one ∙ or_first (is_among earlier one) (same_place five.place one.place || false) seen))
+    by rest (inl seen) (inr new) = absurd (both_ways (is_among (earlier ++ five ∷ []) one) new (among_last earlier five one ∙ or_left (is_among earlier one) (same_place five.place one.place || false) seen))
     by rest (inl seen) (inl still) = omega (arith, rest, ap length (filter_skip (is_left (earlier ++ five ∷ [])) one fives (ap not still)), ap length (filter_skip (is_left earlier) one fives (ap not seen)))
     by rest (inr new) (inl still) = omega (arith, rest, ap length (filter_skip (is_left (earlier ++ five ∷ [])) one fives (ap not still)), ap length (filter_keep (is_left earlier) one fives (ap not new)))
     by rest (inr new) (inr other) = omega (arith, rest, ap length (filter_keep (is_left (earlier ++ five ∷ [])) one fives (ap not other)), ap length (filter_keep (is_left earlier) one fives (ap not new)))
@@ -76,7 +69,7 @@ left_fewer earlier five (one ∷ fives) inside new = by (left_fewer earlier five
         let fresh : is_among earlier one ≡ false = among_at earlier one five same ∙ new in
         let again : same_place five.place one.place ≡ true = ap (λ (place : Place). same_place five.place place) same ∙ itself five.place in
         let now : is_among (earlier ++ five ∷ []) one ≡ true =
-        among_last earlier five one ∙ or_second (is_among earlier one) (same_place five.place one.place || false) (or_first (same_place five.place one.place) false again) in
+        among_last earlier five one ∙ or_right (is_among earlier one) (same_place five.place one.place || false) (or_left (same_place five.place one.place) false again) in
         omega (arith, left_more earlier five fives, ap length (filter_skip (is_left (earlier ++ five ∷ [])) one fives (ap not now)), ap length (filter_keep (is_left earlier) one fives (ap not fresh)))
     by next (inr other) = later (cases_Bool (is_among earlier one)) (cases_Bool (is_among (earlier ++ five ∷ []) one))
       where
@@ -85,7 +78,7 @@ left_fewer earlier five (one ∷ fives) inside new = by (left_fewer earlier five
 
         later : ((is_among earlier one ≡ true) ⊎ (is_among earlier one ≡ false)) → ((is_among (earlier ++ five ∷ []) one ≡ true) ⊎ (is_among (earlier ++ five ∷ []) one ≡ false))
             → length (left (earlier ++ five ∷ []) (one ∷ fives)) + 1 ≤ length (left earlier (one ∷ fives))
-        later (inl seen) (inr gone) = absurd (both_ways (is_among (earlier ++ five ∷ []) one) gone (among_last earlier five one ∙ or_first (is_among earlier one) (same_place five.place one.place || false) seen))
+        later (inl seen) (inr gone) = absurd (both_ways (is_among (earlier ++ five ∷ []) one) gone (among_last earlier five one ∙ or_left (is_among earlier one) (same_place five.place one.place || false) seen))
         later (inl seen) (inl still) = omega (arith, rest, ap length (filter_skip (is_left (earlier ++ five ∷ [])) one fives (ap not still)), ap length (filter_skip (is_left earlier) one fives (ap not seen)))
         later (inr fresh) (inl still) = omega (arith, rest, ap length (filter_skip (is_left (earlier ++ five ∷ [])) one fives (ap not still)), ap length (filter_keep (is_left earlier) one fives (ap not fresh)))
         later (inr fresh) (inr none) = omega (arith, rest, ap length (filter_keep (is_left (earlier ++ five ∷ [])) one fives (ap not none)), ap length (filter_keep (is_left earlier) one fives (ap not fresh)))
@@ -305,10 +298,10 @@ found_there test (one ∷ records) next is five = by (λ on. found_there test re
     by rest (inl passed) (inl kept) =
         let same : one.place ≡ next.place = ap (λ (placed : Placed). placed.place) (here passed) in
         ap (λ (list : List Placed). is_among list next) (filter_keep is_five one records kept)
-        ∙ or_first (same_place one.place next.place) (is_among (filter is_five records) next) (ap (λ (place : Place). same_place place next.place) same ∙ itself next.place)
+        ∙ or_left (same_place one.place next.place) (is_among (filter is_five records) next) (ap (λ (place : Place). same_place place next.place) same ∙ itself next.place)
     by rest (inl passed) (inr gone) = absurd (both_ways (is_five next) (sym (ap is_five (here passed)) ∙ gone) five)
     by rest (inr other) (inl kept) =
-        ap (λ (list : List Placed). is_among list next) (filter_keep is_five one records kept) ∙ or_second (same_place one.place next.place) (is_among (filter is_five records) next) (rest (on other))
+        ap (λ (list : List Placed). is_among list next) (filter_keep is_five one records kept) ∙ or_right (same_place one.place next.place) (is_among (filter is_five records) next) (rest (on other))
     by rest (inr other) (inr gone) = ap (λ (list : List Placed). is_among list next) (filter_skip is_five one records gone) ∙ rest (on other)
 
 named_there : (heads : ℕ) (records : List Placed) (pointer : Option Cchhr) (next : Placed) → named_record heads records pointer ≡ Some next → is_five next ≡ true
@@ -331,15 +324,15 @@ first_there test (one ∷ fives) five is = by (first_there test fives five) (cas
     by later (inl passed) =
         let e : Some one ≡ Some five = sym (ap first_of (filter_keep test one fives passed)) ∙ is in
         let same : one ≡ five = cc in
-        or_first (same_place one.place five.place) (is_among fives five) (ap (λ (placed : Placed). same_place placed.place five.place) same ∙ itself five.place)
-    by later (inr gone) = or_second (same_place one.place five.place) (is_among fives five) (later (sym (ap first_of (filter_skip test one fives gone)) ∙ is))
+        or_left (same_place one.place five.place) (is_among fives five) (ap (λ (placed : Placed). same_place placed.place five.place) same ∙ itself five.place)
+    by later (inr gone) = or_right (same_place one.place five.place) (is_among fives five) (later (sym (ap first_of (filter_skip test one fives gone)) ∙ is))
 
 head_there : (fives : List Placed) (five : Placed) → first_of fives ≡ Some five → is_among fives five ≡ true
 head_there [] five is = (let e : None ≡ Some five = is in cc)
 head_there (one ∷ fives) five is =
     let e : Some one ≡ Some five = is in
     let same : one ≡ five = cc in
-    or_first (same_place one.place five.place) (is_among fives five) (ap (λ (placed : Placed). same_place placed.place five.place) same ∙ itself five.place)
+    or_left (same_place one.place five.place) (is_among fives five) (ap (λ (placed : Placed). same_place placed.place five.place) same ∙ itself five.place)
 
 either_there : (first other : Option Placed) (fives : List Placed) (five : Placed) → (first ≡ Some five → is_among fives five ≡ true) → (other ≡ Some five → is_among fives five ≡ true)
     → or_else first other ≡ Some five → is_among fives five ≡ true

@@ -25,6 +25,7 @@ use Rattle.vtoc_layout.proofs.Distinct.{at_first, in_later, first_or_later, in_n
 use Rattle.vtoc_layout.proofs.Apart.{NoneShared, none_overlap, none_within, all_from, apart_each, apart_two, apart_flat}
 use Rattle.vtoc_layout.proofs.Uses.{distinct_f5s, distinct_fives, same_fives}
 use Rattle.vtoc_layout.proofs.ExtentRules.{extents_permuted}
+use Rattle.volume_model.proofs.Numbers.{grows}
 
 -- ---- runs in ascending order
 
@@ -61,10 +62,15 @@ held_in (first ∷ runs) run track c h = by (λ there. held_in runs run track th
     by later (inl same) = let P : Run → Type 0 = λ r. HasTrack r track in inl (subst P (sym same) h)
     by later (inr there) = inr (later there)
 
-held_has : (run : Run) (track : ℕ) → HasTrack run track → has_track track run ≡ true
+pub held_by : (runs : List Run) (track : ℕ) → InRuns runs track → (run : Run) × Contains runs run × HasTrack run track
+held_by [] track h = absurd h
+held_by (run ∷ runs) track (inl h) = (run, at_first run runs, h)
+held_by (run ∷ runs) track (inr h) = let r = held_by runs track h in (r.0, in_later run r.0 runs r.1, r.2)
+
+pub held_has : (run : Run) (track : ℕ) → HasTrack run track → has_track track run ≡ true
 held_has run track h = (λ i. le-leb run.first track h.0 i && lt-ltb track (end_of run) h.1 i)
 
-in_runs_any : (runs : List Run) (track : ℕ) → InRuns runs track → list_any (has_track track) runs ≡ true
+pub in_runs_any : (runs : List Run) (track : ℕ) → InRuns runs track → list_any (has_track track) runs ≡ true
 in_runs_any [] track h = absurd h
 in_runs_any (run ∷ runs) track (inl h) = ap (λ (b : Bool). b || list_any (has_track track) runs) (held_has run track h)
 in_runs_any (run ∷ runs) track (inr h) = ap (λ (b : Bool). has_track track run || b) (in_runs_any runs track h) ∙ or_true (has_track track run)
@@ -74,7 +80,7 @@ in_runs_any (run ∷ runs) track (inr h) = ap (λ (b : Bool). has_track track ru
     or_true false = refl
 
 -- two runs with tracks that overlap have one in common
-shared_track : (a b : Run) → 1 ≤ a.len → 1 ≤ b.len → overlap a b ≡ true → (track : ℕ) × HasTrack a track × HasTrack b track
+pub shared_track : (a b : Run) → 1 ≤ a.len → 1 ≤ b.len → overlap a b ≡ true → (track : ℕ) × HasTrack a track × HasTrack b track
 shared_track a b p q e = by (cases_lt a.first b.first)
   where
     parts : (nat_lt a.first (end_of b) ≡ true) × (nat_lt b.first (end_of a) ≡ true)
@@ -92,10 +98,6 @@ shared_track a b p q e = by (cases_lt a.first b.first)
 
 -- ---- the greatest end
 
-pub grows : (a : ℕ) (runs : List Run) → a ≤ fold (λ end run. max end (end_of run)) a runs
-grows a [] = omega arith
-grows a (run ∷ runs) = omega (arith, grows (max a (end_of run)) runs)
-
 pub at_most : (limit a : ℕ) (runs : List Run) → a ≤ limit → ((run : Run) → Contains runs run → end_of run ≤ limit) → fold (λ end run. max end (end_of run)) a runs ≤ limit
 at_most limit a [] le h = le
 at_most limit a (run ∷ runs) le h = at_most limit (max a (end_of run)) runs (omega (arith, le, h run (at_first run runs))) (λ other c. h other (in_later run other runs c))
@@ -109,7 +111,7 @@ each_end a (first ∷ runs) run c = by (each_end (max a (end_of first)) runs run
     by later (inl same) = omega (arith, grows (max a (end_of first)) runs, ap end_of same)
     by later (inr there) = later there
 
-greatest_le : (xs ys : List Run) → IsPermutation xs ys → greatest_end xs ≤ greatest_end ys
+pub greatest_le : (xs ys : List Run) → IsPermutation xs ys → greatest_end xs ≤ greatest_end ys
 greatest_le xs ys p = at_most (greatest_end ys) 1 xs (grows 1 ys) (λ run c. each_end 1 ys run (Contains-permutation xs ys run p c))
 
 greatest_same : (xs ys : List Run) → IsPermutation xs ys → greatest_end xs ≡ greatest_end ys

@@ -14,7 +14,7 @@ abbrev pub Precedes : List Placed → Placed → Placed → Type 0
 Precedes [] a b = ⊥
 Precedes (x ∷ xs) a b = ((x ≡ a) × (first_of xs ≡ Some b)) ⊎ Precedes xs a b
 
-first_in : (xs : List Placed) (b : Placed) → first_of xs ≡ Some b → Contains xs b
+pub first_in : (xs : List Placed) (b : Placed) → first_of xs ≡ Some b → Contains xs b
 first_in [] b e = (let q : None ≡ Some b = e in cc)
 first_in (x ∷ xs) b e = (let q : Some x ≡ Some b = e in let same : x ≡ b = cc in (0, omega arith, same))
 

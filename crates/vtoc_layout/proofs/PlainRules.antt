@@ -1,7 +1,6 @@
 -- A VTOC with a layout has no record that is no DSCB, no second format 4, and no name twice.
 use Rattle.std.proofs.Common.{◌≡◌, ◌≢◌, ℕ, ◌+◌, ◌==◌, ◌||◌, ◌&&◌, List, [], ◌∷◌, map, not, Bool, true, false, All, Contains, Option, Some, None, refl, sym, ap, ◌∙◌}
 use Rattle.std.specs.Prelude.{take}
-use Rattle.std.proofs.lemmas.Bool.{eqb-true, and_parts}
 use Rattle.std.proofs.lemmas.List.Elements.{All-head, All-tail}
 use Rattle.volume_model.specs.declared.place.Placed.{Placed}
 use Rattle.volume_model.specs.declared.place.Place.{Place}
@@ -14,20 +13,12 @@ use Rattle.vtoc_check.specs.Sized.{IsSized}
 use Rattle.vtoc_layout.specs.Layout.{Layout, IsLayoutOf, name_of}
 use Rattle.vtoc_layout.proofs.Distinct.{filter_nothing, from_map, one_of_map, no_later_ones}
 use Rattle.vtoc_layout.proofs.Uses.{itself, one_of, is_four, none_broken, ones, distinct_f1s, same_ones}
+use Rattle.volume_model.proofs.Numbers.{bytes_equal}
 
 pub no_bad_tracks : (track : ℕ) (tracks : List (Option (List (List ℕ)))) → All (λ dscbs. dscbs ≢ None) tracks → bad_tracks track tracks ≡ []
 no_bad_tracks track [] h = refl
 no_bad_tracks track (None ∷ more) h = absurd (All-head (λ (dscbs : Option (List (List ℕ))). dscbs ≢ None) None more h refl)
 no_bad_tracks track (Some dscbs ∷ more) h = no_bad_tracks (track + 1) more (All-tail (λ (dscbs : Option (List (List ℕ))). dscbs ≢ None) (Some dscbs) more h)
-
-same_names : (as' bs : List ℕ) → same_bytes as' bs ≡ true → as' ≡ bs
-same_names [] [] e = refl
-same_names [] (b ∷ bs) e = (let q : false ≡ true = e in cc)
-same_names (a ∷ as') [] e = (let q : false ≡ true = e in cc)
-same_names (a ∷ as') (b ∷ bs) e =
-    let parts = and_parts (a == b) (same_bytes as' bs) e in
-    let first : a ≡ b = eqb-true a b parts.0 in
-    (λ i. first i ∷ same_names as' bs parts.1 i)
 
 module _ (vtoc : Vtoc) (layout : Layout) (sized : IsSized vtoc) (is : IsLayoutOf vtoc layout) where
   one_four : (placed : Placed) → Contains (records_of vtoc) placed → (is_f4 (format_of placed.bytes) && not (same_place placed.place vtoc.format_4)) ≡ false
@@ -63,4 +54,4 @@ module _ (vtoc : Vtoc) (layout : Layout) (sized : IsSized vtoc) (is : IsLayoutOf
 
           by : (t : Bool) → same_bytes (take 44 a.bytes) (take 44 b.bytes) ≡ t → t ≡ false
           by false e = refl
-          by true e = absurd (differ (same (same_names (take 44 a.bytes) (take 44 b.bytes) e)))
+          by true e = absurd (differ (same (bytes_equal (take 44 a.bytes) (take 44 b.bytes) e)))

@@ -11,9 +11,10 @@ use Rattle.volume_model.specs.Directory.{same_place, chain_of}
 use Rattle.volume_model.specs.Check.{breach, records_of, later_ones, namers_of, named_by, names_3, names_format, same_target, is_among, reached_3s, bad_pointers}
 use Rattle.vtoc_check.specs.Sized.{IsSized}
 use Rattle.vtoc_layout.specs.Layout.{AreDistinct, SetRecords, Layout, IsLayoutOf, records_in_set}
-use Rattle.vtoc_layout.proofs.Distinct.{filter_nothing, from_filter, distinct_filter, from_map, in_map, in_flat, in_later, no_more, no_later_ones, one_of_flat, distinct_each}
+use Rattle.vtoc_layout.proofs.Distinct.{filter_nothing, from_filter, distinct_filter, from_map, in_flat, in_later, no_more, no_later_ones, one_of_flat, distinct_each}
 use Rattle.vtoc_layout.proofs.Links.{Precedes, second_later, one_before, leads_to_next, chain_is}
 use Rattle.vtoc_layout.proofs.Uses.{among, one_of, all_distinct, same_record, in_set_there, distinct_of_sets, set_is, three_format, is_one, is_three, ones, same_ones}
+use Rattle.ckd_image.proofs.Lists.{contains_map}
 
 module _ (vtoc : Vtoc) (layout : Layout) (sized : IsSized vtoc) (is : IsLayoutOf vtoc layout) where
   abbrev records : List Placed
@@ -130,7 +131,7 @@ module _ (vtoc : Vtoc) (layout : Layout) (sized : IsSized vtoc) (is : IsLayoutOf
       let at = is_three vtoc layout sized is placed c e in
       let chain : Placed → List Placed = λ one. chain_of vtoc.heads records (length records) one.bytes in
       let P : List Placed → Type 0 = λ threes. Contains threes placed in
-      let there : Contains (ones vtoc layout sized is) at.0.one = (same_ones vtoc layout sized is).back at.0.one (in_map one_of layout.sets at.0 at.1) in
+      let there : Contains (ones vtoc layout sized is) at.0.one = (same_ones vtoc layout sized is).back at.0.one (contains_map one_of layout.sets at.0 at.1) in
       among (reached_3s vtoc) placed (in_flat chain (ones vtoc layout sized is) at.0.one placed there (subst P (sym (threes_are_chain at.0 at.1)) at.2))
 
   none_unreached : filter (λ placed. is_f3 (format_of placed.bytes) && not (is_among (reached_3s vtoc) placed)) records ≡ []

@@ -17,7 +17,8 @@ use Rattle.vtoc_check.specs.Sized.{IsSized}
 use Rattle.vtoc_check.proofs.Order.{ascending, above, in_order_from}
 use Rattle.vtoc_check.proofs.Marks.{any_passes, passes_any, same_number, one_index}
 use Rattle.vtoc_layout.specs.Layout.{AreDistinct, SetRecords, Layout, AreSetRecords, IsLayoutOf, records_in_set, used_records}
-use Rattle.vtoc_layout.proofs.Distinct.{first_or_later, at_first, in_later, in_front, in_back, distinct_front, distinct_back, distinct_filter, in_filter, from_filter, from_flat, in_flat, in_map, from_map, HaveSame}
+use Rattle.vtoc_layout.proofs.Distinct.{first_or_later, at_first, in_later, in_front, in_back, distinct_front, distinct_back, distinct_filter, in_filter, from_filter, from_flat, in_flat, from_map, HaveSame}
+use Rattle.ckd_image.proofs.Lists.{contains_map}
 
 -- ---- records of different places
 
@@ -179,7 +180,7 @@ module _ (vtoc : Vtoc) (layout : Layout) (sized : IsSized vtoc) (is : IsLayoutOf
       by : Use vtoc layout placed → Contains (map one_of layout.sets) placed
       by (four same) = absurd (not_this is_f1 placed F4 (four_format placed same) refl e)
       by (five there) = absurd (not_this is_f1 placed F5 (five_format placed there) refl e)
-      by (one set p same) = let P : Placed → Type 0 = λ q. Contains (map one_of layout.sets) q in subst P same (in_map one_of layout.sets set p)
+      by (one set p same) = let P : Placed → Type 0 = λ q. Contains (map one_of layout.sets) q in subst P same (contains_map one_of layout.sets set p)
       by (three set p there) = absurd (not_this is_f1 placed F3 (three_format set placed p there) refl e)
       by (free here) = absurd (not_this is_f1 placed Free here refl e)
 

@@ -1,5 +1,5 @@
 -- The chains of format 3s in a VTOC that breaks no rule.
-use Rattle.std.proofs.Common.{◌≡◌, ◌⊎◌, ℕ, zero, suc, ◌*◌, ◌<◌, ◌≤◌, List, [], ◌∷◌, ◌++◌, length, map, filter, take, get_or, Bool, true, false, cond, All, Contains, Option, Some, None, refl, sym, ap, subst, ◌∙◌, arith, inl, inr}
+use Rattle.std.proofs.Common.{◌≡◌, ◌⊎◌, ℕ, zero, suc, ◌*◌, ◌<◌, ◌≤◌, List, [], ◌∷◌, ◌++◌, length, filter, take, get_or, Bool, true, false, cond, All, Contains, Option, Some, None, refl, sym, ap, subst, ◌∙◌, arith, inl, inr}
 use Rattle.std.specs.Prelude.{◌&&◌, ◌||◌, not, find, nat_lt}
 use Rattle.std.specs.Option.{is_some}
 use Rattle.std.specs.List.{flat_map, list_any}
@@ -25,6 +25,7 @@ use Rattle.vtoc_layout.specs.Layout.{AreDistinct}
 use Rattle.vtoc_layout.proofs.Distinct.{in_later, in_none, no_more, distinct_append, in_filter, from_filter, distinct_filter, from_flat}
 use Rattle.vtoc_layout.proofs.Uses.{distinct_records, one_record, itself}
 use Rattle.vtoc_load.specs.Chained.{AreEachOnce, threes_of}
+use Rattle.ckd_image.proofs.Lists.{left_nil, right_nil, map_nil}
 
 abbrev nothing : Option Placed
 nothing = None
@@ -190,18 +191,6 @@ distinct_chains heads records one (a ∷ starts) all d =
         d.0 (subst P (sym same) there.1)
 
 -- ---- where no rule is broken
-
-pub left_nil : {X : Type 0} (xs ys : List X) → xs ++ ys ≡ [] → xs ≡ []
-left_nil [] ys e = refl
-left_nil (x ∷ xs) ys e = absurd (let q : x ∷ (xs ++ ys) ≡ [] = e in let r : ⊥ = cc in r)
-
-pub right_nil : {X : Type 0} (xs ys : List X) → xs ++ ys ≡ [] → ys ≡ []
-right_nil [] ys e = e
-right_nil (x ∷ xs) ys e = absurd (let q : x ∷ (xs ++ ys) ≡ [] = e in let r : ⊥ = cc in r)
-
-pub map_nil : {X Y : Type 0} (f : X → Y) (xs : List X) → map f xs ≡ [] → xs ≡ []
-map_nil f [] e = refl
-map_nil f (x ∷ xs) e = absurd (let q : f x ∷ map f xs ≡ [] = e in let r : ⊥ = cc in r)
 
 -- what is bad of pointers, in its three parts
 abbrev pub orphans : Vtoc → List Placed

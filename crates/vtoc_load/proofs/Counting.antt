@@ -18,7 +18,8 @@ use Rattle.vtoc_core.specs.Loaded.{row_in, records_for}
 use Rattle.vtoc_layout.proofs.Distinct.{in_none, in_filter, at_first, in_later}
 use Rattle.vtoc_load.specs.LoadedVtoc.{free_records_of}
 use Rattle.vtoc_load.specs.Counted.{fours_of}
-use Rattle.vtoc_load.proofs.Chains.{chain_at, chains_apart, no_bad_dscbs, map_nil}
+use Rattle.vtoc_load.proofs.Chains.{chain_at, chains_apart, no_bad_dscbs}
+use Rattle.ckd_image.proofs.Lists.{map_nil}
 
 -- ---- each record has one format
 

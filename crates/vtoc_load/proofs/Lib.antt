@@ -1,5 +1,5 @@
 pub mod Usable
-pub mod SortedRows
-pub mod Sizes
+mod SortedRows
+mod Sizes
 pub mod Chains
 pub mod Counting

@@ -13,8 +13,9 @@ use Rattle.volume_model.specs.Check.{track_0, any_overlap, overlap_within, state
 use Rattle.vtoc_check.specs.Sized.{IsSized}
 use Rattle.vtoc_check.proofs.Joined.{extents_within, ends_by}
 use Rattle.vtoc_core.proofs.Spaces.{ends_within, all_front}
-use Rattle.vtoc_layout.proofs.FreeRules.{grows, at_most}
+use Rattle.vtoc_layout.proofs.FreeRules.{at_most}
 use Rattle.ckd_image.specs.Device.{ceil_div}
+use Rattle.volume_model.proofs.Numbers.{grows}
 
 -- where each of these runs ends by a limit, their greatest end does
 within_all : (limit : ℕ) (runs : List Run) → 1 ≤ limit → All (λ run. end_of run ≤ limit) runs → greatest_end runs ≤ limit

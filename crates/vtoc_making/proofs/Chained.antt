@@ -1,7 +1,6 @@
 -- Format 5s that are written one after the other.
 use Rattle.std.proofs.Common.{◌≡◌, ◌⊎◌, ℕ, suc, ◌+◌, ◌-◌, ◌*◌, ◌<◌, ◌≤◌, List, [], ◌∷◌, ◌++◌, length, map, take, drop, get_or, Option, refl, sym, ap, subst, ◌∙◌, arith, inl, inr, length-append, take-suc}
-use Rattle.std.specs.Prelude.{slice_get, nat_lt, Bool, true, false}
-use Rattle.std.proofs.lemmas.Bool.Decides.{nat_tests}
+use Rattle.std.specs.Prelude.{slice_get}
 use Rattle.std.proofs.lemmas.List.{map-append, length-map, drop-drop, length-take-le}
 use Rattle.std.proofs.Math.ListN.{get_or-append}
 use Rattle.std.proofs.Math.Seq.{get_or-append_right}
@@ -14,6 +13,7 @@ use Rattle.layout_edit.specs.Change.{place_of}
 use Rattle.dscb_made.specs.Made.{IsFormat5With}
 use Rattle.vtoc_plan.specs.Plan.{pointer_to, option_map, first_in, AreFivesWith}
 use Rattle.vtoc_making.specs.Places.{next_pointer, part_of, parts_of}
+use Rattle.std.proofs.lemmas.Bool.{cases_lt}
 
 -- the format 5 at a number is written
 abbrev pub IsFiveAt : ℕ → List Entry5 → List Place → List Placed → ℕ → Type 0
@@ -27,13 +27,6 @@ pub record AreFivesSoFar (heads : ℕ) (entries : List Entry5) (places : List Pl
 pub none_so_far : (heads : ℕ) (entries : List Entry5) (places : List Place) → AreFivesSoFar heads entries places 0 []
 none_so_far heads entries places = record { at = refl; each = λ k less. absurd (omega (arith, less)) }
 
-less_or_not : (m n : ℕ) → (m < n) ⊎ (n ≤ m)
-less_or_not m n = by (nat_lt m n) refl
-  where
-    by : (b : Bool) → nat_lt m n ≡ b → (m < n) ⊎ (n ≤ m)
-    by true e = inl (grind (arith, nat_tests))
-    by false e = inr (grind (arith, nat_tests))
-
 pub next_count : (n : ℕ) → suc n ≡ n + 1
 next_count n = omega arith
 
@@ -42,7 +35,7 @@ pub one_more : (heads : ℕ) (entries : List Entry5) (places : List Place) (coun
     → AreFivesSoFar heads entries places (count + 1) (fives ++ (five ∷ []))
 one_more heads entries places count fives five d less h place is = record {
   at = map-append place_of fives (five ∷ []) ∙ (λ i. h.at i ++ (place i ∷ [])) ∙ sym (take-suc places count d less) ∙ ap (λ (n : ℕ). take n places) (next_count count);
-  each = λ k within. by k (less_or_not k (length fives)) within;
+  each = λ k within. by k (cases_lt k (length fives)) within;
 }
   where
     long : length fives ≡ count

@@ -1,2 +1,2 @@
-pub mod Lasts
-pub mod Chained
+mod Lasts
+mod Chained

@@ -12,7 +12,7 @@ use Rattle.volume_model.specs.Check.{records_of}
 use Rattle.vtoc_check.specs.Sized.{IsSized}
 use Rattle.vtoc_layout.specs.Layout.{AreDistinct, SetRecords, Layout, IsLayoutOf, records_in_set, name_of}
 use Rattle.vtoc_layout.proofs.Apart.{all_from}
-use Rattle.vtoc_layout.proofs.Distinct.{first_or_later, at_first, in_later, in_front, in_back, distinct_back, not_both, in_map, from_map, one_of_map}
+use Rattle.vtoc_layout.proofs.Distinct.{first_or_later, at_first, in_later, in_front, in_back, distinct_back, not_both, from_map, one_of_map}
 use Rattle.vtoc_layout.proofs.Uses.{four_there, set_there}
 use Rattle.layout_edit.specs.Change.{place_of, zeroed, LayoutChange, edits_of, kept_records, IsChangeOf}
 use Rattle.vtoc_allot.specs.declared.held.Held.{Held}
@@ -24,6 +24,7 @@ use Rattle.vtoc_plan.proofs.Holding.{places_apart, records_held, held_are, is_he
 use Rattle.vtoc_plan.proofs.Places.{places, places_distinct, held_place, not_placed, places_there, allotted_are}
 use Rattle.vtoc_plan.proofs.Written.{zeroed_places, put_places, are_fives, fives_linked, put_records, names_apart}
 use Rattle.volume_model.specs.Dscbs.{is_free_record, is_free_dscb}
+use Rattle.ckd_image.proofs.Lists.{contains_map}
 
 module _ (vtoc : Vtoc) (layout : Layout) (front gone back : List SetRecords) (held : Held) (wanted : Wanted) (second : Place) (allotment : Allotment) (putting : List Putting)
     (parts : List (List Entry5)) (highest : Option Cchhr) (free : ℕ) (change : LayoutChange) (sized : IsSized vtoc) (is : IsLayoutOf vtoc layout) (sets_are : layout.sets ≡ front ++ (gone ++ back))
@@ -74,7 +75,7 @@ module _ (vtoc : Vtoc) (layout : Layout) (front gone back : List SetRecords) (he
   edits_places = (λ i. planned.four_at i ∷ behind_four i)
 
   edit_place : (edit : Placed) → Contains edits edit → Contains (layout.four.place ∷ all) edit.place
-  edit_place edit c = let P : List Place → Type 0 = λ xs. Contains xs edit.place in subst P edits_places (in_map place_of edits edit c)
+  edit_place edit c = let P : List Place → Type 0 = λ xs. Contains xs edit.place in subst P edits_places (contains_map place_of edits edit c)
 
   -- ---- records that are not written
 
@@ -136,7 +137,7 @@ module _ (vtoc : Vtoc) (layout : Layout) (front gone back : List SetRecords) (he
   edit_there edit c = by (first_or_later layout.four.place edit.place all (edit_place edit c))
     where
       by : ((layout.four.place ≡ edit.place) ⊎ Contains all edit.place) → Contains (map place_of records) edit.place
-      by (inl at) = subst (Contains (map place_of records)) at (in_map place_of records layout.four (four_there vtoc layout sized is))
+      by (inl at) = subst (Contains (map place_of records)) at (contains_map place_of records layout.four (four_there vtoc layout sized is))
       by (inr later) = places_there records second held wanted allotment has apart made edit.place later
 
   there : All (λ (edit : Placed). Contains (map place_of records) edit.place) edits
@@ -145,7 +146,7 @@ module _ (vtoc : Vtoc) (layout : Layout) (front gone back : List SetRecords) (he
   held_written : (old : Placed) → Contains (records_held layout gone) old → Contains all old.place
   held_written old c =
       let P : List Place → Type 0 = λ xs. Contains xs old.place in
-      held_place records second held wanted allotment has apart made old.place (subst P (sym (held_are layout gone held few holds)) (in_map place_of (records_held layout gone) old c))
+      held_place records second held wanted allotment has apart made old.place (subst P (sym (held_are layout gone held few holds)) (contains_map place_of (records_held layout gone) old c))
 
   covered : (old : Placed) → Contains (layout.four ∷ (layout.fives ++ of_gone)) old → Contains (map place_of edits) old.place
   covered old c = let P : List Place → Type 0 = λ xs. Contains xs old.place in subst P (sym edits_places) (by (first_or_later layout.four old (layout.fives ++ of_gone) c))

@@ -7,7 +7,7 @@ use Rattle.volume_model.specs.declared.place.Place.{Place}
 use Rattle.volume_model.specs.declared.place.Placed.{Placed}
 use Rattle.volume_model.specs.Directory.{same_place}
 use Rattle.vtoc_layout.specs.Layout.{AreDistinct}
-use Rattle.vtoc_layout.proofs.Distinct.{first_or_later, in_front, in_back, distinct_front, distinct_back, not_both, distinct_append, distinct_filter, in_filter, from_filter, in_map, from_map, one_of_map}
+use Rattle.vtoc_layout.proofs.Distinct.{first_or_later, in_front, in_back, distinct_front, distinct_back, not_both, distinct_append, distinct_filter, in_filter, from_filter, from_map, one_of_map}
 use Rattle.vtoc_layout.proofs.FiveChains.{itself}
 use Rattle.layout_edit.specs.Change.{place_of}
 use Rattle.vtoc_allot.specs.declared.held.Held.{Held}
@@ -17,6 +17,7 @@ use Rattle.vtoc_allot.specs.Allotted.{listed, one_if, is_at, held_places, kept_o
 use Rattle.vtoc_allot.proofs.Pools.{at_there, there_at, given_distinct, given_held, distinct_map_filter}
 use Rattle.vtoc_plan.proofs.Lists.{swapped, with_back, middle_there, middle_turned, six_there, six_turned, six_back}
 use Rattle.volume_model.specs.Dscbs.{is_free_record}
+use Rattle.ckd_image.proofs.Lists.{contains_map}
 
 -- ---- what a first format 5 takes
 
@@ -324,7 +325,7 @@ module _ (records : List Placed) (second : Place) (held : Held) (wanted : Wanted
   places_there z c = by (from_places z c)
     where
       of_record : (placed : Placed) → Contains records placed → placed.place ≡ z → Contains (map place_of records) z
-      of_record placed p at = subst (Contains (map place_of records)) at (in_map place_of records placed p)
+      of_record placed p at = subst (Contains (map place_of records)) at (contains_map place_of records placed p)
 
       of_held : Contains (held_places held) z → Contains (map place_of records) z
       of_held p =

@@ -16,13 +16,14 @@ use Rattle.dscb_rec.specs.declared.field.Entry5.{Entry5}
 use Rattle.dscb_made.specs.Made.{IsFormat3With}
 use Rattle.vtoc_layout.specs.Layout.{AreDistinct, SetRecords, IsLinked, AreLinkedFives, AreSetRecords, records_in_set, name_of}
 use Rattle.vtoc_layout.proofs.Apart.{all_from}
-use Rattle.vtoc_layout.proofs.Distinct.{first_or_later, at_first, in_later, in_front, in_back, distinct_front, distinct_back, not_both, distinct_append, in_map, from_map}
+use Rattle.vtoc_layout.proofs.Distinct.{first_or_later, at_first, in_later, in_front, in_back, distinct_front, distinct_back, not_both, distinct_append, from_map}
 use Rattle.vtoc_write.specs.Edited.{edit_of, placed_with, after_edits}
 use Rattle.layout_edit.specs.Change.{place_of, zeroed}
 use Rattle.layout_edit.proofs.Edits.{edit_named, place_kept}
 use Rattle.vtoc_allot.specs.declared.places.Allotment.{Allotment}
 use Rattle.vtoc_allot.specs.Allotted.{listed}
 use Rattle.vtoc_plan.specs.Plan.{pointer_to, option_map, first_in, Putting, IsPut, AreFivesWith, ArePut, name_in, MayBePut}
+use Rattle.ckd_image.proofs.Lists.{contains_map}
 
 -- ---- places of what is written
 
@@ -72,7 +73,7 @@ module _ (heads : ℕ) (some_heads : 1 ≤ heads) (edits records : List Placed) 
       let found : edit_of edits at.0.place ≡ Some edit = edit_named edits edit at.0.place once c (sym at.2) in
       let same : edited at.0 ≡ edit = ap (placed_with at.0) found ∙ (λ i. record { place = at.2 i; bytes = edit.bytes }) in
       let P : Placed → Type 0 = λ placed. Contains after placed in
-      subst P same (in_map edited records at.0 at.1)
+      subst P same (contains_map edited records at.0 at.1)
 
   -- the pointer to what is written leads there
   edit_found : (edit : Placed) → Contains edits edit → named_record heads after (Some (pointer_to heads edit.place)) ≡ Some edit

@@ -13,7 +13,7 @@ use Rattle.volume_model.specs.Directory.{same_place}
 use Rattle.volume_model.specs.Dscbs.{format_of, is_f1}
 use Rattle.vtoc_check.specs.Sized.{IsSized}
 use Rattle.vtoc_layout.specs.Layout.{SetRecords, Layout, IsLayoutOf, AreSetRecords, records_in_set}
-use Rattle.vtoc_layout.proofs.Distinct.{first_or_later, at_first, in_later, in_front, in_back, in_none, in_map, from_map, in_flat, from_flat}
+use Rattle.vtoc_layout.proofs.Distinct.{first_or_later, at_first, in_later, in_front, in_back, in_none, from_map, in_flat, from_flat}
 use Rattle.vtoc_layout.proofs.FiveChains.{one_place, itself}
 use Rattle.vtoc_layout.proofs.Uses.{one_of, is_one}
 use Rattle.vtoc_write.specs.Edited.{edit_of, placed_with, after_edits}
@@ -21,6 +21,7 @@ use Rattle.vtoc_allot.specs.Allotted.{listed}
 use Rattle.layout_edit.specs.Change.{place_of, zeroed, LayoutChange, edits_of, kept_records, IsChangeOf}
 use Rattle.layout_edit.proofs.Edits.{edit_named, edit_found, place_kept}
 use Rattle.vtoc_making.specs.Places.{is_place, is_one_after, last_of}
+use Rattle.ckd_image.proofs.Lists.{contains_map}
 
 -- ---- the last of a list, by places
 
@@ -112,7 +113,7 @@ module _ (vtoc : Vtoc) (layout : Layout) (front gone back : List SetRecords) (ch
       one : (set : SetRecords) → Contains change.put set → set.one ≡ edit → is_one_record edit ≡ false
       one set there same =
           let here : Contains (listed to) edit.place =
-          subst (λ (places : List Place). Contains places edit.place) (sym to_is) (subst (λ (place : Place). Contains (map one_at change.put) place) (ap place_of same) (in_map one_at change.put set there)) in
+          subst (λ (places : List Place). Contains places edit.place) (sym to_is) (subst (λ (place : Place). Contains (map one_at change.put) place) (ap place_of same) (contains_map one_at change.put set there)) in
           absurd (both_ways (is_place to edit.place) off (there_is to edit.place here))
 
       three : (set : SetRecords) → Contains change.put set → Contains set.threes edit → is_one_record edit ≡ false
@@ -165,7 +166,7 @@ module _ (vtoc : Vtoc) (layout : Layout) (front gone back : List SetRecords) (ch
       behind : (set : SetRecords) → set.one ≡ placed → (Contains gone set ⊎ Contains back set) → is_place from placed.place ≡ true
       behind set same (inl a) =
           there_is from placed.place
-          (subst (λ (places : List Place). Contains places placed.place) (sym from_is) (subst (λ (place : Place). Contains (map one_at gone) place) (ap place_of same) (in_map one_at gone set a)))
+          (subst (λ (places : List Place). Contains places placed.place) (sym from_is) (subst (λ (place : Place). Contains (map one_at gone) place) (ap place_of same) (contains_map one_at gone set a)))
       behind set same (inr b) = kept set same (in_back of_front of_back set.one (in_flat records_in_set back set set.one b (at_first set.one set.threes)))
 
       by : (set : SetRecords) → set.one ≡ placed → (Contains front set ⊎ Contains (gone ++ back) set) → is_place from placed.place ≡ true

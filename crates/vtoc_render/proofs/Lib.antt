@@ -1,32 +1,32 @@
-pub mod GroundFound
-pub mod Below
-pub mod Numbers
-pub mod Lasts
-pub mod Copies
+mod GroundFound
+mod Below
+mod Numbers
+mod Lasts
+mod Copies
 pub mod Known
 pub mod May
 pub mod Places
 pub mod Holds
-pub mod Allots
-pub mod Few
+mod Allots
+mod Few
 pub mod PutRows
-pub mod PutPlaces
-pub mod PutFaults
-pub mod NextMark
+mod PutPlaces
+mod PutFaults
+mod NextMark
 pub mod NextRows
 pub mod NextCounts
 pub mod NextVolume
 pub mod LoadsPlan
-pub mod LoadsVolume
+mod LoadsVolume
 pub mod LoadsRows
-pub mod LoadsWritten
-pub mod LoadsAfterIs
+mod LoadsWritten
+mod LoadsAfterIs
 pub mod PlacedLists
 pub mod PlacedRows
 pub mod PlacedTracks
 pub mod PlacedSpace
 pub mod PlacedTakes
-pub mod Placed
-pub mod Highest
-pub mod ChangeWritten
+mod Placed
+mod Highest
+mod ChangeWritten
 pub mod LoadsSlots

@@ -22,8 +22,7 @@ use Rattle.volume_model.specs.Unit.{fives_for}
 use Rattle.vtoc_core.specs.declared.volume.Row.{Row}
 use Rattle.vtoc_core.specs.declared.volume.Volume.{Volume}
 use Rattle.vtoc_core.specs.Loaded.{HasItsName}
-use Rattle.vtoc_core.proofs.Reordered.{bytes_itself, bytes_equal}
-use Rattle.vtoc_layout.proofs.Distinct.{at_first, in_later, in_map, among_others, distinct_others, one_of_map}
+use Rattle.vtoc_layout.proofs.Distinct.{among_others, distinct_others, one_of_map}
 use Rattle.vtoc_layout.specs.Layout.{SetRecords, AreDistinct, name_of, sets_of, records_in_set}
 use Rattle.layout_edit.specs.Change.{place_of, zeroed, LayoutChange, edits_of}
 use Rattle.vtoc_allot.specs.declared.held.Held.{Held}
@@ -49,6 +48,9 @@ use Rattle.vtoc_render.proofs.Holds.{named_split, one_gone}
 use Rattle.vtoc_render.proofs.May.{IsFit, put_fits}
 use Rattle.vtoc_render.proofs.NextCounts.{found_passes, none_passes}
 use Rattle.vtoc_render.proofs.NextVolume.{put_named}
+use Rattle.volume_model.proofs.Numbers.{bytes_itself, bytes_equal}
+use Rattle.layout_edit.proofs.Changes.{distinct_of_map}
+use Rattle.vtoc_layout.proofs.Apart.{all_from}
 
 -- ---- what is put
 
@@ -155,14 +157,6 @@ are_put heads (Some row) allotment set none is =
 
 -- ---- its name is its own
 
-all_of : {X : Type 0} (P : X → Type 0) (xs : List X) → ((x : X) → Contains xs x → P x) → All P xs
-all_of P [] each = All-nil P
-all_of P (x ∷ xs) each = All-cons P x xs (each x (at_first x xs)) (all_of P xs (λ y c. each y (in_later x y xs c)))
-
-distinct_of_map : {X Y : Type 0} (f : X → Y) (xs : List X) → AreDistinct (map f xs) → AreDistinct xs
-distinct_of_map f [] is = tt
-distinct_of_map f (x ∷ xs) is = ((λ c. is.0 (in_map f xs x c)), distinct_of_map f xs is.1)
-
 others_named : (name : List ℕ) (sets front back : List SetRecords) (found : Option SetRecords) → AreDistinct (map name_of sets) → find (λ set. same_bytes (name_of set) name) sets ≡ found
     → sets ≡ front ++ (option_to_list found ++ back) → (set : SetRecords) → Contains (front ++ back) set → name_of set ≢ name
 others_named name sets front back None apart e parts set c named =
@@ -212,7 +206,7 @@ module _ {head : Head} {label : Label} {unit : Slots} {before : Bool} {slots : L
   names_apart (Some name) (Some row) is named =
       let parts = named_split vtoc (Some name) in
       let same : name ≡ take 44 row.f1 = (let e : Some name ≡ Some row.name = is in let r : name ≡ row.name = cc in r) ∙ named in
-      all_of (λ (set : SetRecords). name_of set ≢ take 44 row.f1) (parts.0 ++ parts.1)
+      all_from (λ (set : SetRecords). name_of set ≢ take 44 row.f1) (parts.0 ++ parts.1)
       (λ set c e. others_named name (sets_of vtoc) parts.0 parts.1 (set_named vtoc name) (has_layout was).names refl parts.2 set c (e ∙ sym same))
 
   pub was_planned : (change : Change) (name : Option (List ℕ)) (put : Option Row) (rendered : Rendered) → MayChange volume change → IsAimOf change name put

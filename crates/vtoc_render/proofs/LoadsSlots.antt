@@ -3,7 +3,7 @@ use Rattle.std.proofs.Common.{◌≡◌, ◌≢◌, ℕ, zero, suc, ◌+◌, ◌
 use Rattle.std.specs.Prelude.{nat_le, nat_lt, slice_index_or}
 use Rattle.std.proofs.lemmas.Bool.{and_parts, leb-true, ltb-true, eqb-true}
 use Rattle.std.proofs.lemmas.List.{length-take, length-drop}
-use Rattle.std.proofs.lemmas.List.Elements.{All-nil, All-cons, All-get_or}
+use Rattle.std.proofs.lemmas.List.Elements.{All-get_or}
 use Rattle.ckd_image.specs.declared.device.Device.{Device}
 use Rattle.ckd_image.specs.declared.device.Device.TheVariants.{D3390, D3380}
 use Rattle.ckd_image.specs.declared.head.Head.{Head}
@@ -15,7 +15,6 @@ use Rattle.ckd_image.specs.Device.{heads_of, slot_of}
 use Rattle.ckd_image.specs.Track.{IsTrackText}
 use Rattle.free_map.specs.declared.run.Run.{Run}
 use Rattle.vol_label.specs.declared.label.Label.{Label}
-use Rattle.volume_model.specs.declared.place.Breach.{Breach}
 use Rattle.volume_model.specs.declared.place.Placed.{Placed}
 use Rattle.volume_model.specs.declared.place.Vtoc.{Vtoc}
 use Rattle.volume_model.specs.Check.{records_of, bad_tracks, bad_dscbs, bad_names, bad_pointers, bad_fives, bad_ranges, bad_overlaps, bad_free}
@@ -26,13 +25,14 @@ use Rattle.volume_model.specs.Sound.{Slots, dscb_of, IsTrackReading, IsVtoc, lim
 use Rattle.vtoc_check.specs.Slots.{AreSlotsOf}
 use Rattle.vtoc_check.proofs.Overlapping.{run_facts}
 use Rattle.vtoc_core.specs.declared.volume.Volume.{Volume}
-use Rattle.vtoc_core.proofs.Pairs.{front_none}
 use Rattle.vtoc_core.proofs.Placed.{NumberedFrom, numbered_from}
 use Rattle.vtoc_layout.proofs.Distinct.{in_later, in_front, in_back}
 use Rattle.vtoc_load.specs.LoadedVtoc.{IsLoadedVtoc}
-use Rattle.vtoc_write.proofs.Texts.{is_address, short_slot}
 use Rattle.vtoc_rewrite.proofs.Addresses.{address_fits, one_address, one_text_anywhere}
 use Rattle.vtoc_render.specs.Loads.{LoadsFrom, LoadedVolumesLoadFrom}
+use Rattle.ckd_image.proofs.Lists.{left_nil}
+use Rattle.ckd_image.proofs.Devices.{is_address, short_slot}
+use Rattle.render_laws.proofs.Before.{tracks_are}
 
 -- ---- a record among those of a VTOC
 
@@ -40,7 +40,7 @@ abbrev at_place : ℕ → ℕ → List ℕ → Placed
 at_place track n bytes = record { place = record { track = track; record_number = n }; bytes = bytes }
 
 -- the record with a number, on its track
-on_track : (track n r : ℕ) (recs : List Rec) (rec : Rec) → NumberedFrom n recs → find (λ x. x.r == r) recs ≡ Some rec
+pub on_track : (track n r : ℕ) (recs : List Rec) (rec : Rec) → NumberedFrom n recs → find (λ x. x.r == r) recs ≡ Some rec
     → Contains (placed_from track n (map dscb_of recs)) (at_place track r (dscb_of rec))
 on_track track n r [] rec numbered found = absurd cc
 on_track track n r (x ∷ recs) rec numbered found = by (x.r == r) refl found (on_track track (n + 1) r recs rec numbered.1)
@@ -57,7 +57,7 @@ on_track track n r (x ∷ recs) rec numbered found = by (x.r == r) refl found (o
     by false other e later = in_later (at_place track n (dscb_of x)) (at_place track r (dscb_of rec)) placed (later e)
 
 -- a record of a track, among those of all
-in_tracks : (first k : ℕ) (tracks : List (Option (List (List ℕ)))) (dscbs : List (List ℕ)) (placed : Placed) → slice_index_or tracks k None ≡ Some dscbs
+pub in_tracks : (first k : ℕ) (tracks : List (Option (List (List ℕ)))) (dscbs : List (List ℕ)) (placed : Placed) → slice_index_or tracks k None ≡ Some dscbs
     → Contains (placed_from (first + k) 1 dscbs) placed → Contains (placed_in first tracks) placed
 in_tracks first k [] dscbs placed e c = absurd (none e)
   where
@@ -76,16 +76,6 @@ in_tracks first (suc k) (Some here ∷ tracks) dscbs placed e c =
     let track : first + suc k ≡ first + 1 + k = omega arith in
     in_back (placed_from first 1 here) (placed_in (first + 1) tracks) placed
     (in_tracks (first + 1) k tracks dscbs placed e (subst (λ (n : ℕ). Contains (placed_from n 1 dscbs) placed) track c))
-
--- each track is read where none is told
-tracks_are : (track : ℕ) (tracks : List (Option (List (List ℕ)))) → bad_tracks track tracks ≡ [] → All (λ dscbs. dscbs ≢ None) tracks
-tracks_are track [] e = All-nil (λ (dscbs : Option (List (List ℕ))). dscbs ≢ None)
-tracks_are track (None ∷ more) e = absurd (bare (bad_tracks (track + 1) more) e)
-  where
-    bare : {x : Breach} (xs : List Breach) → x ∷ xs ≡ [] → ⊥
-    bare {x} xs e = let q : x ∷ xs ≡ [] = e in cc
-tracks_are track (Some dscbs ∷ more) e =
-    All-cons (λ (dscbs : Option (List (List ℕ))). dscbs ≢ None) (Some dscbs) more (λ same. cc) (tracks_are (track + 1) more e)
 
 -- ---- the slots
 
@@ -142,8 +132,8 @@ module _ (head : Head) (label : Label) (unit : Slots) (sliding : Bool) (slots : 
       let six = five ++ bad_ranges vtoc in
       let seven = six ++ bad_overlaps vtoc in
       tracks_are vtoc.run.first vtoc.tracks
-      (front_none one (bad_dscbs vtoc) (front_none two (bad_names vtoc) (front_none three (bad_pointers vtoc) (front_none four (bad_fives vtoc)
-      (front_none five (bad_ranges vtoc) (front_none six (bad_overlaps vtoc) (front_none seven (bad_free vtoc) loaded.sound)))))))
+      (left_nil one (bad_dscbs vtoc) (left_nil two (bad_names vtoc) (left_nil three (bad_pointers vtoc) (left_nil four (bad_fives vtoc)
+      (left_nil five (bad_ranges vtoc) (left_nil six (bad_overlaps vtoc) (left_nil seven (bad_free vtoc) loaded.sound)))))))
 
   -- its record among those that are read of its track
   read_there : (k : ℕ) (dscbs : Option (List (List ℕ))) → slice_index_or vtoc.tracks k None ≡ dscbs → dscbs ≢ None → vtoc.run.first + k ≡ home → k < vtoc.run.len

@@ -21,9 +21,8 @@ use Rattle.vtoc_check.specs.Sized.{IsSized}
 use Rattle.vtoc_core.specs.declared.volume.Row.{Row}
 use Rattle.vtoc_core.specs.declared.volume.Volume.{Volume}
 use Rattle.vtoc_core.specs.Loaded.{row_in, records_for, HasItsName}
-use Rattle.vtoc_core.proofs.Reordered.{bytes_itself, bytes_equal}
 use Rattle.vtoc_layout.specs.Layout.{SetRecords, Layout, IsLayoutOf, name_of, row_by, sets_of, layout_of}
-use Rattle.vtoc_layout.proofs.Distinct.{first_or_later, from_map, in_map, one_of_map, no_more, distinct_filter, from_filter, in_filter}
+use Rattle.vtoc_layout.proofs.Distinct.{first_or_later, from_map, one_of_map, no_more, distinct_filter, from_filter, in_filter}
 use Rattle.vtoc_layout.proofs.Uses.{all_distinct, is_four, four_there}
 use Rattle.vtoc_load.specs.Counted.{fours_of}
 use Rattle.vtoc_load.proofs.Counting.{counted}
@@ -43,6 +42,8 @@ use Rattle.vtoc_render.specs.Next.{used_by}
 use Rattle.vtoc_render.specs.Steps.{IsSpotFor, gone_from, has_three, wanted_for}
 use Rattle.vtoc_render.specs.Written.{volume_with}
 use Rattle.vtoc_render.proofs.NextRows.{going, staying, found_goes, none_goes, IsPutAs}
+use Rattle.ckd_image.proofs.Lists.{contains_map}
+use Rattle.volume_model.proofs.Numbers.{bytes_itself, bytes_equal}
 
 -- ---- the first that passes a test
 
@@ -91,7 +92,7 @@ module _ {head : Head} {label : Label} {unit : Slots} {before : Bool} {slots : L
   pub row_of_set : (set : SetRecords) → Contains (sets_of vtoc) set → IsRowOf set
   row_of_set set c =
       let got = from_map row_in volume.rows (row_by set)
-      (Contains-permutation (map row_by (sets_of vtoc)) (map row_in volume.rows) (row_by set) sets_and_rows (in_map row_by (sets_of vtoc) set c)) in
+      (Contains-permutation (map row_by (sets_of vtoc)) (map row_in volume.rows) (row_by set) sets_and_rows (contains_map row_by (sets_of vtoc) set c)) in
       record {
         row = got.0;
         there = got.1;
@@ -109,7 +110,7 @@ module _ {head : Head} {label : Label} {unit : Slots} {before : Bool} {slots : L
   set_of_row row c =
       let got = from_map row_by (sets_of vtoc) (row_in row)
       (Contains-permutation (map row_in volume.rows) (map row_by (sets_of vtoc)) (row_in row) (IsPermutation-sym (map row_by (sets_of vtoc)) (map row_in volume.rows) sets_and_rows)
-      (in_map row_in volume.rows row c)) in
+      (contains_map row_in volume.rows row c)) in
       record {
         set = got.0;
         there = got.1;

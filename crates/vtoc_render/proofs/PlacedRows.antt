@@ -13,7 +13,7 @@ use Rattle.vtoc_core.specs.declared.volume.Row.{Row}
 use Rattle.vtoc_core.specs.declared.volume.Volume.{Volume}
 use Rattle.vtoc_core.specs.Loaded.{row_in}
 use Rattle.vtoc_layout.specs.Layout.{SetRecords, AreDistinct, sets_of, row_by}
-use Rattle.vtoc_layout.proofs.Distinct.{in_map, from_map}
+use Rattle.vtoc_layout.proofs.Distinct.{from_map}
 use Rattle.layout_found.specs.Sets.{set_named}
 use Rattle.volume_change.specs.declared.spot.Spot.{Spot}
 use Rattle.volume_change.specs.Spot.{behind, rows_with}
@@ -25,6 +25,7 @@ use Rattle.vtoc_render.proofs.Holds.{named_split}
 use Rattle.vtoc_render.proofs.NextCounts.{IsGone, sets_and_rows, gone_named, same_with}
 use Rattle.vtoc_render.proofs.NextRows.{staying}
 use Rattle.vtoc_render.proofs.PlacedLists.{taken_out, put_into}
+use Rattle.ckd_image.proofs.Lists.{contains_map}
 
 -- a row that goes or is put, and its records
 abbrev pub ArePair : Option Row → List SetRecords → Type 0
@@ -43,7 +44,7 @@ distinct_by f g [] d = tt
 distinct_by {X} {Y} {Z} f g (x ∷ xs) d = (λ c. first (from_map f xs (f x) c), distinct_by f g xs d.1)
   where
     first : ((y : X) × Contains xs y × (f y ≡ f x)) → ⊥
-    first h = d.0 (subst (λ (z : Z). Contains (map (λ x. g (f x)) xs) z) (ap g h.2) (in_map (λ x. g (f x)) xs h.0 h.1))
+    first h = d.0 (subst (λ (z : Z). Contains (map (λ x. g (f x)) xs) z) (ap g h.2) (contains_map (λ x. g (f x)) xs h.0 h.1))
 
 without : (front back : List SetRecords) (ahead later : List Row) (row : Option Row) (sets : List SetRecords) → ArePair row sets → AreDistinct (map row_by (front ++ (sets ++ back)))
     → AreThese (front ++ (sets ++ back)) (ahead ++ (option_to_list row ++ later)) → AreThese (front ++ back) (ahead ++ later)

@@ -1,10 +1,8 @@
 -- The free tracks after a change are those of its layout.
 use Rattle.std.proofs.Common.{◌≡◌, ◌⊎◌, inl, inr, ℕ, ◌==◌, ◌&&◌, ◌||◌, not, nat_lt, List, ◌∷◌, ◌++◌, map, Contains, Bool, true, false, Option, Some, None, sym, ap, subst, ◌∙◌, arith}
 use Rattle.std.specs.Prelude.{IsTrue, option_to_list}
-use Rattle.std.specs.List.{flat_map, list_any}
+use Rattle.std.specs.List.{list_any}
 use Rattle.std.specs.List.Sorted.{IsPermutation}
-use Rattle.std.proofs.lemmas.List.{map-append}
-use Rattle.std.proofs.lemmas.Grind.{flat_map-append}
 use Rattle.std.proofs.lemmas.List.Elements.{All-contains}
 use Rattle.std.proofs.lemmas.List.Sorted.{list_any-IsPermutation}
 use Rattle.ckd_image.specs.declared.head.Head.{Head}
@@ -26,19 +24,15 @@ use Rattle.vtoc_layout.proofs.Distinct.{in_later, in_front, in_back}
 use Rattle.vtoc_layout.proofs.ExtentRules.{extents_permuted}
 use Rattle.layout_edit.specs.Space.{runs_in_sets}
 use Rattle.volume_change.specs.Runs.{runs_in, IsFreeAfter}
-use Rattle.volume_change.proofs.Tracks.{in_front as in_front_runs, in_back as in_back_runs, in_either}
 use Rattle.render_laws.specs.Rendered.{WasLoaded}
 use Rattle.render_laws.proofs.Before.{has_layout, apart, ends, extent_there}
 use Rattle.vtoc_render.specs.Next.{runs_of_rows}
 use Rattle.vtoc_render.proofs.LoadsPlan.{nothing_more}
 use Rattle.vtoc_render.proofs.PlacedRows.{ArePair}
-use Rattle.vtoc_render.proofs.PlacedTracks.{IsUnused, unused_free, free_unused, in_or_not, run_with, none_shared}
-
-pub runs_two : (heads : ℕ) (xs ys : List SetRecords) → runs_in_sets heads (xs ++ ys) ≡ runs_in_sets heads xs ++ runs_in_sets heads ys
-runs_two heads xs ys = ap (map (run_of heads)) (flat_map-append extents_in_set xs ys) ∙ map-append (run_of heads) (flat_map extents_in_set xs) (flat_map extents_in_set ys)
-
-runs_three : (heads : ℕ) (xs ys zs : List SetRecords) → runs_in_sets heads (xs ++ (ys ++ zs)) ≡ runs_in_sets heads xs ++ (runs_in_sets heads ys ++ runs_in_sets heads zs)
-runs_three heads xs ys zs = runs_two heads xs (ys ++ zs) ∙ ap (λ (runs : List Run). runs_in_sets heads xs ++ runs) (runs_two heads ys zs)
+use Rattle.vtoc_render.proofs.PlacedTracks.{IsUnused, unused_free, free_unused, in_or_not, none_shared}
+use Rattle.free_map.proofs.Gaps.{in_append, append_left as in_front_runs, append_right as in_back_runs}
+use Rattle.layout_edit.proofs.Spaces.{runs_three}
+use Rattle.vtoc_layout.proofs.FreeRules.{held_by}
 
 -- the runs of a row are those of its records
 pub runs_of_pair : (volume : Volume) (heads : ℕ) (row : Option Row) (sets : List SetRecords) → heads_of volume.device ≡ heads → ArePair row sets
@@ -52,7 +46,7 @@ runs_of_pair volume heads (Some row) sets same pair =
 
 -- a track of none of two lists of runs
 neither : (xs ys : List Run) (track : ℕ) → ¬ InRuns xs track → ¬ InRuns ys track → ¬ InRuns (xs ++ ys) track
-neither xs ys track p q h = by (in_either xs ys track h)
+neither xs ys track p q h = by (in_append xs ys track h)
   where
     by : (InRuns xs track ⊎ InRuns ys track) → ⊥
     by (inl a) = p a
@@ -96,7 +90,7 @@ module _ {head : Head} {label : Label} {unit : Slots} {before : Bool} {slots : L
     -- a track of what goes is used by nothing else
     pub gone_unused : (track : ℕ) → InRuns (runs gone) track → IsUnused volume.usable vtoc.run (runs front ++ runs back) track
     gone_unused track h =
-        let at = run_with (runs gone) track h in
+        let at = held_by (runs gone) track h in
         let run = at.0 in
         let within = ends was run (in_later track_0 run (vtoc.run ∷ extents_in vtoc) (in_later vtoc.run run (extents_in vtoc) (extent_there was run (there run at.1)))) in
         record {
@@ -108,12 +102,12 @@ module _ {head : Head} {label : Label} {unit : Slots} {before : Bool} {slots : L
       where
         in_ahead : (run : Run) → Contains (runs gone) run → HasTrack run track → ¬ InRuns (runs front) track
         in_ahead run c held k =
-            let other = run_with (runs front) track k in
+            let other = held_by (runs front) track k in
             none_shared other.0 run track (apart_between (runs front) (runs gone ++ runs back) apart_parts other.0 run other.1 (in_front (runs gone) (runs back) run c)) other.2 held
 
         in_behind : (run : Run) → Contains (runs gone) run → HasTrack run track → ¬ InRuns (runs back) track
         in_behind run c held k =
-            let other = run_with (runs back) track k in
+            let other = held_by (runs back) track k in
             none_shared run other.0 track (apart_between (runs gone) (runs back) (apart_back (runs front) (runs gone ++ runs back) apart_parts) run other.0 c other.1) held other.2
 
     -- a track that is free, or that is given back, is used by nothing that stays

@@ -21,7 +21,6 @@ use Rattle.vtoc_check.proofs.Overlapping.{run_facts}
 use Rattle.vtoc_core.specs.declared.volume.Row.{Row}
 use Rattle.vtoc_core.specs.declared.volume.Volume.{Volume}
 use Rattle.vtoc_core.specs.Loaded.{field_of}
-use Rattle.vtoc_core.proofs.Reordered.{bytes_itself, bytes_equal}
 use Rattle.vtoc_layout.specs.Layout.{SetRecords, AreApart, name_of, row_by, sets_of, layout_of, extents_by, extents_in_set}
 use Rattle.vtoc_layout.proofs.Apart.{all_from}
 use Rattle.vtoc_layout.proofs.Distinct.{from_map, from_flat, in_flat, in_front, in_back, one_of_map}
@@ -43,8 +42,10 @@ use Rattle.vtoc_render.proofs.LoadsRows.{runs_put_are, ranges_put}
 use Rattle.vtoc_render.proofs.May.{put_fits}
 use Rattle.vtoc_render.proofs.NextCounts.{found_passes, none_passes, set_of_row}
 use Rattle.vtoc_render.proofs.PlacedRows.{ArePair}
-use Rattle.vtoc_render.proofs.PlacedSpace.{runs_two, runs_of_pair, left_unused}
+use Rattle.vtoc_render.proofs.PlacedSpace.{runs_of_pair, left_unused}
 use Rattle.vtoc_render.proofs.PlacedTracks.{IsUnused, apart_if}
+use Rattle.volume_model.proofs.Numbers.{bytes_itself, bytes_equal}
+use Rattle.render_laws.proofs.SpaceAfter.{runs_two}
 
 module _ {head : Head} {label : Label} {unit : Slots} {before : Bool} {slots : List ℕ} {volume : Volume} {vtoc : Vtoc} {four : Placed}
     (was : WasLoaded head label unit before slots volume vtoc four) where

@@ -1,28 +1,16 @@
 -- Tracks that are used or free, and runs with a track in common.
-use Rattle.std.proofs.Common.{◌≡◌, ◌≢◌, ◌⊎◌, inl, inr, ℕ, ◌<◌, ◌≤◌, ◌==◌, ◌&&◌, ◌||◌, not, nat_lt, nat_le, List, [], ◌∷◌, Contains, Bool, true, false, refl, ap, ◌∙◌, arith}
+use Rattle.std.proofs.Common.{◌≡◌, ◌≢◌, ◌⊎◌, inl, inr, ℕ, ◌<◌, ◌≤◌, ◌==◌, ◌&&◌, ◌||◌, not, nat_lt, nat_le, List, [], ◌∷◌, Bool, true, false, refl, ◌∙◌, arith}
 use Rattle.std.specs.List.{list_any}
-use Rattle.std.proofs.lemmas.Bool.{both_ways, and_parts, cases_lt, eq-eqb, eqb-true, lt-ltb, le-leb, ltb-true, leb-true}
+use Rattle.std.proofs.lemmas.Bool.{both_ways, and_parts, eq-eqb, eqb-true, lt-ltb, ltb-true, leb-true}
 use Rattle.free_map.specs.declared.run.Run.{Run}
 use Rattle.free_map.specs.Runs.{HasTrack, InRuns}
 use Rattle.volume_model.specs.Space.{end_of, has_track, overlap, is_used, is_free}
-use Rattle.vtoc_layout.proofs.Distinct.{at_first, in_later}
-
-holds_has : (run : Run) (track : ℕ) → HasTrack run track → has_track track run ≡ true
-holds_has run track h = λ i. le-leb run.first track h.0 i && lt-ltb track (end_of run) h.1 i
+use Rattle.vtoc_layout.proofs.FreeRules.{held_has, in_runs_any, shared_track}
 
 has_holds : (run : Run) (track : ℕ) → has_track track run ≡ true → HasTrack run track
 has_holds run track e =
     let parts = and_parts (nat_le run.first track) (nat_lt track (end_of run)) e in
     (leb-true run.first track parts.0, ltb-true track (end_of run) parts.1)
-
-in_any : (runs : List Run) (track : ℕ) → InRuns runs track → list_any (has_track track) runs ≡ true
-in_any [] track h = absurd h
-in_any (run ∷ runs) track (inl h) = ap (λ (b : Bool). b || list_any (has_track track) runs) (holds_has run track h)
-in_any (run ∷ runs) track (inr h) = ap (λ (b : Bool). has_track track run || b) (in_any runs track h) ∙ or_true (has_track track run)
-  where
-    or_true : (b : Bool) → (b || true) ≡ true
-    or_true true = refl
-    or_true false = refl
 
 any_in : (runs : List Run) (track : ℕ) → list_any (has_track track) runs ≡ true → InRuns runs track
 any_in [] track e = absurd (both_ways false refl e)
@@ -37,12 +25,7 @@ in_or_not runs track = by (list_any (has_track track) runs) refl
   where
     by : (b : Bool) → list_any (has_track track) runs ≡ b → InRuns runs track ⊎ ¬ InRuns runs track
     by true e = inl (any_in runs track e)
-    by false e = inr (λ h. both_ways (list_any (has_track track) runs) e (in_any runs track h))
-
-pub run_with : (runs : List Run) (track : ℕ) → InRuns runs track → (run : Run) × Contains runs run × HasTrack run track
-run_with [] track h = absurd h
-run_with (run ∷ runs) track (inl h) = (run, at_first run runs, h)
-run_with (run ∷ runs) track (inr h) = let r = run_with runs track h in (r.0, in_later run r.0 runs r.1, r.2)
+    by false e = inr (λ h. both_ways (list_any (has_track track) runs) e (in_runs_any runs track h))
 
 -- a track below the usable ones that is none of the used ones
 pub record IsUnused (usable : ℕ) (vtoc : Run) (runs : List Run) (track : ℕ) : Type 0 where
@@ -68,8 +51,8 @@ unused_free usable vtoc runs track e =
     record {
       below = ltb-true track usable parts.0;
       some = λ same. both_ways (track == 0) none.0 (eq-eqb track 0 same);
-      off = λ h. both_ways (has_track track vtoc) none.1 (holds_has vtoc track h);
-      none = λ h. both_ways (list_any (has_track track) runs) none.2 (in_any runs track h);
+      off = λ h. both_ways (has_track track vtoc) none.1 (held_has vtoc track h);
+      none = λ h. both_ways (list_any (has_track track) runs) none.2 (in_runs_any runs track h);
     }
 
 pub free_unused : (usable : ℕ) (vtoc : Run) (runs : List Run) (track : ℕ) → IsUnused usable vtoc runs track → is_free usable vtoc runs track ≡ true
@@ -84,22 +67,6 @@ free_unused usable vtoc runs track is =
 pub none_shared : (a b : Run) (track : ℕ) → overlap a b ≡ false → HasTrack a track → HasTrack b track → ⊥
 none_shared a b track e p q =
     both_ways (overlap a b) e (λ i. lt-ltb a.first (end_of b) (omega (arith, p.0, q.1)) i && lt-ltb b.first (end_of a) (omega (arith, q.0, p.1)) i)
-
-shared_track : (a b : Run) → 1 ≤ a.len → 1 ≤ b.len → overlap a b ≡ true → (track : ℕ) × HasTrack a track × HasTrack b track
-shared_track a b p q e = by (cases_lt a.first b.first)
-  where
-    parts : (nat_lt a.first (end_of b) ≡ true) × (nat_lt b.first (end_of a) ≡ true)
-    parts = and_parts (nat_lt a.first (end_of b)) (nat_lt b.first (end_of a)) e
-
-    before : a.first < end_of b
-    before = ltb-true a.first (end_of b) parts.0
-
-    after : b.first < end_of a
-    after = ltb-true b.first (end_of a) parts.1
-
-    by : ((a.first < b.first) ⊎ (b.first ≤ a.first)) → (track : ℕ) × HasTrack a track × HasTrack b track
-    by (inl less) = (b.first, (omega (arith, less), omega (arith, after)), (omega arith, omega (arith, q)))
-    by (inr more) = (a.first, (omega arith, omega (arith, p)), (omega (arith, more), omega (arith, before)))
 
 -- runs with tracks and none in common don't overlap
 pub apart_if : (a b : Run) → 1 ≤ a.len → 1 ≤ b.len → ((track : ℕ) → HasTrack a track → HasTrack b track → ⊥) → overlap a b ≡ false

@@ -21,15 +21,16 @@ use Rattle.vtoc_core.specs.declared.volume.Volume.{Volume}
 use Rattle.vtoc_core.specs.Loaded.{row_in, field_of}
 use Rattle.vtoc_layout.specs.Layout.{SetRecords, layout_of, sets_of, row_by, extents_in_set, extents_by}
 use Rattle.vtoc_layout.proofs.Apart.{all_from}
-use Rattle.vtoc_layout.proofs.Distinct.{in_later, in_map, from_map, in_flat}
+use Rattle.vtoc_layout.proofs.Distinct.{in_later, from_map, in_flat}
 use Rattle.vtoc_layout.proofs.Layouts.{rows}
 use Rattle.volume_change.specs.declared.spot.Spot.{Spot}
 use Rattle.render_laws.specs.Rendered.{WasLoaded}
 use Rattle.render_laws.proofs.Before.{has_layout, apart, ends, extent_there}
 use Rattle.vtoc_render.specs.Steps.{AreBelow, gone_from}
+use Rattle.ckd_image.proofs.Lists.{contains_map}
 
 -- a run that ends below some tracks is one of these
-run_below : (heads limit usable : ℕ) (extent : ExtentField) → is_run heads limit extent ≡ true → end_of (run_of heads extent) ≤ usable → is_run heads usable extent ≡ true
+pub run_below : (heads limit usable : ℕ) (extent : ExtentField) → is_run heads limit extent ≡ true → end_of (run_of heads extent) ≤ usable → is_run heads usable extent ≡ true
 run_below heads limit usable extent is within =
     let known = nat_lt extent.first.head heads && nat_lt extent.last.head heads in
     let ordered = nat_le (track_at heads extent.first) (track_at heads extent.last) in
@@ -53,20 +54,20 @@ module _ {head : Head} {label : Label} {unit : Slots} {before : Bool} {slots : L
       let run = run_of vtoc.heads extent in
       run_below vtoc.heads vtoc.limit volume.usable extent (All-contains (λ (e : ExtentField). is_run vtoc.heads vtoc.limit e ≡ true) extents extent (apart was).ranges there)
       (ends was run
-      (in_later track_0 run (vtoc.run ∷ extents_in vtoc) (in_later vtoc.run run (extents_in vtoc) (extent_there was run (in_map (run_of vtoc.heads) extents extent there)))))
+      (in_later track_0 run (vtoc.run ∷ extents_in vtoc) (in_later vtoc.run run (extents_in vtoc) (extent_there was run (contains_map (run_of vtoc.heads) extents extent there)))))
 
   row_below : (row : Row) → Contains volume.rows row → AreBelow volume row.extents
   row_below row c =
       let found = rows_of vtoc.heads (records_of vtoc) in
       let rows_are = map row_in volume.rows in
       let sets = map row_by (sets_of vtoc) in
-      let listed = Contains-permutation rows_are found (row_in row) (IsPermutation-sym found rows_are was.volume_is.rows_are.same) (in_map row_in volume.rows row c) in
+      let listed = Contains-permutation rows_are found (row_in row) (IsPermutation-sym found rows_are was.volume_is.rows_are.same) (contains_map row_in volume.rows row c) in
       let at = from_map row_by (sets_of vtoc) (row_in row) (Contains-permutation found sets (row_in row) (rows vtoc (layout_of vtoc four) was.sized (has_layout was)) listed) in
       all_from (λ (extent : Extent). is_run (heads_of volume.device) volume.usable (field_of extent) ≡ true) row.extents
       (λ extent h.
       subst (λ (heads : ℕ). is_run heads volume.usable (field_of extent) ≡ true) same_heads
       (set_below at.0 at.1 (field_of extent)
-      (subst (λ (fields : List ExtentField). Contains fields (field_of extent)) (λ i. (sym at.2 i).extents) (in_map field_of row.extents extent h))))
+      (subst (λ (fields : List ExtentField). Contains fields (field_of extent)) (λ i. (sym at.2 i).extents) (contains_map field_of row.extents extent h))))
 
   -- those of the row that goes
   pub gone_below : (spot : Spot) → IfSome (gone_from volume.rows spot) (λ row. AreBelow volume row.extents)

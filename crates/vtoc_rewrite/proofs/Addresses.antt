@@ -9,7 +9,7 @@ use Rattle.ckd_image.specs.declared.track.TrackAt.{TrackAt}
 use Rattle.ckd_image.specs.Address.{address, IsAddress}
 use Rattle.ckd_image.specs.Device.{heads_of}
 use Rattle.ckd_image.specs.Track.{end_mark, track_text, IsTrackText}
-use Rattle.ckd_image.proofs.OneText.{one_text}
+use Rattle.ckd_image.proofs.OneText.{one_text, same_two}
 use Rattle.ckd_image.proofs.Records.{same_address}
 use Rattle.volume_model.specs.Space.{track_at}
 
@@ -48,9 +48,6 @@ one_text_anywhere at slot a b short one other =
 
 -- ---- one address
 
-same_number : (m n : ℕ) → m ≤ 65535 → n ≤ 65535 → m / 256 % 256 ≡ n / 256 % 256 → m % 256 ≡ n % 256 → m ≡ n
-same_number m n p q high low = omega arith
-
 pub one_address : (a b : TrackAt) (slot : List ℕ) (s t : Track) → IsAddress a → IsAddress b → IsTrackText a slot s → IsTrackText b slot t → a ≡ b
 one_address a b slot s t p q one other =
     let same : track_text a s ++ one.text.0 ≡ track_text b t ++ other.text.0 = sym one.text.1 ∙ other.text.1 in
@@ -58,7 +55,7 @@ one_address a b slot s t p q one other =
     let c0 : a.cylinder % 256 ≡ b.cylinder % 256 = cc in
     let h1 : a.head / 256 % 256 ≡ b.head / 256 % 256 = cc in
     let h0 : a.head % 256 ≡ b.head % 256 = cc in
-    same_address a b (same_number _ _ p.0 q.0 c1 c0) (same_number _ _ p.1 q.1 h1 h0)
+    same_address a b (same_two _ _ p.0 q.0 c1 c0) (same_two _ _ p.1 q.1 h1 h0)
 
 -- the address of a track of an image fits its bytes
 pub address_fits : (device : Device) (at : TrackAt) → track_at (heads_of device) at ≤ 65535 → IsAddress at

@@ -14,7 +14,7 @@ use Rattle.volume_model.specs.Space.{track_at, run_of}
 use Rattle.volume_model.specs.Sound.{Slots, dscb_of, IsTrackReading, IsReading, IsFormat4, limit_of, is_valid, IsVtoc}
 use Rattle.vtoc_rewrite.proofs.Addresses.{one_text_anywhere}
 
-one_format_4 : (heads : ℕ) (slots : Slots) (pointer : Cchhr) (a b : List ℕ) → length (slots (track_at heads pointer.at)) ≤ 65536
+pub one_format_4 : (heads : ℕ) (slots : Slots) (pointer : Cchhr) (a b : List ℕ) → length (slots (track_at heads pointer.at)) ≤ 65536
     → IsFormat4 heads slots pointer a → IsFormat4 heads slots pointer b → a ≡ b
 one_format_4 heads slots pointer a b short one other =
     let text : one.text ≡ other.text = one_text_anywhere pointer.at (slots (track_at heads pointer.at)) one.text other.text short one.stands other.stands in
@@ -22,7 +22,7 @@ one_format_4 heads slots pointer a b short one other =
     same_Some one.rec other.rec (sym one.numbered ∙ ap (λ (t : Track). find (λ x. x.r == pointer.r) t.recs) text ∙ other.numbered) in
     one.bytes_are ∙ ap dscb_of rec ∙ sym other.bytes_are
 
-one_track : (heads track : ℕ) (slot : List ℕ) (a b : Option (List (List ℕ))) → length slot ≤ 65536 → IsTrackReading heads track slot a → IsTrackReading heads track slot b → a ≡ b
+pub one_track : (heads track : ℕ) (slot : List ℕ) (a b : Option (List (List ℕ))) → length slot ≤ 65536 → IsTrackReading heads track slot a → IsTrackReading heads track slot b → a ≡ b
 one_track heads track slot None None short one other = refl
 one_track heads track slot None (Some b) short one other = absurd (one b other)
 one_track heads track slot (Some a) None short one other = absurd (other a one)

@@ -25,12 +25,12 @@ use Rattle.vtoc_check.proofs.Overlapping.{run_facts}
 use Rattle.vtoc_write.specs.declared.blocks.Block.{Block}
 use Rattle.vtoc_write.specs.Edited.{edit_of, tracks_after, text_after}
 use Rattle.vtoc_write.specs.Written.{block_of, slot_with, AreRewritten, IsBlockFor}
-use Rattle.vtoc_write.proofs.Texts.{is_address}
 use Rattle.vtoc_rewrite.specs.Rewrite.{AreSlotsAfter, vtoc_with}
 use Rattle.vtoc_rewrite.proofs.Addresses.{address_fits, one_address}
 use Rattle.vtoc_rewrite.proofs.Fields.{SaysSameVolume, same_volume}
 use Rattle.vtoc_rewrite.proofs.Records.{edited, edited_first, edited_shaped, edited_bytes}
 use Rattle.vtoc_rewrite.proofs.Tracks.{after_long, after_each, reading_after, text_then}
+use Rattle.ckd_image.proofs.Devices.{is_address}
 
 module _ (head : Head) (old new : Slots) (pointer : Cchhr) (before after : Bool) (vtoc : Vtoc) (four : List ℕ) (edits : List Placed) (slots : List ℕ) (blocks : List Block) (edit : Placed)
     (few : head.tracks ≤ 65535) (h : IsVtocWith head old pointer before vtoc four) (are : AreSlotsOf vtoc.run (slot_of head.device) slots old)

@@ -11,9 +11,9 @@ use Rattle.volume_model.specs.Sound.{IsTrackReading}
 use Rattle.vtoc_write.specs.declared.blocks.Block.{Block}
 use Rattle.vtoc_write.specs.Edited.{dscbs_after, tracks_after, text_after}
 use Rattle.vtoc_write.specs.Written.{slot_with, IsBlockFor}
-use Rattle.vtoc_write.proofs.Texts.{short_slot}
 use Rattle.vtoc_write.proofs.Tracks.{keeps_track}
 use Rattle.vtoc_rewrite.proofs.Addresses.{one_text_anywhere}
+use Rattle.ckd_image.proofs.Devices.{short_slot}
 
 abbrev Dscbs : Type 0
 Dscbs = Option (List (List ℕ))

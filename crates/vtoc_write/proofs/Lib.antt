@@ -1,4 +1,4 @@
-pub mod Ascending
-pub mod Recs
+mod Ascending
+mod Recs
 pub mod Texts
 pub mod Tracks

@@ -9,8 +9,7 @@ use Rattle.ckd_image.specs.declared.track.Rec.{Rec}
 use Rattle.ckd_image.specs.declared.track.Track.{Track}
 use Rattle.ckd_image.specs.declared.track.TrackAt.{TrackAt}
 use Rattle.ckd_image.specs.declared.device.Device.{Device}
-use Rattle.ckd_image.specs.declared.device.Device.TheVariants.{D3390, D3380}
-use Rattle.ckd_image.specs.Address.{address_of, IsAddress}
+use Rattle.ckd_image.specs.Address.{address_of}
 use Rattle.ckd_image.specs.Bytes.{Begins}
 use Rattle.ckd_image.specs.Device.{heads_of, slot_of}
 use Rattle.ckd_image.specs.Track.{IsRecord, IsTrack, IsTrackText, records_text, home_text, zero_text, end_mark, track_text}
@@ -20,6 +19,7 @@ use Rattle.volume_model.proofs.DscbRecords.{long_records}
 use Rattle.ckd_image.proofs.OneText.{one_text}
 use Rattle.vtoc_write.specs.Written.{IsDscbText, IsRewritten}
 use Rattle.vtoc_write.specs.Edited.{edit_of, NamesTrack, rec_with, rec_after, text_after, written}
+use Rattle.ckd_image.proofs.Devices.{is_address, short_slot}
 
 -- ---- no edit of a track
 
@@ -98,14 +98,6 @@ pub front_within : (front bytes : List ℕ) → Begins front bytes → length fr
 front_within front bytes begins = omega (arith, ap length begins.1, length-append front begins.0)
 
 -- ---- a slot that is written anew
-
-pub is_address : (device : Device) (track : ℕ) → track ≤ 65535 → IsAddress (address_of (heads_of device) track)
-is_address D3390 track small = (omega (arith, small), omega (arith, small))
-is_address D3380 track small = (omega (arith, small), omega (arith, small))
-
-pub short_slot : (device : Device) → slot_of device ≤ 65536
-short_slot D3390 = omega arith
-short_slot D3380 = omega arith
 
 module _ (edits : List Placed) (device : Device) (track : ℕ) (slot : List ℕ) (text : Track) (items recs : List Rec) (at : TrackAt) (heads : ℕ)
     (small : track ≤ 65535) (whole : length slot ≡ slot_of device) (dscbs : IsDscbText (address_of (heads_of device) track) slot)

@@ -16,7 +16,8 @@ use Rattle.volume_model.specs.Sound.{IsDscbRecord, dscb_of, IsVtocTrack}
 use Rattle.vtoc_write.specs.declared.blocks.Block.{Block}
 use Rattle.vtoc_write.specs.Edited.{edit_of, placed_with, after_edits, bytes_with, dscbs_after, tracks_after, rec_with, rec_after, text_after}
 use Rattle.vtoc_write.specs.Written.{slot_with, IsUnchangedText, IsRewritten, IsBlockFor}
-use Rattle.vtoc_write.proofs.Texts.{is_address, short_slot, number_kept}
+use Rattle.vtoc_write.proofs.Texts.{number_kept}
+use Rattle.ckd_image.proofs.Devices.{is_address, short_slot}
 
 -- ---- records
 

@@ -8,8 +8,9 @@ use Rattle.job_copies.specs.unit_steps.Loaded.{IsModel}
 use Rattle.job_copies.proofs.step_plans.LoadedRows.{sound_named}
 use Rattle.job_ops.specs.Setting.{facts_of}
 use Rattle.job_ops.proofs.Looking.{loaded_sound, described_online}
-use Rattle.job_ops.proofs.Places.{free_heads, is_sized, one_here, place_here, place_seen, none_seen}
+use Rattle.job_ops.proofs.Places.{is_sized, one_here, place_here, place_seen, none_seen}
 use Rattle.job_ops.proofs.consolidate.place_of.Goals as goal
+use Rattle.job_copies.proofs.FreePlaces.{free_heads}
 
 pub next_consolidate-requires-clause-rows : goal.next_consolidate-requires-clause-rows
 next_consolidate-requires-clause-rows g c = sound_named c.in-Online.volume (loaded_sound _ _ c.in-Online.is c.unit.ensures.kept)

@@ -7,8 +7,9 @@ use Rattle.unit_load.specs.declared.state.UnitState.{UnitState}
 use Rattle.job_copies.specs.unit_steps.Loaded.{IsModel}
 use Rattle.job_copies.specs.unit_steps.Plans.{HasRow}
 use Rattle.job_ops.specs.Setting.{facts_of}
-use Rattle.job_ops.proofs.Looking.{described_online, one_volume}
+use Rattle.job_ops.proofs.Looking.{described_online}
 use Rattle.job_ops.proofs.copies.taken.Goals as goal
+use Rattle.job_steps.proofs.unit_session.unit_steps.OneChange.{same_volume}
 
 pub returns-clause-taken : goal.returns-clause-taken
 returns-clause-taken g c =
@@ -24,5 +25,5 @@ returns-clause-there g c =
     IfOk-weaker c.select.result _ _
     (λ names there volume loaded.
     subst (λ (v : Volume). All (λ name. (row : Row) × HasRow v name row) names.items)
-    (one_volume c.args.session.now.units c.args.unit c.in-Online.volume volume (c.unit.ensures.value ∙ ap Some c.in-Online.is) loaded) there)
+    (same_volume c.args.session.now.units c.args.unit c.in-Online.volume volume (c.unit.ensures.value ∙ ap Some c.in-Online.is) loaded) there)
     c.select.ensures.there

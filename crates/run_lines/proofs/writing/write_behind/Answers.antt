@@ -1,8 +1,8 @@
 use Rattle.std.proofs.Common.{List, ℕ, subst, ◌∙◌}
 use Rattle.dasd_pool.specs.Stream.{AppendsSome}
 use Rattle.run_lines.specs.Endings.{last_line}
-use Rattle.run_lines.proofs.Appending.{appends_some_then}
 use Rattle.run_lines.proofs.writing.write_behind.Goals as goal
+use Rattle.dasd_pool.proofs.Streams.{appends_some_then}
 
 pub returns-clause-some : goal.returns-clause-some
 returns-clause-some g c =

@@ -3,9 +3,9 @@ use Rattle.std.proofs.lemmas.Result.{on_ok_weaker}
 use Rattle.dasd_pool.specs.Disk.{Shape, none, is_at}
 use Rattle.dasd_pool.proofs.Moments.{runs_then}
 use Rattle.ckd_image.specs.Address.{address_of}
-use Rattle.vtoc_write.proofs.Texts.{short_slot}
 use Rattle.unit_session.proofs.CopyingTexts.{to_is_target, target_below, source_below, few_cylinders, text_copied}
 use Rattle.unit_session.proofs.copying.copy_text.Goals as goal
+use Rattle.ckd_image.proofs.Devices.{short_slot}
 
 pub of-to-requires-clause-track : goal.of-to-requires-clause-track
 of-to-requires-clause-track g c =

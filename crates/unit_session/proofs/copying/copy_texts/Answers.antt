@@ -1,11 +1,11 @@
 use Rattle.std.proofs.Common.{◌<◌, map, length, get_or, sym, ap, arith}
 use Rattle.dasd_pool.specs.Disk.{is_at}
-use Rattle.vtoc_layout.proofs.Distinct.{in_map}
 use Rattle.unit_session.specs.declared.copies.TextMove.{TextMove}
 use Rattle.unit_session.specs.Copies.{is_among, contents_of}
 use Rattle.unit_session.proofs.CopyingBlocks.{writes_then, at_among}
 use Rattle.unit_session.proofs.CopyingTexts.{copied_more, next_at}
 use Rattle.unit_session.proofs.copying.copy_texts.Goals as goal
+use Rattle.ckd_image.proofs.Lists.{contains_map}
 
 pub returns-in_err-copy_text-clause-writes : goal.returns-in_err-copy_text-clause-writes
 returns-in_err-copy_text-clause-writes g c =
@@ -19,7 +19,7 @@ returns-in_err-copy_text-clause-writes g c =
     let tos = map (λ m. m.to) moves in
     let all = is_among copies.unit tos in
     writes_then g.P.Pool all all (is_at copies.unit move.to) _ _ _ (λ u b apart. apart)
-    (at_among copies.unit tos move.to (in_map (λ (m : TextMove). m.to) moves move (index, less, sym at))) c.loop-text.invariant.writes c.copy_text.ensures.writes
+    (at_among copies.unit tos move.to (contains_map (λ (m : TextMove). m.to) moves move (index, less, sym at))) c.loop-text.invariant.writes c.copy_text.ensures.writes
 
 pub loop-text-preserved : goal.loop-text-preserved
 loop-text-preserved g c =
@@ -36,7 +36,7 @@ loop-text-preserved g c =
     let does = c.copy_text.ensures in
     record {
       writes = writes_then g.P.Pool all all (is_at copies.unit move.to) _ _ _ (λ u b apart. apart)
-          (at_among copies.unit tos move.to (in_map (λ (m : TextMove). m.to) moves move (index, less, sym at))) inv.writes does.writes;
+          (at_among copies.unit tos move.to (contains_map (λ (m : TextMove). m.to) moves move (index, less, sym at))) inv.writes does.writes;
       copied = λ told.
           copied_more copies c.requires.may.apart (contents_of g.P.Pool c.args.journal.now) (contents_of g.P.Pool c.loop-text.journal) (contents_of g.P.Pool c.copy_text.new.journal)
           index move c.requires.may.unwritten less at ((inv.writes.runs told).touches.contents) ((does.writes.runs told).touches.contents) (inv.copied told)

@@ -3,13 +3,14 @@ use Rattle.dasd_pool.specs.Count.{Rose}
 use Rattle.dasd_pool.specs.Disk.{Shape}
 use Rattle.vol_label.specs.declared.serial.Serial.{Serial}
 use Rattle.redo_core.specs.Reading.{journal_of}
-use Rattle.move_core.proofs.Running.{rose_since, run_less, run_opened, run_refused, run_still, run_then}
+use Rattle.move_core.proofs.Running.{run_less, run_opened, run_refused, run_still, run_then}
 use Rattle.unit_session.specs.Sessions.{HasNothingOpen}
 use Rattle.unit_session.proofs.Beginning.{pool_cause, opened_reads}
 use Rattle.unit_session.proofs.Loading.{still_free, still_rest, still_loaded, still_kept, still_vtocs}
 use Rattle.unit_session.proofs.Modelling.{models_at}
 use Rattle.unit_session.proofs.Registered.{registered}
 use Rattle.unit_session.proofs.session.Session.begin.Goals as goal
+use Rattle.dasd_pool.proofs.Streams.{rose_since}
 
 pub returns-in-Err-clause-run : goal.returns-in-Err-clause-run
 returns-in-Err-clause-run g c =
