@@ -1,6 +1,6 @@
 //! What words say.
 
-ghost use Rattle.std.specs.Prelude.{◌≡◌, ◌<◌, ◌≤◌, ◌^◌, IfSome};
+ghost use Rattle.std.specs.Prelude.{◌≡◌, ◌<◌, ◌≤◌, IfSome};
 ghost use Rattle.by_rules.specs.Words as words;
 
 use crate::criterion::{Key, Op, Organization, Value, When};

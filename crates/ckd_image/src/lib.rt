@@ -23,5 +23,5 @@ pub use listed::Listed;
 pub use parse::parse_track;
 pub use print::print_track;
 pub use readdressing::readdress;
-pub use track::{Cchhr, Count, Rec, Recs, Track, TrackAt, TrackField};
+pub use track::{Cchhr, Count, Rec, Recs, Track, TrackAt, TrackField, first_numbered};
 pub use word::Word;

@@ -1,6 +1,6 @@
 //! Reading and writing parts of bytes, for every format.
 
-ghost use Rattle.std.specs.Prelude.{◌≡◌, ◌<◌, ◌≤◌, ◌+◌, ◌↔◌, ◌++◌, length, take, drop, IsTrue, IfSome, IfNone};
+ghost use Rattle.std.specs.Prelude.{◌≡◌, ◌<◌, ◌≤◌, ◌+◌, ◌*◌, ◌↔◌, ◌++◌, length, take, drop, IsTrue, IfSome, IfNone};
 ghost use Rattle.ckd_image.specs.Bytes.{Begins};
 
 /// The bytes behind the prefix, where they begin with it.
@@ -42,6 +42,16 @@ pub fn tail(bytes: &[u8], place: usize) -> &[u8]
     ensures { result.now ≡ drop place bytes.now }
 {
     &bytes[place..]
+}
+
+/// The slot at a place among slots of so many bytes.
+pub fn slot_at(slots: &[u8], place: usize, size: usize) -> &[u8]
+    requires { place * size + size ≤ length slots.now }
+    ensures slot { result.now ≡ take size (drop (place * size) slots.now) }
+    ensures long { length result.now ≡ size }
+{
+    let start = place * size;
+    &slots[start..start + size]
 }
 
 /// Writes bytes at a place, and says where they end.

@@ -1,6 +1,7 @@
 //! A track and its records.
 
-ghost use Rattle.std.specs.Prelude.{◌≡◌, ◌<◌, ◌≤◌, ◌/◌, ◌+◌, ◌++◌, length, [], map, slice_index_or, IfSome, IfNone};
+ghost use Rattle.std.specs.Prelude.{◌≡◌, ◌<◌, ◌≤◌, ◌/◌, ◌+◌, ◌++◌, ◌==◌, length, [], map, find, slice_index_or, IfSome, IfNone};
+ghost use Rattle.std.specs.Option.{option_copied};
 ghost use Rattle.ckd_image.specs.Body.{IsBodyPut};
 ghost use Rattle.ckd_image.specs.Address.{address, address_of, cchhr_text, IsAddress, IsCchhr};
 
@@ -126,6 +127,13 @@ impl Track {
     {
         self.recs.items[place].body.put_over(start, piece);
     }
+}
+
+/// The first record of a track with a number.
+pub fn first_numbered(track: &Track, r: u8) -> Option<&Rec>
+    ensures { option_copied result ≡ find (λ rec. rec.r == r) track.now.recs }
+{
+    track.recs.as_slice().iter().find(|rec| rec.r == r)
 }
 
 /// A field of a slot that may be wrong.

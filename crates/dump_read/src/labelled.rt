@@ -1,8 +1,6 @@
 //! The label and the format 4 in the slots of a full dump.
 
-ghost use Rattle.std.specs.Prelude.{◌≡◌, ◌<◌, ◌≤◌, ◌-◌, ◌+◌, ◌*◌, ◌==◌, ◌++◌, ◌↔◌, length, replicate, find, IsTrue, IfOk, IfSome, IfNone};
-ghost use Rattle.std.specs.Option.{option_copied};
-ghost use Rattle.ckd_image.specs.declared.track.Rec.{Rec as RecOf};
+ghost use Rattle.std.specs.Prelude.{◌≡◌, ◌<◌, ◌≤◌, ◌-◌, ◌+◌, ◌*◌, ◌==◌, ◌++◌, ◌↔◌, length, IsTrue, IfOk, IfSome, IfNone};
 ghost use Rattle.ckd_image.specs.declared.track.Track.{Track as TrackOf};
 ghost use Rattle.ckd_image.specs.Address.{address_of};
 ghost use Rattle.ckd_image.specs.Device.{heads_of, slot_of};
@@ -15,7 +13,9 @@ ghost use Rattle.dump_fmt.specs.Front.{filled_slot};
 ghost use Rattle.dump_read.specs.Labelled.{IsLabelSlot, IsFormat4Slot, IsFormat4};
 
 use ckd_image::text::put;
-use ckd_image::{CkdFault, Device, Head, NoMemory, Rec, Track, TrackAt, parse_track};
+use ckd_image::{
+    CkdFault, Device, Head, NoMemory, Rec, Track, TrackAt, first_numbered, parse_track,
+};
 use dscb_rec::{Dscb, read_dscb};
 use dump_fmt::DumpHead;
 use std::alloc::Global;
@@ -91,13 +91,6 @@ pub fn label_in(alloc: Global, head: DumpHead, bytes: &[u8]) -> Result<Option<La
         return Ok(None);
     }
     Ok(Some(label))
-}
-
-/// The first record with a number.
-fn first_numbered(track: &Track, r: u8) -> Option<&Rec>
-    ensures { option_copied result ≡ find (λ rec. rec.r == r) track.now.recs }
-{
-    track.recs.as_slice().iter().find(|rec| rec.r == r)
 }
 
 /// Key and body, which have 140 bytes together.

@@ -1,7 +1,7 @@
 //! Runs that are taken from free ones, and given back.
 
 ghost use Rattle.std.specs.Prelude.{◌≡◌, ℕ, ◌+◌, ◌<◌, ◌≤◌, ◌++◌, length, take, drop, slice_index_or, All, OnOk, OnErr};
-ghost use Rattle.free_map.specs.Runs.{HasTrack, InRuns, AreApart, tracks_between};
+ghost use Rattle.free_map.specs.Runs.{HasTrack, InRuns, AreApart};
 ghost use Rattle.free_map.specs.Change.{parts_without, TakesRun, AddsRun};
 
 use crate::run::Run;

@@ -13,5 +13,5 @@ mod unused;
 
 pub use fault::FreeFault;
 pub use laws::{choice_laws, run_laws};
-pub use map::FreeMap;
+pub use map::{FreeMap, unused_tracks};
 pub use run::{Run, Runs};

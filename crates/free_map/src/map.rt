@@ -15,6 +15,7 @@ use crate::run::{Run, Runs};
 use crate::several::several_places;
 use crate::sums::{count, entries, index};
 use crate::unused::unused_runs;
+use ckd_image::NoMemory;
 use dscb_rec::Entry5;
 use std::alloc::Global;
 use std::marker::Model;
@@ -139,5 +140,25 @@ impl FreeMap {
         ensures { result ≡ index_of self.now.runs }
     {
         index(self.runs.as_slice())
+    }
+}
+
+/// The tracks below the end that no run holds; it is refused for want of memory alone.
+pub fn unused_tracks(
+    alloc: Global,
+    usable: u32,
+    heads: u32,
+    runs: &[Run],
+) -> Result<FreeMap, NoMemory>
+    requires small { usable ≤ 65535 }
+    requires some_heads { 1 ≤ heads }
+    requires few_heads { heads ≤ 255 }
+    requires within { All (λ run. run.first + run.len ≤ usable) runs.now }
+    ensures sizes { IfOk result (λ map. (map.usable ≡ usable) × (map.heads ≡ heads)) }
+    ensures unused { IfOk result (λ map. AreMaximalRuns (λ track. (track < usable) × ¬ InRuns runs.now track) map.runs) }
+{
+    match FreeMap::from_used(alloc, usable, heads, runs) {
+        Ok(map) => Ok(map),
+        Err(_) => Err(NoMemory),
     }
 }

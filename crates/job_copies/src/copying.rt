@@ -10,12 +10,12 @@ ghost use Rattle.job_copies.specs.Loaded.{AreCopied, MayCopy};
 ghost use Rattle.job_copies.specs.Reasons.{PreventsAtFirst, first_reasons};
 ghost use Rattle.job_copies.specs.Rows.{IsOwnRow, ReplacesRow, ReplacesNone};
 
-use crate::row::row_of;
 use crate::wish::Wish;
 use by_rules::Day;
 use dsn_filter::Dsn;
 use enq_table::Held;
 use job_lines::Reason;
+use step_room::step_plans::row_of;
 use vtoc_core::{Row, Volume};
 
 /// A data set of a volume that is to be copied to a volume, which may be the same.

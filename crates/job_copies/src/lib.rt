@@ -6,7 +6,6 @@ mod copying;
 mod judging;
 mod places;
 mod renames;
-mod row;
 mod wish;
 
 pub use copying::Copying;

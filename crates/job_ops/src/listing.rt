@@ -13,7 +13,7 @@ ghost use Rattle.job_ops.specs.Setting.{Setting, facts_of};
 ghost use Rattle.job_ops.specs.Ends.{ForUnits};
 
 use crate::units::{UnitUse, unit_for};
-use ckd_image::{Device, NoMemory, TrackAt};
+use ckd_image::{Device, NoMemory};
 use dasd_pool::Pool;
 use dscb_rec::Extent;
 use job_copies::job_select::{organization_of, track_count};
@@ -23,22 +23,16 @@ use unit_load::UnitState;
 use vol_label::Serial;
 use vtoc_core::{Row, Volume};
 
-fn track_of(device: Device, at: TrackAt) -> u32
-    ensures { result ≡ at.cylinder * heads_of device + at.head }
-{
-    u32::from(at.cylinder) * device.heads() + u32::from(at.head)
-}
-
 /// An extent with its number.
 fn extent_summary(device: Device, number: usize, extent: Extent) -> ExtentSummary
     ensures { Message.Extent result ∷ [] ≡ messages_of_extents number (extents_from device (extent ∷ [])) }
 {
-    let first = track_of(device, extent.first);
+    let first = device.track_of(extent.first);
     ExtentSummary {
         number,
         kind: extent.kind,
         first,
-        tracks: (track_of(device, extent.last) + 1).saturating_sub(first),
+        tracks: (device.track_of(extent.last) + 1).saturating_sub(first),
     }
 }
 

@@ -15,7 +15,7 @@ use Rattle.vtoc_core.specs.declared.volume.Volume.{Volume}
 use Rattle.vtoc_core.specs.Loaded.{field_of}
 use Rattle.vtoc_layout.specs.Layout.{AreDistinct, AreApart}
 use Rattle.vtoc_layout.proofs.Apart.{all_from}
-use Rattle.vtoc_layout.proofs.Distinct.{first_or_later, in_none, at_first, in_front, in_back, from_map, from_flat, distinct_append, no_more, in_below, below_distinct, shifted_distinct}
+use Rattle.vtoc_layout.proofs.Distinct.{at_first, in_front, in_back, from_map, from_flat, distinct_append, no_more, in_below, below_distinct, shifted_distinct}
 use Rattle.step_plans.proofs.vtoc_render.Known.{usable_small}
 use Rattle.step_plans.proofs.unit_change.Describing.{runs_in_row}
 use Rattle.step_plans.proofs.unit_steps.Blocks.{from_slots}

@@ -1,6 +1,6 @@
 //! The format 5s in the order of their chain.
 
-ghost use Rattle.std.specs.Prelude.{◌≡◌, ◌<◌, ◌≤◌, ◌∷◌, ◌++◌, ℕ, List, [], length, filter, take, IfOk, OnOk, IfSome, IfNone, Some, None, false};
+ghost use Rattle.std.specs.Prelude.{◌≡◌, ◌<◌, ◌≤◌, ◌∷◌, ◌++◌, ℕ, List, [], length, filter, IfOk, OnOk, IfSome, IfNone, Some, None, false};
 ghost use Rattle.volume_model.specs.Check.{first_five};
 ghost use Rattle.volume_model.specs.declared.place.Placed.{Placed as PlacedOf};
 ghost use Rattle.vtoc_check.specs.FiveRule.{is_five};
@@ -12,14 +12,8 @@ ghost use Rattle.layout_found.specs.Fives.{IsOfSoundVtoc, AreItsFives};
 use crate::linked::add_linked;
 use ckd_image::{Listed, NoMemory};
 use std::alloc::Global;
-use volume_model::{Format, Placed};
-use vtoc_check::{Directory, first_index, mark_targets};
-
-fn is_format_5(placed: &Placed) -> bool
-    ensures { result ≡ is_five placed.now }
-{
-    matches!(Format::of(&placed.bytes), Format::F5)
-}
+use volume_model::Placed;
+use vtoc_check::{Directory, first_index, is_format_5, mark_targets};
 
 /// Adds a record, where it is a format 5.
 fn add_five(fives: &mut Listed<Placed>, placed: &Placed) -> Result<(), NoMemory>

@@ -21,18 +21,12 @@ const CYLINDERS: u8 = 0x81;
 
 const TRACKS: u8 = 0x01;
 
-fn track_of(device: Device, at: TrackAt) -> u32
-    ensures { result ≡ at.cylinder * heads_of device + at.head }
-{
-    u32::from(at.cylinder) * device.heads() + u32::from(at.head)
-}
-
 /// How many tracks an extent has.
 fn tracks_in(device: Device, extent: &Extent) -> u32
     requires { AreRuns device (extent.now ∷ []) }
     ensures { result ≡ (run_of (heads_of device) (field_of extent.now)).len }
 {
-    track_of(device, extent.last) + 1 - track_of(device, extent.first)
+    device.track_of(extent.last) + 1 - device.track_of(extent.first)
 }
 
 /// How many tracks extents have.
@@ -57,7 +51,7 @@ fn front_of(device: Device, extent: &Extent, keep: u32) -> Extent
     ensures cut { extents_from device (result ∷ []) ≡ cut keep (extents_from device (extent.now ∷ [])) }
     ensures run { AreRuns device (result ∷ []) }
 {
-    let last = track_of(device, extent.first) + keep - 1;
+    let last = device.track_of(extent.first) + keep - 1;
     Extent {
         last: TrackAt::of(last, device.heads()),
         ..*extent

@@ -20,7 +20,7 @@ use volume_change::{find, name_bytes};
 use vtoc_core::{Extents, Row, Volume};
 
 /// The row of a name, if the volume has one.
-pub(crate) fn row_of<'a>(volume: &'a Volume, name: &Dsn) -> Option<&'a Row>
+pub fn row_of<'a>(volume: &'a Volume, name: &Dsn) -> Option<&'a Row>
     requires sound { IsSound volume.now }
     requires name { IsDsn name.now }
     ensures found { IfSome result (λ row. HasRow volume.now name.now row.now) }

@@ -20,7 +20,7 @@ use crate::operand::{AnyPlace, AnyReading};
 use ckd_image::Listed;
 use std::alloc::Global;
 use sysin_filters::FilterPlace;
-use sysin_forms::{Form, Operand, clashes, command_of, fits, forms_of, has};
+use sysin_forms::{Form, Operand, clashes, command_of, fits, forms_of, has, is_part};
 use sysin_lang::Command;
 use sysin_operands::OperandPlace;
 use sysin_text::Token;
@@ -251,12 +251,6 @@ fn placed(
             place: CommandPlace::Inside(place),
         }),
     }
-}
-
-fn is_part(keyword: Keyword) -> bool
-    ensures { result ≡ forms.is_part keyword }
-{
-    matches!(keyword, Keyword::Include | Keyword::Exclude | Keyword::By)
 }
 
 /// Whether the token begins a part that stands already in the filter that is read.

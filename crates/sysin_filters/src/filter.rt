@@ -10,7 +10,7 @@ ghost use Rattle.sysin_values.specs.declared.fault.ValueFault.TheVariants as fau
 
 use ckd_image::Listed;
 use std::alloc::Global;
-use sysin_forms::{Operand, clashes, filter_of};
+use sysin_forms::{Operand, clashes, filter_of, is_part};
 use sysin_lang::Filter;
 use sysin_operands::{OperandPlace, OperandReading};
 use sysin_text::Token;
@@ -36,12 +36,6 @@ pub struct FilterReading {
     pub verb: Verb,
     pub parts: Listed<Operand>,
     pub place: FilterPlace,
-}
-
-fn is_part(keyword: Keyword) -> bool
-    ensures { result ≡ forms.is_part keyword }
-{
-    matches!(keyword, Keyword::Include | Keyword::Exclude | Keyword::By)
 }
 
 /// Whether a part with this keyword may stand behind these.

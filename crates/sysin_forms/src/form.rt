@@ -4,6 +4,7 @@ ghost use Rattle.std.specs.Prelude.{◌≡◌};
 ghost use Rattle.std.specs.List.{list_all};
 ghost use Rattle.sysin_forms.specs.Operand.{name_of};
 ghost use Rattle.sysin_forms.specs.Form as spec;
+ghost use Rattle.sysin_forms.specs.declared.form.Form.TheVariants as forms;
 
 use crate::operand::{Operand, number_of};
 use sysin_words::{Keyword, Verb};
@@ -59,53 +60,11 @@ impl Form {
                 Keyword::Limit,
                 Keyword::Wait,
             ],
-            Form::Copy => &[
-                Keyword::Dataset,
-                Keyword::Input,
-                Keyword::LogicalInput,
-                Keyword::Output,
-                Keyword::Delete,
-                Keyword::Purge,
-                Keyword::Replace,
-                Keyword::Rename,
-                Keyword::Tolerate,
-                Keyword::Wait,
-            ],
-            Form::DumpDataset => &[
-                Keyword::Dataset,
-                Keyword::Input,
-                Keyword::LogicalInput,
-                Keyword::Output,
-                Keyword::Reset,
-                Keyword::Delete,
-                Keyword::Purge,
-                Keyword::Tolerate,
-                Keyword::Wait,
-                Keyword::Optimize,
-            ],
-            Form::DumpFull => &[
-                Keyword::Full,
-                Keyword::Input,
-                Keyword::Output,
-                Keyword::Wait,
-                Keyword::Optimize,
-            ],
-            Form::RestoreDataset => &[
-                Keyword::Dataset,
-                Keyword::Input,
-                Keyword::Output,
-                Keyword::Purge,
-                Keyword::Replace,
-                Keyword::Rename,
-                Keyword::Wait,
-            ],
-            Form::RestoreFull => &[
-                Keyword::Full,
-                Keyword::Input,
-                Keyword::Output,
-                Keyword::Purge,
-                Keyword::Wait,
-            ],
+            Form::Copy => copy_keywords(),
+            Form::DumpDataset => dump_keywords(),
+            Form::DumpFull => full_dump_keywords(),
+            Form::RestoreDataset => restore_keywords(),
+            Form::RestoreFull => full_restore_keywords(),
         }
     }
 
@@ -117,6 +76,78 @@ impl Form {
             .iter()
             .any(|other| place_of(*other) == place_of(keyword))
     }
+}
+
+fn copy_keywords() -> &'static [Keyword]
+    ensures { result.now ≡ spec.keywords_of forms.Copy }
+{
+    &[
+        Keyword::Dataset,
+        Keyword::Input,
+        Keyword::LogicalInput,
+        Keyword::Output,
+        Keyword::Delete,
+        Keyword::Purge,
+        Keyword::Replace,
+        Keyword::Rename,
+        Keyword::Tolerate,
+        Keyword::Wait,
+    ]
+}
+
+fn dump_keywords() -> &'static [Keyword]
+    ensures { result.now ≡ spec.keywords_of forms.DumpDataset }
+{
+    &[
+        Keyword::Dataset,
+        Keyword::Input,
+        Keyword::LogicalInput,
+        Keyword::Output,
+        Keyword::Reset,
+        Keyword::Delete,
+        Keyword::Purge,
+        Keyword::Tolerate,
+        Keyword::Wait,
+        Keyword::Optimize,
+    ]
+}
+
+fn full_dump_keywords() -> &'static [Keyword]
+    ensures { result.now ≡ spec.keywords_of forms.DumpFull }
+{
+    &[
+        Keyword::Full,
+        Keyword::Input,
+        Keyword::Output,
+        Keyword::Wait,
+        Keyword::Optimize,
+    ]
+}
+
+fn restore_keywords() -> &'static [Keyword]
+    ensures { result.now ≡ spec.keywords_of forms.RestoreDataset }
+{
+    &[
+        Keyword::Dataset,
+        Keyword::Input,
+        Keyword::Output,
+        Keyword::Purge,
+        Keyword::Replace,
+        Keyword::Rename,
+        Keyword::Wait,
+    ]
+}
+
+fn full_restore_keywords() -> &'static [Keyword]
+    ensures { result.now ≡ spec.keywords_of forms.RestoreFull }
+{
+    &[
+        Keyword::Full,
+        Keyword::Input,
+        Keyword::Output,
+        Keyword::Purge,
+        Keyword::Wait,
+    ]
 }
 
 /// The number of a keyword, each with its own.

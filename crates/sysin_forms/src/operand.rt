@@ -102,7 +102,8 @@ pub fn number_of(keyword: Keyword) -> u8
     }
 }
 
-fn is_part(keyword: Keyword) -> bool
+/// Whether a keyword is of a part of a filter.
+pub fn is_part(keyword: Keyword) -> bool
     ensures { result ≡ spec.is_part keyword }
 {
     matches!(keyword, Keyword::Include | Keyword::Exclude | Keyword::By)

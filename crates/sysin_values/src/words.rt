@@ -1,6 +1,6 @@
 //! Words that say values.
 
-ghost use Rattle.std.specs.Prelude.{◌≡◌, ℕ, IfOk, IfErr, IfSome, IfNone};
+ghost use Rattle.std.specs.Prelude.{IfOk, IfErr, IfSome, IfNone};
 ghost use Rattle.sysin_values.specs.Values.{SaysSerial, SaysDdName, SaysPattern, SaysName, SaysPrefix, SaysNumber};
 ghost use Rattle.sysin_values.specs.NoValue.{SaysNone, IsNoPattern};
 

@@ -1,6 +1,6 @@
 //! The tracks that are copied for a plan.
 
-ghost use Rattle.std.specs.Prelude.{◌≡◌, ◌==◌, ◌++◌, ◌∷◌, [], ◌+◌, ◌*◌, ◌^◌, ◌<◌, ◌≤◌, ℕ, length, drop, Some, IfOk, OnOk, IfSome, IfNone};
+ghost use Rattle.std.specs.Prelude.{◌≡◌, ◌==◌, ◌++◌, ◌∷◌, [], ◌+◌, ◌*◌, ◌<◌, ℕ, Some, IfOk, OnOk, IfSome, IfNone};
 ghost use Rattle.ckd_image.specs.Device.{heads_of};
 ghost use Rattle.volume_model.specs.Space.{run_of};
 ghost use Rattle.volume_model.specs.Unit as models;
@@ -14,7 +14,7 @@ ghost use Rattle.unit_steps.specs.Copied.{IsPutBy};
 ghost use Rattle.unit_session.specs.Copies.{moves_between, HasSource, HasTarget, AreRowCopies, AreCopiesOf};
 ghost use Rattle.unit_session.specs.declared.copies.Copies.{Copies as CopiesOf};
 
-use ckd_image::{Device, NoMemory, TrackAt};
+use ckd_image::{Device, NoMemory};
 use dscb_rec::Extent;
 use dsn_filter::Dsn;
 use std::alloc::Global;
@@ -51,19 +51,12 @@ pub(crate) fn volume_at(units: &[UnitState], unit: u32) -> Option<&Volume>
     }
 }
 
-fn track_of(device: Device, at: TrackAt) -> u32
-    ensures value { result ≡ at.cylinder * heads_of device + at.head }
-    ensures fits { result < 2 ^ 20 }
-{
-    u32::from(at.cylinder) * device.heads() + u32::from(at.head)
-}
-
 /// Adds the tracks of an extent.
 fn add_extent(device: Device, extent: &Extent, tracks: &mut Vec<u32>) -> Result<(), NoMemory>
     ensures { OnOk result (tracks.new.items ≡ tracks.old.items ++ models.tracks_in (run_of (heads_of device) (field_of extent.now))) }
 {
-    let first = track_of(device, extent.first);
-    let last = track_of(device, extent.last);
+    let first = device.track_of(extent.first);
+    let last = device.track_of(extent.last);
     for track in first..last + 1 {
         tracks.push(track)?;
     }

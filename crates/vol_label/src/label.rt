@@ -1,15 +1,14 @@
 //! The volume label.
 
-ghost use Rattle.std.specs.Prelude.{◌≡◌, ◌<◌, ◌==◌, ◌↔◌, ◌∷◌, ◌++◌, length, Some, find, IsTrue, IfOk, IfErr, IfSome, IfNone};
-ghost use Rattle.std.specs.Option.{option_copied};
+ghost use Rattle.std.specs.Prelude.{◌≡◌, ◌<◌, ◌==◌, ◌↔◌, ◌∷◌, ◌++◌, length, Some, IsTrue, IfOk, IfErr, IfSome, IfNone};
 ghost use Rattle.vol_label.specs.declared.label.Label.{Label};
-ghost use Rattle.vol_label.specs.Label.{label_key, new_label, IsInside, IsLabelText, IsLabel, IsLabelFault, IsSerialPut, HasLabel, KeepsLabel};
+ghost use Rattle.vol_label.specs.Label.{new_label, IsInside, IsLabelText, IsLabel, IsLabelFault, IsSerialPut, HasLabel, KeepsLabel};
 ghost use Rattle.std.specs.List.{position};
 
 use crate::fault::{LabelFault, LabelRule, broken};
 use crate::serial::{Serial, is_serial};
 use ckd_image::text::{after, put, same};
-use ckd_image::{Cchhr, Head, Rec, Track};
+use ckd_image::{Cchhr, Head, Rec, Track, first_numbered};
 
 /// `VOL1` in the code page.
 const KEY: [u8; 4] = [0xe5, 0xd6, 0xd3, 0xf1];
@@ -41,13 +40,6 @@ impl Label {
             None => Err(broken(LabelRule::Serial)),
         }
     }
-}
-
-/// The first record with a number.
-fn first_numbered(track: &Track, r: u8) -> Option<&Rec>
-    ensures { option_copied result ≡ find (λ rec. rec.r == r) track.now.recs }
-{
-    track.recs.as_slice().iter().find(|rec| rec.r == r)
 }
 
 /// Whether a pointer's track is one of the image.

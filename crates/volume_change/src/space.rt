@@ -1,7 +1,7 @@
 //! The tracks of data sets, and the free tracks once some are given back and others are taken.
 
 ghost use Rattle.std.specs.Prelude.{◌≡◌, ◌+◌, ◌*◌, ◌≤◌, ◌<◌, ◌++◌, All, IfOk};
-ghost use Rattle.free_map.specs.Runs.{InRuns, AreMaximalRuns};
+ghost use Rattle.free_map.specs.Runs.{AreMaximalRuns};
 ghost use Rattle.volume_model.specs.Space.{end_of, run_of as run_in};
 ghost use Rattle.ckd_image.specs.Device.{heads_of};
 ghost use Rattle.vtoc_core.specs.Loaded.{field_of};
@@ -9,7 +9,7 @@ ghost use Rattle.volume_change.specs.Runs.{IsRun, runs_in, IsFreeAfter};
 
 use ckd_image::{NoMemory, TrackAt};
 use dscb_rec::Extent;
-use free_map::{FreeMap, Run};
+use free_map::{FreeMap, Run, unused_tracks};
 use std::alloc::Global;
 use vtoc_core::Volume;
 
@@ -55,21 +55,6 @@ fn joined(alloc: Global, front: &[Run], back: &[Run]) -> Result<Vec<Run>, NoMemo
     Ok(runs)
 }
 
-/// The tracks below the end that no run holds.
-fn unused(alloc: Global, usable: u32, heads: u32, runs: &[Run]) -> Result<FreeMap, NoMemory>
-    requires small { usable ≤ 65535 }
-    requires some_heads { 1 ≤ heads }
-    requires few_heads { heads ≤ 255 }
-    requires within { All (λ run. end_of run ≤ usable) runs.now }
-    ensures sizes { IfOk result (λ map. (map.usable ≡ usable) × (map.heads ≡ heads)) }
-    ensures unused { IfOk result (λ map. AreMaximalRuns (λ track. (track < usable) × ¬ InRuns runs.now track) map.runs) }
-{
-    match FreeMap::from_used(alloc, usable, heads, runs) {
-        Ok(map) => Ok(map),
-        Err(_) => Err(NoMemory),
-    }
-}
-
 /// The free tracks of a volume once the tracks of some runs are given back and then those of others are taken.
 pub fn free_after(
     alloc: Global,
@@ -87,7 +72,7 @@ pub fn free_after(
     let usable = volume.usable;
     let heads = volume.device.heads();
     let empty = joined(alloc, volume.free.runs(), gone)?;
-    let used = unused(alloc, usable, heads, &empty)?;
+    let used = unused_tracks(alloc, usable, heads, &empty)?;
     let taken = joined(alloc, used.runs(), put)?;
-    unused(alloc, usable, heads, &taken)
+    unused_tracks(alloc, usable, heads, &taken)
 }

@@ -1,25 +1,17 @@
 //! The records that a change may take.
 
 ghost use Rattle.std.specs.Prelude.{◌≡◌, ◌≤◌, ◌++◌, [], ◌∷◌, length, IfOk, OnOk};
-ghost use Rattle.volume_model.specs.Directory.{same_place};
 ghost use Rattle.vtoc_allot.specs.Allotted.{is_at as is_at_in, free_count, pool_of as pool_in, without as without_in};
 
 use ckd_image::{Listed, NoMemory};
 use std::alloc::Global;
 use volume_model::{Place, Placed};
 
-/// Whether two places are one.
-pub(crate) fn is_same(a: Place, b: Place) -> bool
-    ensures { result ≡ same_place a b }
-{
-    a.track == b.track && a.record_number == b.record_number
-}
-
 /// Whether a place is one of these.
 pub(crate) fn is_at(places: &[Place], place: Place) -> bool
     ensures { result ≡ is_at_in places.now place }
 {
-    places.iter().any(|other| is_same(place, *other))
+    places.iter().any(|other| place.is_same(*other))
 }
 
 /// How many records are free.
@@ -69,7 +61,7 @@ pub(crate) fn without(
 {
     let mut rest = Listed::new(alloc);
     for other in pool {
-        if !is_same(place, *other) {
+        if !place.is_same(*other) {
             rest.push(*other)?;
         }
     }

@@ -1,9 +1,7 @@
 //! The rule on the chain of format 5s, whole.
 
-ghost use Rattle.std.specs.Prelude.{◌≡◌, ◌<◌, ◌≤◌, ◌&&◌, ◌||◌, not, ℕ, List, [], length, map, filter, IfOk, IfSome, IfNone, Some, None, false, replicate};
-ghost use Rattle.std.specs.List.{list_any};
+ghost use Rattle.std.specs.Prelude.{◌≡◌, ◌<◌, ◌≤◌, ◌&&◌, ◌||◌, not, ℕ, List, length, map, filter, IfOk, IfSome, IfNone, Some, None, false, replicate};
 ghost use Rattle.volume_model.specs.declared.rule.VtocRule.TheVariants as rules;
-ghost use Rattle.volume_model.specs.Dscbs.{format_of, is_f5};
 ghost use Rattle.volume_model.specs.Check.{breach, same_target, first_of, first_five, off_chain, points, is_among, IsLowestOf, records_of, bad_fives};
 ghost use Rattle.vtoc_check.specs.Pointers.{named};
 ghost use Rattle.vtoc_check.specs.Reach.{record_in, is_marked};
@@ -18,7 +16,8 @@ use ckd_image::NoMemory;
 use std::alloc::Global;
 use volume_model::{Breach, Format, Placed, Vtoc, VtocRule};
 
-pub(crate) fn is_format_5(placed: &Placed) -> bool
+/// Whether a record is a format 5.
+pub fn is_format_5(placed: &Placed) -> bool
     ensures { result ≡ is_five placed.now }
 {
     matches!(Format::of(&placed.bytes), Format::F5)

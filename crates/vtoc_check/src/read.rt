@@ -1,6 +1,6 @@
 //! Reading the tracks of a VTOC.
 
-ghost use Rattle.std.specs.Prelude.{◌≡◌, ◌≤◌, ◌<◌, ◌+◌, ◌*◌, ◌↔◌, take, drop, All, IsTrue, IfOk, IfSome, IfNone, MatchOption, ℕ, List, length, map};
+ghost use Rattle.std.specs.Prelude.{◌≡◌, ◌≤◌, ◌<◌, ◌+◌, ◌*◌, ◌↔◌, All, IsTrue, IfOk, IfSome, IfNone, MatchOption, length, map};
 ghost use Rattle.ckd_image.specs.declared.track.Track.{Track};
 ghost use Rattle.ckd_image.specs.Address.{address_of};
 ghost use Rattle.ckd_image.specs.Device.{heads_of, slot_of};
@@ -10,7 +10,7 @@ ghost use Rattle.volume_model.specs.Sound.{IsDscbRecord, dscb_of, IsTrackReading
 ghost use Rattle.vtoc_check.specs.Slots.{slot_in};
 ghost use Rattle.vtoc_check.specs.Readings.{AreNumbered, AreVtocRecords};
 
-use ckd_image::text::put;
+use ckd_image::text::{put, slot_at};
 use ckd_image::{CkdFault, Device, Listed, NoMemory, Rec, Track, TrackAt, parse_track};
 use free_map::Run;
 use std::alloc::Global;
@@ -115,16 +115,6 @@ pub fn read_track(
         return Ok(None);
     };
     dscbs_in(alloc, text.recs.as_slice())
-}
-
-/// The slot at a place among slots of so many bytes.
-pub(crate) fn slot_at(slots: &[u8], place: usize, size: usize) -> &[u8]
-    requires { place * size + size ≤ length slots.now }
-    ensures slot { result.now ≡ take size (drop (place * size) slots.now) }
-    ensures long { length result.now ≡ size }
-{
-    let start = place * size;
-    &slots[start..start + size]
 }
 
 /// What is read of the tracks of the VTOC, from their slots.

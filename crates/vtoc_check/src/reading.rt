@@ -1,6 +1,6 @@
 //! What the rules from the fourth on look at, as it is read from the slots of the VTOC's tracks.
 
-ghost use Rattle.std.specs.Prelude.{◌≡◌, ◌≤◌, ◌<◌, ◌+◌, ◌*◌, ◌-◌, length, IfOk, IfErr, true};
+ghost use Rattle.std.specs.Prelude.{◌≡◌, ◌≤◌, ◌<◌, ◌*◌, ◌-◌, length, IfOk, IfErr, true};
 ghost use Rattle.ckd_image.specs.Device.{heads_of, slot_of};
 ghost use Rattle.volume_model.specs.Space.{track_at, has_track};
 ghost use Rattle.volume_model.specs.Sound.{is_valid as is_valid_in};
@@ -13,7 +13,8 @@ use crate::directory::place_at;
 use crate::dscb::{number_at, track_number};
 use crate::fault::VtocFault;
 use crate::front::{front, limit};
-use crate::read::{read_tracks, slot_at};
+use crate::read::read_tracks;
+use ckd_image::text::slot_at;
 use ckd_image::{Cchhr, Head};
 use free_map::Run;
 use std::alloc::Global;

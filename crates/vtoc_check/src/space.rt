@@ -1,9 +1,7 @@
 //! The extents and the stated free runs of a VTOC, and how many tracks are usable.
 
-ghost use Rattle.std.specs.Prelude.{◌≡◌, ◌≤◌, ◌<◌, ◌+◌, ◌∷◌, ◌++◌, ◌^◌, ℕ, [], List, nat_lt, max, fold, filter, map, take, All, IfOk, OnOk, length, true, ◌-◌, ◌*◌};
-ghost use Rattle.std.specs.List.{flat_map};
-ghost use Rattle.volume_model.specs.Dscbs.{format_of, is_f5, entry_offsets};
-ghost use Rattle.volume_model.specs.Space.{end_of, entry_at as entry_in, entries_of as entries_in, runs_of as runs_in, all_extents as extents_in, all_entries as entries_of_all, usable_of as usable_in};
+ghost use Rattle.std.specs.Prelude.{◌≡◌, ◌≤◌, ◌<◌, ◌+◌, ◌∷◌, ◌++◌, ◌^◌, [], nat_lt, max, fold, filter, All, IfOk, OnOk, true, ◌-◌, ◌*◌};
+ghost use Rattle.volume_model.specs.Space.{end_of, entry_at as entry_in, entries_of as entries_in, all_extents as extents_in, all_entries as entries_of_all, usable_of as usable_in};
 ghost use Rattle.ckd_image.specs.Device.{ceil_div};
 
 use crate::dscb::number_at;

@@ -1,8 +1,8 @@
 //! Loading a volume from the slots of its VTOC's tracks.
 
-ghost use Rattle.std.specs.Prelude.{◌≡◌, ◌*◌, ◌==◌, ◌≤◌, ◌<◌, ◌^◌, [], not, filter, length, IfOk, IfErr};
+ghost use Rattle.std.specs.Prelude.{◌≡◌, ◌*◌, ◌≤◌, ◌<◌, [], filter, length, IfOk, IfErr};
 ghost use Rattle.ckd_image.specs.Device.{slot_of};
-ghost use Rattle.volume_model.specs.Check.{records_of, breaches_of};
+ghost use Rattle.volume_model.specs.Check.{breaches_of};
 ghost use Rattle.volume_model.specs.Reads.{has_index as has_index_in};
 ghost use Rattle.volume_model.specs.Sound.{Slots, IsCheckFault};
 ghost use Rattle.vtoc_check.specs.Faults.{IsToldFault};

@@ -1,6 +1,6 @@
 //! The rows of a directory, in the order of their names.
 
-ghost use Rattle.std.specs.Prelude.{◌≡◌, ◌≤◌, ◌<◌, ◌^◌, All, map, IfOk, length, take};
+ghost use Rattle.std.specs.Prelude.{◌≡◌, ◌<◌, ◌^◌, All, map, IfOk, length};
 ghost use Rattle.std.specs.List.Sorted.{IsPermutation, IsSortedBy};
 ghost use Rattle.volume_model.specs.Directory.{AreInOrder, rows_of as rows_in};
 ghost use Rattle.vtoc_core.specs.Loaded.{field_of, row_in, HasItsName};
@@ -10,17 +10,8 @@ use ckd_image::NoMemory;
 use dscb_rec::Extent;
 use std::alloc::Global;
 use volume_model::ExtentField;
-use vtoc_check::{Directory, data_sets, extents_of_set};
+use vtoc_check::{Directory, data_sets, extents_of_set, name_of};
 use vtoc_core::{Extents, Row, Rows};
-
-/// The name of a data set.
-fn name_of(bytes: &[u8; 140]) -> [u8; 44]
-    ensures { result ≡ take 44 bytes.now }
-{
-    let mut name = [0; 44];
-    name.copy_from_slice(&bytes[..44]);
-    name
-}
 
 /// Extents, numbered in order from 0.
 fn numbered(alloc: Global, fields: &[ExtentField]) -> Result<Extents, NoMemory>

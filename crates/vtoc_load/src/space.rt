@@ -1,14 +1,12 @@
 //! The usable tracks of a volume, and the free ones.
 
-ghost use Rattle.std.specs.Prelude.{◌≡◌, ◌≤◌, ◌<◌, [], All, IfOk};
-ghost use Rattle.free_map.specs.Runs.{InRuns, AreMaximalRuns};
-ghost use Rattle.volume_model.specs.Space.{end_of};
+ghost use Rattle.std.specs.Prelude.{◌≡◌, ◌<◌, [], IfOk};
 ghost use Rattle.volume_model.specs.Check.{records_of, bad_free};
 ghost use Rattle.vtoc_check.specs.Sized.{IsSized};
 ghost use Rattle.vtoc_load.specs.LoadedVtoc.{IsSpaceOf};
 
 use ckd_image::NoMemory;
-use free_map::{FreeMap, Run};
+use free_map::{FreeMap, unused_tracks};
 use std::alloc::Global;
 use volume_model::{Placed, Vtoc};
 use vtoc_check::{all_entries, all_extents, usable_tracks, used_runs};
@@ -18,21 +16,6 @@ use vtoc_check::{all_entries, all_extents, usable_tracks, used_runs};
 pub(crate) struct Space {
     pub usable: u32,
     pub free: FreeMap,
-}
-
-/// The tracks below the end that no run holds.
-fn unused(alloc: Global, usable: u32, heads: u32, runs: &[Run]) -> Result<FreeMap, NoMemory>
-    requires small { usable ≤ 65535 }
-    requires some_heads { 1 ≤ heads }
-    requires few_heads { heads ≤ 255 }
-    requires within { All (λ run. end_of run ≤ usable) runs.now }
-    ensures sizes { IfOk result (λ map. (map.usable ≡ usable) × (map.heads ≡ heads)) }
-    ensures unused { IfOk result (λ map. AreMaximalRuns (λ track. (track < usable) × ¬ InRuns runs.now track) map.runs) }
-{
-    match FreeMap::from_used(alloc, usable, heads, runs) {
-        Ok(map) => Ok(map),
-        Err(_) => Err(NoMemory),
-    }
 }
 
 /// The space of a volume whose free tracks, where they are stated, are stated rightly.
@@ -46,6 +29,6 @@ pub(crate) fn space_of(alloc: Global, vtoc: &Vtoc, records: &[Placed]) -> Result
     let entries = all_entries(alloc, records, vtoc.heads)?;
     let usable = usable_tracks(vtoc, &extents, &entries);
     let used = used_runs(alloc, vtoc.run, &extents)?;
-    let free = unused(alloc, usable, vtoc.heads, &used)?;
+    let free = unused_tracks(alloc, usable, vtoc.heads, &used)?;
     Ok(Space { usable, free })
 }

@@ -3,11 +3,11 @@
 ghost use Rattle.std.specs.Prelude.{◌≡◌, ◌+◌, ◌*◌, ◌≤◌, ◌<◌, ℕ, IfOk, OnOk, length};
 ghost use Rattle.ckd_image.specs.Address.{address_of};
 ghost use Rattle.ckd_image.specs.Device.{heads_of, slot_of};
-ghost use Rattle.free_map.specs.declared.run.Run.{Run as RunOf};
 ghost use Rattle.volume_model.specs.Space.{end_of};
 ghost use Rattle.vtoc_write.specs.Written.{slot_at as slot_in, IsDscbText, AddsBlock, AreRewritten};
 
 use crate::track::rewritten;
+use ckd_image::text::slot_at;
 use ckd_image::{Bytes, Device, Listed, NoMemory};
 use free_map::Run;
 use std::alloc::Global;
@@ -21,15 +21,6 @@ pub struct Block {
 }
 
 pub type Blocks = Listed<Block>;
-
-/// The slot at a place among slots of so many bytes.
-fn slot_at(slots: &[u8], place: usize, size: usize) -> &[u8]
-    requires { place * size + size ≤ length slots.now }
-    ensures { result.now ≡ slot_in size slots.now place }
-{
-    let start = place * size;
-    &slots[start..start + size]
-}
 
 /// Adds a track as it is to be written, where the edits change a record of it.
 fn add_track(

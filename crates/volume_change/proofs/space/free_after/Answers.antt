@@ -14,10 +14,10 @@ returns-clause-free c =
     let gone = c.args.gone.now in
     let put = c.args.put.now in
     let within : All (λ run. end_of run ≤ usable) free.runs = subst (λ (n : ℕ). All (λ run. end_of run ≤ n) free.runs) c.requires.usable c.runs.ensures.kept.within in
-    IfOk-weaker c.unused-2.result
+    IfOk-weaker c.unused_tracks-2.result
     (λ after. AreMaximalRuns (λ track. (track < usable) × ¬ (InRuns c.deref-2.result.now track)) after.runs)
     (λ after. AreMaximalRuns (IsFreeAfter free gone put) after.runs)
     (λ after m. free_exact free usable gone put c.deref.result.now c.in_ok-used.used.runs c.deref-2.result.now after.runs within c.requires.gone
     (c.deref.ensures.value ∙ c.in_ok-empty.ensures ∙ ap (λ (runs : List Run). runs ++ gone) c.runs.ensures.runs) c.in_ok-used.ensures.unused
     (c.deref-2.ensures.value ∙ c.in_ok-taken.ensures ∙ ap (λ (runs : List Run). runs ++ put) c.runs-2.ensures.runs) m)
-    c.unused-2.ensures.unused
+    c.unused_tracks-2.ensures.unused

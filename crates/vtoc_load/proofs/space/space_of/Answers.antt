@@ -22,8 +22,8 @@ usable_tracks-usable-requires-clause-entries c = λ valid.
     subst P (sym (c.deref-2.ensures.value ∙ c.in_ok-entries.ensures ∙ ap (all_entries vtoc.heads) c.requires.records))
     (λ k d lt. omega (arith, entries_within vtoc c.requires.stated valid k d lt, c.requires.sized.limit_fits))
 
-pub unused-requires-clause-small : goal.unused-requires-clause-small
-unused-requires-clause-small c =
+pub unused_tracks-requires-clause-small : goal.unused_tracks-requires-clause-small
+unused_tracks-requires-clause-small c =
     let vtoc = c.args.vtoc.now in
     let extents : c.deref.result.now ≡ extents_in vtoc = c.deref.ensures.value ∙ c.in_ok-extents.ensures ∙ ap (all_extents vtoc.heads vtoc.limit) c.requires.records in
     let entries : c.deref-2.result.now ≡ entries_in vtoc = c.deref-2.ensures.value ∙ c.in_ok-entries.ensures ∙ ap (all_entries vtoc.heads) c.requires.records in
@@ -31,8 +31,8 @@ unused-requires-clause-small c =
     c.usable_tracks-usable.ensures ∙ (λ i. usable_of vtoc.valid vtoc.heads vtoc.limit vtoc.alternates vtoc.run (extents i) (entries i)) in
     omega (arith, same, usable_most vtoc c.requires.sized c.requires.stated, c.requires.sized.limit_fits)
 
-pub unused-requires-clause-within : goal.unused-requires-clause-within
-unused-requires-clause-within c =
+pub unused_tracks-requires-clause-within : goal.unused_tracks-requires-clause-within
+unused_tracks-requires-clause-within c =
     let vtoc = c.args.vtoc.now in
     let all : (runs : List Run) → runs ≡ all_extents vtoc.heads vtoc.limit c.args.records.now → runs ≡ extents_in vtoc = λ runs e. e ∙ ap (all_extents vtoc.heads vtoc.limit) c.requires.records in
     let extents : c.deref.result.now ≡ extents_in vtoc = all c.deref.result.now (c.deref.ensures.value ∙ c.in_ok-extents.ensures) in

@@ -14,4 +14,4 @@ loop-place-preserved c = record {
     adds : AddsBlock c.args.edits.now (heads_of c.args.device) (c.args.run.first + c.loop-place.place) (slot_at (slot_of c.args.device) c.args.slots.now c.loop-place.place)
         c.loop-place.blocks c.add_track.new.blocks
     adds = subst (λ (slot : List ℕ). AddsBlock c.args.edits.now (heads_of c.args.device) (c.args.run.first + c.loop-place.place) slot c.loop-place.blocks c.add_track.new.blocks)
-        (c.slot_at-slot.ensures ∙ ap (λ (size : ℕ). slot_at size c.args.slots.now c.loop-place.place) c.slot-size.ensures) c.in_ok-add_track.ensures
+        (c.slot_at-slot.ensures.slot ∙ ap (λ (size : ℕ). slot_at size c.args.slots.now c.loop-place.place) c.slot-size.ensures) c.in_ok-add_track.ensures
