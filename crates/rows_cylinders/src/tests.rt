@@ -174,3 +174,52 @@ fn a_27th_run_without_a_free_dscb_changes_nothing(rt: HostRuntime) -> Result<(),
     assert!(rt; ran.changed(rt.alloc(), &given)?.is_empty());
     Ok(())
 }
+
+/// The volume of ten cylinders with 25 runs of free tracks and no free DSCB: E1 on track 80 up to this one, E2 on tracks 83 to 85, and E3 behind it.
+fn full_ten(alloc: Global, last: u8, others: &[Free]) -> Result<Contents, RowsFault> {
+    let mut sets = Vec::new(alloc);
+    push_small(&mut sets)?;
+    sets.push(Set {
+        last: [0, 0, 1],
+        ..set_of([0xc5, 0xf1, 0x40], 80, last)
+    })?;
+    sets.push(Set {
+        last: [0, 0, 1],
+        ..set_of([0xc5, 0xf2, 0x40], 83, 85)
+    })?;
+    sets.push(Set {
+        last: [0, 63, 1],
+        ..set_of([0xc5, 0xf3, 0x40], 86, 149)
+    })?;
+    push_empty(&mut sets, 18)?;
+    Ok(Contents {
+        cylinders: 10,
+        sets,
+        free: free_runs(alloc, others)?,
+        stated: true,
+        blocks: Vec::new(alloc),
+        bad: None,
+    })
+}
+
+const RELEASE_BOTH: &[u8] = b" RELEASE DATASET(INCLUDE(E1,E2)) DDNAME(VOL001)\n";
+
+const SECOND_IS_FULL: &str = "ADR101I (001) RELEASE STARTED
+ADR120I (001) E1 RELEASED 2
+ADR303E (001) E2 NOT PROCESSED: VTOC FULL
+ADR102I (001) RELEASE ENDED CODE 8
+ADR103I (000) MAXIMUM CODE 8
+";
+
+/// As the volume was at the start, a 26th run would have room in its one format 5 for either of them.
+#[test]
+fn the_second_data_set_is_judged_on_what_the_first_left(rt: HostRuntime) -> Result<(), Fail> {
+    let given = full_ten(rt.alloc(), 82, &[])?;
+    let after = full_ten(rt.alloc(), 80, &[(81, 0, 2)])?;
+    let mut ran = run(rt.alloc(), &given, RELEASE_BOTH, &[])?;
+    assert_eq!(rt; ran.lines.as_str(), SECOND_IS_FULL);
+    assert_eq!(rt; ran.status, 8);
+    assert_eq!(rt; ran.changed(rt.alloc(), &given)?.as_slice(), [1].as_slice());
+    assert!(rt; ran.changed(rt.alloc(), &after)?.is_empty());
+    Ok(())
+}
