@@ -1,8 +1,12 @@
 -- What holds of a run however it ended.
-use Rattle.std.proofs.Common.{◌≡◌, ◌≢◌, inl, inr, ℕ, ◌≤◌, List, [], Option, refl, sym, ap, subst, ◌∙◌, arith}
+use Rattle.std.proofs.Common.{◌≡◌, ◌≢◌, inl, inr, ℕ, ◌≤◌, List, [], Option, None, refl, sym, ap, subst, ◌∙◌, arith}
+use Rattle.dasd_pool.specs.Disk.{Runs}
 use Rattle.dasd_pool.specs.declared.pool.Pool.{Ghosts}
+use Rattle.dasd_pool.proofs.Moments.{runs_start}
 use Rattle.redo_core.specs.declared.fault.JournalFault.{JournalFault}
 use Rattle.redo_core.specs.declared.fault.JournalFault.TheVariants as faults
+use Rattle.redo_core.specs.Opening.{of_opening}
+use Rattle.redo_core.specs.Reading.{journal_of}
 use Rattle.move_core.specs.declared.steps.Step.{Step}
 use Rattle.move_core.specs.Facts.{shown}
 use Rattle.move_core.specs.Runs.{IsRun}
@@ -159,3 +163,19 @@ module _ {P : Type 0} (pools : Ghosts P) (given : Given) (pool : P) (left : Afte
   headline_of_run run not =
       let is = run_of run not in
       run_less (λ other pool. other (ap (λ (e : RunEnd). status_of e) pool)) (λ other. is.cause (λ apart. other (λ sixteen. apart (only_16 left.end (code_of_run run) sixteen)))) is
+
+  -- no more than the opening was written where nothing was done
+  pub still_of_run : EndsRun pools given pool left → ¬ AsksForJournal given.words → pools.tells → left.steps ≡ [] → left.pending ≡ None
+      → Runs (of_opening (journal_of (pools.shape pool)) (pools.disk pool).state.contents) (pools.disk pool) (pools.disk left.pool)
+  still_of_run run not told empty never = elim run [
+    | inl before ↦
+        subst (λ (p : P). Runs (of_opening (journal_of (pools.shape pool)) (pools.disk pool).state.contents) (pools.disk pool) (pools.disk p)) (sym before.same)
+        (runs_start (of_opening (journal_of (pools.shape pool)) (pools.disk pool).state.contents) (pools.disk pool))
+    | inr later ↦ elim later [
+      | inl format ↦ absurd (not (format.volumes, format.asked.0, format.room, format.asked.1.0))
+      | inr ready ↦ elim ready.how [
+        | inl opens ↦ opens.opening told
+        | inr text ↦ text.still told empty never
+      ]
+    ]
+  ]

@@ -1,7 +1,8 @@
 -- A run over a session that was opened, as a run over the pool that was handed in.
-use Rattle.std.proofs.Common.{◌≡◌, ◌≢◌, inl, List, [], None, refl, sym, ap, subst, ◌∙◌}
+use Rattle.std.proofs.Common.{◌≡◌, ◌≢◌, inl, false, List, [], None, refl, sym, ap, subst, ◌∙◌}
 use Rattle.by_rules.specs.declared.day.Day.{Day}
 use Rattle.dasd_pool.specs.Disk.{Runs, none}
+use Rattle.dasd_pool.proofs.Moments.{runs_then}
 use Rattle.dasd_pool.specs.declared.pool.Pool.{Ghosts}
 use Rattle.enq_table.specs.declared.hold.Hold.{Hold}
 use Rattle.vol_label.specs.declared.serial.Serial.{Serial}
@@ -9,6 +10,7 @@ use Rattle.volume_model.specs.Unit.{UnitModel}
 use Rattle.redo_core.specs.declared.fault.JournalFault.{JournalFault}
 use Rattle.redo_core.specs.declared.fault.JournalFault.TheVariants as faults
 use Rattle.redo_core.specs.Faults.{IsOpenFault, MayOpen}
+use Rattle.redo_core.specs.Format.{is_open}
 use Rattle.redo_core.specs.Opening.{of_opening}
 use Rattle.redo_core.specs.Reading.{journal_of}
 use Rattle.move_core.specs.declared.steps.Step.{Step}
@@ -96,8 +98,9 @@ module _ {P : Type 0} (pools : Ghosts P) (pool : P) (session : SessionView P) (p
       (run_then begins (tt {0}) runs.leaves.run)
 
   pub runs_text : (serials : List Serial) → (pools.tells → MayOpen (pools.shape pool) (pools.disk pool).state.contents serials)
-      → (pools.tells → Runs (of_opening (journal_of (pools.shape pool)) (pools.disk pool).state.contents) (pools.disk pool) (pools.disk session.pool)) → RunsText pools files out pool serials held today plan left
-  runs_text serials opened opening = record {
+      → (pools.tells → Runs (of_opening (journal_of (pools.shape pool)) (pools.disk pool).state.contents) (pools.disk pool) (pools.disk session.pool))
+      → (pools.tells → is_open ((pools.disk session.pool).state.contents (journal_of (pools.shape session.pool)) 1) ≡ false) → RunsText pools files out pool serials held today plan left
+  runs_text serials opened opening closed = record {
     opened = opened;
     ran = runs.ran;
     under = runs.under;
@@ -111,6 +114,9 @@ module _ {P : Type 0} (pools : Ghosts P) (pool : P) (session : SessionView P) (p
     earlier = runs.leaves.earlier;
     quiet = λ told listed.
         subst (λ (p : P). Runs (of_opening (journal_of (pools.shape pool)) (pools.disk pool).state.contents) (pools.disk pool) (pools.disk p)) (sym (runs.leaves.quiet listed)) (opening told);
+    still = λ told empty never.
+        runs_then (of_opening (journal_of (pools.shape pool)) (pools.disk pool).state.contents) (of_opening (journal_of (pools.shape pool)) (pools.disk pool).state.contents) none (pools.disk pool) (pools.disk session.pool) (pools.disk left.pool)
+        (λ u b apart. apart) (λ u b apart. refl) (opening told) (runs.leaves.run.still told (closed told) (sym runs.leaves.steps_are ∙ empty) never);
     cut = runs.leaves.cut;
     handed = runs.leaves.handed;
     means = means;

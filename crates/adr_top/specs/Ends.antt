@@ -144,7 +144,7 @@ pub record OpensNot {P : Type 0} (pools : Ghosts P) (out : SinkSeen) (pool : P) 
   pub did : DidNothing out left
 
 -- The journal was opened, and the text ran: statements of its plan by their codes, each as it means on the units for which the pool stood, and none began before the lines of
--- all before it were taken. Where they all only list, no more than the opening was written.
+-- all before it were taken. Where they all only list, or no step was done and none is under way, no more than the opening was written.
 pub record RunsText {P : Type 0} (pools : Ghosts P) (files : FilesSeen) (out : SinkSeen) (pool : P) (serials : List Serial) (table : List Hold) (today : Day) (plan : Plan) (left : After P) : Type 0 where
   pub opened : pools.tells → MayOpen (pools.shape pool) (pools.disk pool).state.contents serials
   pub ran : List Ran
@@ -158,6 +158,7 @@ pub record RunsText {P : Type 0} (pools : Ghosts P) (files : FilesSeen) (out : S
   pub printed : Prints out left.end (printed_text ran under wanted)
   pub earlier : Took out (lines_of (ended_before ran under))
   pub quiet : pools.tells → OnlyListed ran under → Runs (of_opening (journal_of (pools.shape pool)) (pools.disk pool).state.contents) (pools.disk pool) (pools.disk left.pool)
+  pub still : pools.tells → left.steps ≡ [] → left.pending ≡ None → Runs (of_opening (journal_of (pools.shape pool)) (pools.disk pool).state.contents) (pools.disk pool) (pools.disk left.pool)
   pub cut : FilesSeen
   pub handed : HandsOn files ran under cut
   pub means : pools.tells → (facts : Facts) (units : List UnitModel) → facts.shape ≡ pools.shape pool → IsSettled facts (pools.disk pool).state units

@@ -1,10 +1,12 @@
 //! A run of words.
 
-ghost use Rattle.std.specs.Prelude.{◌≡◌, ◌≢◌, ◌⊎◌, ◌∷◌, List, ℕ, map};
+ghost use Rattle.std.specs.Prelude.{◌≡◌, ◌≢◌, ◌⊎◌, [], ◌∷◌, List, None, ℕ, map};
 ghost use Rattle.by_rules.specs.Day.{IsToday};
-ghost use Rattle.dasd_pool.specs.Disk.{Image};
+ghost use Rattle.dasd_pool.specs.Disk.{Image, Runs};
 ghost use Rattle.dump_fmt.specs.Outs.{files_of};
 ghost use Rattle.vol_label.specs.declared.serial.Serial.{Serial};
+ghost use Rattle.redo_core.specs.Opening.{of_opening};
+ghost use Rattle.redo_core.specs.Reading.{journal_of};
 ghost use Rattle.volume_model.specs.Unit.{UnitModel};
 ghost use Rattle.move_core.specs.Facts.{Facts, shown};
 ghost use Rattle.move_core.specs.Runs.{IsRun as IsRunOf, StandsAfterSome, moves_of};
@@ -160,6 +162,10 @@ pub fn batch<S: Source, H: Source, O: Sink, P: Pool>(
         → IsSettled facts (P.disk pool).state units → (image : Image) → (P.disk result.pool).left_since (P.disk pool).moment image
         → StandsAfterSome facts units (moves_of result.steps.items result.pending) image }
     ensures shape { P.shape result.pool ≡ P.shape pool }
+
+    // Where no step was done and none is under way, at most the opening of the journal was written, at any moment.
+    ensures still { P.tells → ¬ AsksForJournal words.now → result.steps.items ≡ [] → result.pending ≡ None
+        → Runs (of_opening (journal_of (P.shape pool)) (P.disk pool).state.contents) (P.disk pool) (P.disk result.pool) }
 
     ensures outs { result.outs.items ≡ outs.items }
     ensures ins { result.ins.items ≡ ins.items }

@@ -4,7 +4,8 @@ use Rattle.std.specs.Prelude.{◌&&◌, ◌==◌, if◌then◌else◌}
 use Rattle.std.specs.List.{list_all, AllByRecursion}
 use Rattle.std.proofs.lemmas.Bool.Decides.{Decides-eqb}
 use Rattle.std.proofs.lemmas.List.Elements.{All-from_recursion}
-use Rattle.by_rules.specs.Token.{Symbol, Open, Close, Comma, Word, Other, is_word_byte, sign_of, put_front, tokens_of, bytes_of, text_of, IsToken, BeginWithNoWord, AreApart}
+use Rattle.sysin_text.specs.Signs.{is_word_byte}
+use Rattle.by_rules.specs.Token.{Symbol, Open, Close, Comma, Word, Other, sign_of, put_front, tokens_of, bytes_of, text_of, IsToken, BeginWithNoWord, AreApart}
 use Rattle.by_rules.proofs.Tokens.{IsSign, sign_by, put_sign, put_last}
 use Rattle.std.proofs.lemmas.Bool.{cases_Bool, and_from}
 use Rattle.ckd_image.proofs.Bools.{if_true}

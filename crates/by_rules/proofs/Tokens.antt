@@ -2,7 +2,8 @@
 use Rattle.std.proofs.Common.{◌≡◌, ℕ, List, [], ◌∷◌, ◌++◌, sym, ap, ◌∙◌, Bool, true, false}
 use Rattle.std.specs.Prelude.{◌&&◌, ◌==◌, if◌then◌else◌}
 use Rattle.std.specs.List.{list_all}
-use Rattle.by_rules.specs.Token.{Symbol, Open, Close, Comma, Word, Other, is_word_byte, sign_of, put_front, tokens_of, begins_word}
+use Rattle.sysin_text.specs.Signs.{is_word_byte}
+use Rattle.by_rules.specs.Token.{Symbol, Open, Close, Comma, Word, Other, sign_of, put_front, tokens_of, begins_word}
 use Rattle.ckd_image.proofs.Bools.{if_true, if_false, and_first, and_second}
 
 abbrev pub IsSign : Symbol → Type 0

@@ -1,6 +1,7 @@
 -- The tokens of a text.
-use Rattle.std.specs.Prelude.{◌≡◌, ◌≢◌, ℕ, Bool, true, false, ◌&&◌, ◌||◌, ◌==◌, nat_le, if◌then◌else◌, List, [], ◌∷◌}
+use Rattle.std.specs.Prelude.{◌≡◌, ◌≢◌, ℕ, Bool, true, false, ◌==◌, if◌then◌else◌, List, [], ◌∷◌}
 use Rattle.std.specs.List.{flat_map, list_all}
+use Rattle.sysin_text.specs.Signs.{is_word_byte}
 use Rattle.by_rules.specs.declared.token.Token.{Token as Read}
 use Rattle.by_rules.specs.declared.token.Token.TheVariants as tokens
 
@@ -11,12 +12,6 @@ pub data Symbol : Type 0 where
   Comma : Symbol
   Word : List ℕ → Symbol
   Other : ℕ → Symbol
-
--- capitals, digits, and $ # @ . * % -
-abbrev pub is_word_byte : ℕ → Bool
-is_word_byte byte =
-    (nat_le 65 byte && nat_le byte 90) || (nat_le 48 byte && nat_le byte 57) || (byte == 36) || (byte == 35) || (byte == 64)
-    || (byte == 46) || (byte == 42) || (byte == 37) || (byte == 45)
 
 -- the token that a byte is by itself, where it is none of a word
 abbrev pub sign_of : ℕ → Symbol

@@ -20,4 +20,4 @@ pub use laws::{criteria_laws, day_laws, reading_laws, token_laws};
 pub use reading::Reading;
 pub use row::{AllocKind, RowFacts};
 pub use token::Token;
-pub use words::number_up_to;
+pub use words::{number_up_to, op_of};

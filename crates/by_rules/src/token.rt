@@ -2,7 +2,10 @@
 
 ghost use Rattle.std.specs.Prelude.{◌≡◌, ◌≢◌, true, false, [], ◌∷◌, ◌++◌, IsTrue, ◌↔◌, IfSome, IfNone};
 ghost use Rattle.std.specs.List.{list_all};
-ghost use Rattle.by_rules.specs.Token.{is_word_byte, sign_of, tokens_of, bytes_of, symbol_of, begins_word};
+ghost use Rattle.sysin_text.specs.Signs.{is_word_byte};
+ghost use Rattle.by_rules.specs.Token.{sign_of, tokens_of, bytes_of, symbol_of, begins_word};
+
+use sysin_text::is_word_byte;
 
 /// A token: a bracket, a comma, a word, or any other byte.
 #[derive(Clone, Copy, Debug)]
@@ -26,16 +29,6 @@ pub(crate) fn token_at(text: &[u8]) -> Option<(Token<'_>, &[u8])>
     }
     let (word, rest) = split_word(text);
     Some((Token::Word(word), rest))
-}
-
-fn is_word_byte(byte: u8) -> bool
-    ensures { result ≡ Rattle.by_rules.specs.Token.is_word_byte byte }
-{
-    match byte {
-        b'A'..=b'Z' | b'0'..=b'9' => true,
-        b'$' | b'#' | b'@' | b'.' | b'*' | b'%' | b'-' => true,
-        _ => false,
-    }
 }
 
 /// The token that a byte is by itself.

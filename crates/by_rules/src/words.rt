@@ -30,7 +30,8 @@ pub(crate) fn key_of(word: &[u8]) -> Option<Key>
     }
 }
 
-pub(crate) fn op_of(word: &[u8]) -> Option<Op>
+/// The comparison that a word of capitals names.
+pub fn op_of(word: &[u8]) -> Option<Op>
     ensures { result ≡ words.op_of word.now }
 {
     match word {

@@ -7,5 +7,7 @@ mod Marking
 mod Effects
 mod Ordered
 mod Whole
+mod Left
 pub mod Moments
 pub mod Streams
+pub mod Slices

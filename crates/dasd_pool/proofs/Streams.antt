@@ -1,5 +1,5 @@
 -- Counts that rise, and texts that are written and read piece by piece.
-use Rattle.std.proofs.Common.{◌≡◌, ℕ, ◌+◌, ◌<◌, ◌≤◌, length, arith, length-append, List, ◌++◌, take, Option, Some, None, sym, ap, subst, ◌∙◌, append_assoc, take_all}
+use Rattle.std.proofs.Common.{◌≡◌, ℕ, ◌+◌, ◌≤◌, length, arith, length-append, List, ◌++◌, take, Option, Some, None, sym, ap, subst, ◌∙◌, append_assoc, take_all}
 use Rattle.std.proofs.Math.Seq.{take-append-add}
 use Rattle.dasd_pool.specs.Count.{Rose}
 use Rattle.dasd_pool.specs.Stream.{Appends, AppendsSome, Takes}

@@ -1,5 +1,5 @@
 -- What a pool in memory holds of a block has the size of its unit's blocks.
-use Rattle.std.proofs.Common.{◌≡◌, ℕ, ◌+◌, ◌*◌, ◌<◌, ◌≤◌, List, [], length, take, drop, sym, ap, ◌∙◌, arith, length-take-le, length-drop}
+use Rattle.std.proofs.Common.{◌≡◌, ℕ, ◌+◌, ◌*◌, ◌<◌, ◌≤◌, [], length, drop, sym, ap, ◌∙◌, arith, length-take-le, length-drop}
 use Rattle.std.specs.Prelude.{slice_index_or}
 use Rattle.dasd_pool.specs.Calls.{size_of, texts_of, shape_of}
 use Rattle.dasd_pool.specs.Memory.{MemoryView, Agree, state_of}

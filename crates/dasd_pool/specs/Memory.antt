@@ -3,7 +3,7 @@ use Rattle.std.specs.Prelude.{◌≡◌, ℕ, zero, suc, ◌<◌, ◌≤◌, ◌
 use Rattle.std.specs.List.{list_any}
 use Rattle.dasd_pool.specs.declared.calls.Call.{Call}
 use Rattle.dasd_pool.specs.declared.units.UnitText.{UnitText}
-use Rattle.dasd_pool.specs.Disk.{State, Disk, MayLeave, is_at}
+use Rattle.dasd_pool.specs.Disk.{Image, State, Disk, MayLeave, is_at}
 use Rattle.dasd_pool.specs.Calls.{size_of, texts_of, image_of, shape_of, first_state, disk_after, IsKept}
 use Rattle.dasd_pool.specs.declared.failures.Failures.{Failures}
 use Rattle.dasd_pool.specs.Kept.{KeptView, with_call, WithWrite}
@@ -121,3 +121,9 @@ pub record Agree (pool : MemoryView) (width : ℕ) : Type 0 where
   pub whole : All (IsKept pool.units) pool.calls
   pub most : length pool.calls ≤ pool.keep
   pub marked : pool.keep ≡ 0 → (u : ℕ) → length (slice_index_or pool.marks u []) ≡ (shape_of pool.units).blocks u
+
+-- Another pool holds what a stop may leave of this one: an image that its disk allows since a time.
+pub record IsLeftOf (pool : MemoryView) (since : ℕ) (left : MemoryView) : Type 0 where
+  pub image : Image
+  pub allowed : (disk_of pool).left_since since image
+  pub held : (u b : ℕ) → u < length pool.units → b < (shape_of pool.units).blocks u → (state_of left).contents u b ≡ image u b

@@ -5,7 +5,7 @@ ghost use Rattle.dasd_pool.specs.declared.calls.Call.TheVariants.{Read, Sync};
 ghost use Rattle.dasd_pool.specs.Count.{HasCause};
 ghost use Rattle.dasd_pool.specs.Disk.{Runs, none, is_at, IsSynced};
 ghost use Rattle.dasd_pool.specs.Calls.{LeftSince, block_at, IsKept, written, size_in, size_of, texts_of, items_of, first_state, shape_of, image_of};
-ghost use Rattle.dasd_pool.specs.Memory.{fresh, disk_of, state_of, is_full, fails, IsCall, Keeps, KeepsWrite, write_step, sync_step};
+ghost use Rattle.dasd_pool.specs.Memory.{fresh, disk_of, state_of, is_full, fails, IsCall, Keeps, KeepsWrite, write_step, sync_step, IsLeftOf};
 ghost use Rattle.dasd_pool.specs.Tears.{torn, trace_after, trace_first, IsSized, IsTornFrom, torn_image};
 
 use crate::calls::{Call, Tear};
@@ -76,7 +76,8 @@ impl MemoryPool {
     }
 
     /// The pool as a stop after so many of the kept calls leaves it, or after all where it kept fewer, each block that is
-    /// not synced torn. A pool that keeps no calls comes back as it was at first.
+    /// not synced torn. A pool that keeps calls comes back as its disk says that a stop may leave it, and one that keeps none
+    /// as it was at first.
     pub fn crash(&self, alloc: Global, calls: u64, tear: Tear) -> Result<MemoryPool, NoMemory>
         ensures torn { IfOk result (λ m. IsTornFrom tear self.now.units (take calls self.now.calls) m.units) }
         ensures fresh { IfOk result (λ m. (m.calls ≡ []) × (m.failing ≡ []) × (m.keep ≡ self.now.keep)) }
@@ -87,6 +88,7 @@ impl MemoryPool {
             → (state_of m).contents u b ≡ (first_state self.now.units).contents u b) }
         ensures possible { (since : ℕ) → since ≤ min calls (length self.now.calls)
             → LeftSince (first_state self.now.units) self.now.calls since (torn_image tear self.now.units (take calls self.now.calls)) }
+        ensures left { IfOk result (λ m. 0 < self.now.keep → (since : ℕ) → since ≤ min calls (length self.now.calls) → IsLeftOf self.now since m) }
     {
         let kept = self.kept.calls();
         let count = (calls as usize).min(kept.len());

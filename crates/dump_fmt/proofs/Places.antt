@@ -1,24 +1,12 @@
 -- Lists of which some places change.
-use Rattle.std.proofs.Common.{◌≡◌, ◌≢◌, inl, inr, ℕ, suc, zero, ◌+◌, ◌<◌, ◌≤◌, List, [], ◌∷◌, ◌++◌, length, take, Some, slice_get, slice_set, get_or, refl, sym, ap, subst, ◌∙◌, arith, length-take, take_all}
+use Rattle.std.proofs.Common.{◌≡◌, inl, inr, ℕ, suc, ◌+◌, ◌<◌, ◌≤◌, List, [], ◌∷◌, ◌++◌, length, take, Some, slice_get, slice_set, get_or, refl, sym, ap, subst, ◌∙◌, arith, length-take, take_all}
 use Rattle.std.specs.List.{Contains}
 use Rattle.std.proofs.lemmas.List.Elements.{Contains-push, Contains-push_cases, Contains-append_left}
-use Rattle.std.proofs.lemmas.Option.{none-some, same_Some, slice_get-get_or, slice_get_within}
+use Rattle.std.proofs.lemmas.Option.{same_Some, slice_get-get_or, slice_get_within}
 use Rattle.std.proofs.lemmas.List.{length-set, get_or-take, get_or_default}
 use Rattle.std.proofs.Math.Seq.{take-suc}
+use Rattle.dasd_pool.proofs.Slices.{get_set, get_set_other}
 use Rattle.dump_fmt.specs.Outs.{EachAt, AreDistinct}
-
-module _ {X : Type 0} where
-  pub get_set : (xs : List X) (i : ℕ) (x y : X) → slice_get xs i ≡ Some y → slice_get (slice_set xs i x) i ≡ Some x
-  get_set [] i x y at = absurd (none-some y at)
-  get_set (z ∷ xs) zero x y at = refl
-  get_set (z ∷ xs) (suc i) x y at = get_set xs i x y at
-
-  pub get_set_other : (xs : List X) (i j : ℕ) (x : X) → j ≢ i → slice_get (slice_set xs i x) j ≡ slice_get xs j
-  get_set_other [] i j x apart = refl
-  get_set_other (z ∷ xs) zero zero x apart = absurd (apart refl)
-  get_set_other (z ∷ xs) zero (suc j) x apart = refl
-  get_set_other (z ∷ xs) (suc i) zero x apart = refl
-  get_set_other (z ∷ xs) (suc i) (suc j) x apart = get_set_other xs i j x (λ same. apart (ap (λ (n : ℕ). suc n) same))
 
 none_contained : {X : Type 0} (x : X) → ¬ Contains [] x
 none_contained x has = omega (arith, has.1)

@@ -1,6 +1,7 @@
 -- A slot holds one track, and so one label at most and one record that it names.
 use Rattle.std.proofs.Common.{◌≡◌, ◌≢◌, ℕ, ◌+◌, ◌-◌, ◌*◌, ◌==◌, ◌≤◌, ◌<◌, List, ◌++◌, length, take, drop, replicate, find, Some, None, sym, ap, subst, ◌∙◌, arith, length-append}
 use Rattle.std.proofs.lemmas.List.{take_at, length-replicate}
+use Rattle.std.proofs.lemmas.Option.{same_Some}
 use Rattle.ckd_image.specs.declared.device.Device.{Device}
 use Rattle.ckd_image.specs.declared.device.Device.TheVariants.{D3390, D3380}
 use Rattle.ckd_image.specs.declared.head.Head.{Head}
@@ -76,12 +77,9 @@ pub format_4_there : (head : DumpHead) (label : Label) (bytes : List ℕ) (track
     → IsFirstNumbered label.vtoc.r track.recs rec → IsFormat4 rec → IsFormat4Slot head label bytes
 format_4_there head label bytes track rec text numbered is = record { track = track; rec = rec; text = text; numbered = numbered; key = is.key; body = is.body; format = is.format }
 
-same_rec : (a b : Rec) → Some a ≡ Some b → a ≡ b
-same_rec a b e = cc
-
 pub format_4_of : (head : DumpHead) (label : Label) (bytes : List ℕ) (track : Text) (rec : Rec) → length bytes ≤ slot_of head.device → head.vtoc < 65535
     → IsTrackText (address_of (heads_of head.device) head.vtoc) (filled_slot head.device bytes) track → IsFirstNumbered label.vtoc.r track.recs rec → IsFormat4Slot head label bytes → IsFormat4 rec
 format_4_of head label bytes track rec short few text numbered is =
     let here : IsFirstNumbered label.vtoc.r track.recs is.rec =
     subst (λ (t : Text). IsFirstNumbered label.vtoc.r t.recs is.rec) (one_track head.device head.vtoc bytes is.track track short few is.text text) is.numbered in
-    subst IsFormat4 (same_rec is.rec rec (sym here ∙ numbered)) (record { key = is.key; body = is.body; format = is.format })
+    subst IsFormat4 (same_Some is.rec rec (sym here ∙ numbered)) (record { key = is.key; body = is.body; format = is.format })

@@ -12,17 +12,15 @@ use Rattle.dump_read.specs.PartText.{IsBehind}
 use Rattle.dump_read.specs.Standing.{last_name, name_of}
 use Rattle.dump_read.proofs.OnWay.{Precedes}
 
-names_rank : IsStrictWeakOrder (λ (a b : List ℕ). is_lt (slice_cmp nat_cmp a b))
-names_rank = ranks_by nat_list_cmp_total (λ (name : List ℕ). name)
-
 name_chain : (a b c : List ℕ) → IsTrue (is_lt (slice_cmp nat_cmp a b)) → IsTrue (is_lt (slice_cmp nat_cmp b c)) → IsTrue (is_lt (slice_cmp nat_cmp a c))
 name_chain a b c first second = by (is_lt (slice_cmp nat_cmp a c)) refl
   where
     by : (less : Bool) → is_lt (slice_cmp nat_cmp a c) ≡ less → less ≡ true
     by true is = refl
     by false is =
-        let back : is_lt (slice_cmp nat_cmp c b) ≡ false = names_rank.one_way b c second in
-        let none : is_lt (slice_cmp nat_cmp a b) ≡ false = names_rank.chain a c b is back in
+        let ranks : IsStrictWeakOrder (λ (x y : List ℕ). is_lt (slice_cmp nat_cmp x y)) = ranks_by nat_list_cmp_total (λ (name : List ℕ). name) in
+        let back : is_lt (slice_cmp nat_cmp c b) ≡ false = ranks.one_way b c second in
+        let none : is_lt (slice_cmp nat_cmp a b) ≡ false = ranks.chain a c b is back in
         let wrong : true ≡ false = sym first ∙ none in
         cc
 

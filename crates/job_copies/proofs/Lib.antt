@@ -1,5 +1,5 @@
 mod KeptNames
-mod SetsOfRows
+pub mod SetsOfRows
 mod Replaced
 mod Rows
 mod Tests

@@ -1,5 +1,6 @@
 -- The lines that print messages.
 use Rattle.std.specs.Prelude.{ℕ, ◌+◌, ◌/◌, ◌%◌, List, [], ◌∷◌, ◌++◌, Option, Some, None, codes, slice_index, ◌==◌, if◌then◌else◌, bit_and}
+use Rattle.std.specs.Option.{option_map_or}
 use Rattle.std.specs.Fmt.{decimal}
 use Rattle.ckd_image.specs.declared.device.Device.{Device}
 use Rattle.ckd_image.specs.declared.device.Device.TheVariants.{D3390, D3380}
@@ -7,6 +8,7 @@ use Rattle.sysin_words.specs.declared.lead.Verb.{Verb}
 use Rattle.sysin_words.specs.declared.lead.Verb.TheVariants as verbs
 use Rattle.volume_model.specs.declared.why.Why.{Why}
 use Rattle.volume_model.specs.declared.why.Why.TheVariants as whys
+use Rattle.volume_model.specs.Rules.{rule_of, words_of}
 use Rattle.job_lines.specs.declared.message.Reason.{Reason}
 use Rattle.job_lines.specs.declared.message.Reason.TheVariants as reasons
 use Rattle.job_lines.specs.declared.message.VolumeSummary.{VolumeSummary}
@@ -83,12 +85,9 @@ reason_words reasons.NotExpired = codes "NOT EXPIRED"
 reason_words reasons.BlockTooLong = codes "BLOCK TOO LONG"
 reason_words reasons.NewNameTooLong = codes "NEW NAME TOO LONG"
 
--- the words of a rule of the VTOC by its number
+-- the words of a rule of the VTOC by its number, and none where no rule has it
 abbrev pub rule_words : ℕ → List ℕ
-rule_words number =
-    if number == 1 then codes "NO FORMAT 4" else if number == 2 then codes "GEOMETRY" else if number == 3 then codes "VTOC EXTENT"
-    else if number == 4 then codes "TRACK" else if number == 5 then codes "DSCB" else if number == 6 then codes "NAME"
-    else if number == 7 then codes "POINTER" else if number == 8 then codes "RANGE" else if number == 9 then codes "OVERLAP" else codes "FREE"
+rule_words number = option_map_or words_of (rule_of number) []
 
 -- why a unit is offline
 abbrev pub why_words : Why → List ℕ

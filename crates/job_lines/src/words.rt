@@ -8,6 +8,7 @@ use crate::message::{Message, Reason};
 use crate::severity::Severity;
 use ckd_image::Device;
 use sysin_words::Verb;
+use volume_model::VtocRule;
 
 /// The letter behind a message's number.
 pub(crate) fn letter_of(severity: Severity) -> &'static str
@@ -80,21 +81,13 @@ pub(crate) fn reason_words(reason: Reason) -> &'static str
     }
 }
 
-/// The words of a rule of the VTOC by its number.
+/// The words of a rule of the VTOC by its number, and none where no rule has it.
 pub(crate) fn rule_words(number: u8) -> &'static str
     ensures { result.now ≡ spec.rule_words number }
 {
-    match number {
-        1 => "NO FORMAT 4",
-        2 => "GEOMETRY",
-        3 => "VTOC EXTENT",
-        4 => "TRACK",
-        5 => "DSCB",
-        6 => "NAME",
-        7 => "POINTER",
-        8 => "RANGE",
-        9 => "OVERLAP",
-        _ => "FREE",
+    match VtocRule::of_number(number) {
+        Some(rule) => rule.words(),
+        None => "",
     }
 }
 

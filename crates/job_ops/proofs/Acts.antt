@@ -16,12 +16,12 @@ use Rattle.job_steps.specs.declared.cut.Cut.{Cut}
 use Rattle.job_steps.specs.Carried.{pool_cut, pending_cut, IsShort, IsCutIn, AreAfter, AreUnitsAfter}
 use Rattle.job_ops.specs.declared.transfer.Transfer.{Transfer}
 use Rattle.job_ops.specs.declared.transfer.Act.{Act}
-use Rattle.job_ops.specs.Acts.{step_of_act, IsDone, AreSound, MayDo, AreDone, EndsActs, ActsAnswer}
+use Rattle.job_ops.specs.Acts.{step_of_act, IsDone, AreSound, MayDo, EndsActs, ActsAnswer}
 use Rattle.job_ops.specs.Ends.{KeepsFacts}
 use Rattle.job_ops.specs.Reshaping.{IsAttemptOf}
-use Rattle.job_ops.proofs.ReshapeEnds.{same_facts, facts_then, cut_facts_then, cut_before, cut_in, after_facts}
+use Rattle.job_ops.proofs.ReshapeEnds.{cut_facts_then, cut_before, cut_in, after_facts}
 use Rattle.job_ops.proofs.ReshapeParts.{IsReadyFor}
-use Rattle.job_ops.proofs.SameSessions.{no_change, keeps_then}
+use Rattle.job_ops.proofs.SameSessions.{no_change, keeps_then, keeps_same}
 
 moves_more : (step : Step) (done : List Step) (pending : Option Step) → moves_of (step ∷ done) pending ≡ step ∷ moves_of done pending
 moves_more step done None = refl
@@ -52,7 +52,7 @@ module _ {P : Type 0} (pools : Ghosts P) (transfer : Transfer) where
         added = [];
         steps_are = same;
         run = run_halted ready.run (tt {0}) run;
-        answers = (cut_facts_then pools cut (same_facts pools ready.same) left.0, front left.1);
+        answers = (cut_facts_then pools cut (keeps_same pools ready.same) left.0, front left.1);
       }
     where
       step : Step
@@ -73,7 +73,7 @@ module _ {P : Type 0} (pools : Ghosts P) (transfer : Transfer) where
     run = run_then ready.run (tt {0}) run;
     answers = (
       refl,
-      facts_then pools (same_facts pools ready.same) (after_facts pools planned next is),
+      keeps_then pools (keeps_same pools ready.same) (after_facts pools planned next is),
       (
         next.units,
         (planned.plan, ready.step_is, ready.lawful, subst (λ (units : List UnitState). AreUnitsAfter units planned.plan.changes next.units) ready.same.units is.units),
@@ -111,7 +111,7 @@ module _ {P : Type 0} (pools : Ghosts P) (transfer : Transfer) where
     answers : (answer : Result (SessionView P) (Cut P)) → ActsAnswer pools next transfer acts later.added answer → ActsAnswer pools session transfer (act ∷ acts) (first.added ++ later.added) answer
     answers (Ok last) is = (
       ap (λ (list : List Step). list ++ later.added) one ∙ ap (λ (list : List Step). step_of_act transfer act ∷ list) is.0,
-      facts_then pools first.answers.1 is.1,
+      keeps_then pools first.answers.1 is.1,
       (next.units, done, sound, is.2),
     )
     answers (Err cut) is = (

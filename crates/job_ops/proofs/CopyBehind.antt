@@ -3,6 +3,7 @@ use Rattle.std.proofs.Common.{◌≡◌, ◌≢◌, inl, inr, ℕ, ◌-◌, ◌/
 use Rattle.std.specs.Prelude.{slice_get, if◌then◌else◌}
 use Rattle.std.proofs.lemmas.Bool.{cases_eq}
 use Rattle.std.proofs.lemmas.List.Elements.{All-nil, All-cons, All-head, All-tail}
+use Rattle.dasd_pool.proofs.Slices.{get_set_other}
 use Rattle.dsn_filter.specs.declared.dsn.Dsn.{Dsn}
 use Rattle.dsn_filter.specs.Dsn.{IsDsn}
 use Rattle.free_map.specs.declared.run.Run.{Run}
@@ -27,7 +28,6 @@ use Rattle.job_ops.specs.Acts.{is_carried, AreDone, IsDone}
 use Rattle.job_ops.specs.Copying.{MayBeCopied, StaysCopyable}
 use Rattle.job_ops.proofs.ReshapeUnits.{loaded_after, repair_planned}
 use Rattle.job_ops.proofs.TransferPlans.{transfer_planned, delete_planned}
-use Rattle.job_ops.proofs.TransferUnits.{get_other}
 
 -- ---- one change
 
@@ -145,7 +145,7 @@ module _ {units after : List UnitState} {unit : ℕ} {change : Change} (names : 
     | inr differ ↦
         record {
           next = volume;
-          loaded = subst (λ (list : List UnitState). slice_get list other ≡ Some (Online volume)) (sym is.after_is) (get_other units unit other (Online is.next) differ ∙ at);
+          loaded = subst (λ (list : List UnitState). slice_get list other ≡ Some (Online volume)) (sym is.after_is) (get_set_other units unit other (Online is.next) (λ same. differ (sym same)) ∙ at);
           stays = record { device_is = refl; vtoc_is = refl; indexed_is = refl };
           rows = λ all. all;
         }

@@ -36,7 +36,7 @@ use Rattle.job_ops.specs.Reshaping.{IsKnown}
 use Rattle.job_ops.specs.Setting.{facts_of}
 use Rattle.job_ops.proofs.Looking.{unit_there}
 use Rattle.job_ops.proofs.ReshapeKnown.{known}
-use Rattle.job_ops.proofs.SetsOfRows.{named_set}
+use Rattle.job_copies.proofs.SetsOfRows.{named_set}
 use Rattle.job_steps.proofs.unit_session.unit_steps.OneChange.{same_volume}
 
 first_of : {A B : Type 0} → A × B → A

@@ -2,6 +2,7 @@
 use Rattle.std.proofs.Common.{◌≡◌, ◌≢◌, ◌⊎◌, inl, inr, ◌↔◌, ℕ, ◌-◌, ◌==◌, not, Bool, true, false, IsTrue, List, [], ◌∷◌, ◌++◌, length, replicate, All, Contains, refl, sym, ap, subst, ◌∙◌}
 use Rattle.std.specs.Prelude.{if◌then◌else◌}
 use Rattle.std.proofs.lemmas.List.Elements.{All-head, All-tail, All-nil, All-cons, All-contains}
+use Rattle.std.proofs.lemmas.Bool.{false≢true}
 use Rattle.ckd_image.specs.Device.{heads_of}
 use Rattle.dsn_filter.specs.declared.dsn.Dsn.{Dsn}
 use Rattle.free_map.specs.declared.run.Run.{Run}
@@ -23,13 +24,12 @@ use Rattle.job_copies.specs.unit_change.Changed.{extents_of, set_put, sets_put}
 use Rattle.unit_load.specs.declared.state.UnitState.{UnitState}
 use Rattle.move_core.specs.declared.steps.Step.TheVariants as steps
 use Rattle.move_core.specs.Steps.{IsCopy, IsNewKind, extents_on, fields_at, tracks_for, empty_text}
-use Rattle.plan_core.specs.Consolidate.{IsStepOf}
 use Rattle.job_copies.specs.unit_steps.declared.plan.Plan.{Plan}
 use Rattle.job_copies.specs.unit_steps.Plans.{IsLoadedAt, HasRow, IsPlan, putting, extents_in}
 use Rattle.job_copies.proofs.unit_steps.OneChange.{same_volume}
-use Rattle.job_steps.specs.unit_session.Planned.{IsFullFor}
+use Rattle.job_steps.specs.unit_session.Planned.{LacksRecordsFor}
 use Rattle.job_copies.specs.step_plans.Plans.{IsSound}
-use Rattle.job_copies.specs.step_room.Room.{IsFullFor as IsFull, LacksRoom, AreTaken, LackingChangesAreFull, FittingChangesAreNotFull}
+use Rattle.job_copies.specs.step_room.Room.{IsFullFor, LacksRoom, AreTaken, LackingChangesAreFull, FittingChangesAreNotFull}
 use Rattle.job_steps.specs.Carried.{HaveNext}
 use Rattle.job_copies.specs.Case.{Case, ReplacesSome}
 use Rattle.job_copies.specs.Places.{ArePlacesFor}
@@ -43,14 +43,8 @@ use Rattle.job_ops.proofs.ReshapeTargets.{described_by}
 use Rattle.job_ops.proofs.ReshapeUnits.{repair_planned}
 use Rattle.job_ops.proofs.TransferPlans.{PlansTransfer, transfer_planned}
 use Rattle.job_ops.proofs.TransferUnits.{full_one}
+use Rattle.job_ops.proofs.NewKinds.{one_kind, one_step}
 use Rattle.job_steps.proofs.unit_session.unit_steps.Small.{putting_no_mark, remove_no_mark}
-
-not_true : false ≡ true → ⊥
-not_true same = absurd (subst is_false same (tt {0}))
-  where
-    is_false : Bool → Type 0
-    is_false false = Unit {0}
-    is_false true = ⊥
 
 -- ---- marks
 
@@ -62,18 +56,6 @@ no_mark_repairs same = absurd (subst repairs same (tt {0}))
     repairs _ = ⊥
 
 -- ---- one kind, one row
-
-one_kind : (extents : List Extent) (a b : ℕ) → IsNewKind extents a → IsNewKind extents b → a ≡ b
-one_kind extents a b (inl (by, one)) (inl (also, other)) = one ∙ sym other
-one_kind extents a b (inl (by, one)) (inr (not_by, other)) = absurd (not_by by)
-one_kind extents a b (inr (not_by, one)) (inl (by, other)) = absurd (not_by by)
-one_kind extents a b (inr (not_by, one)) (inr (also, other)) = one ∙ sym other
-
-pub one_step : (heads : ℕ) (extents : List Extent) (a b : ℕ) → IsStepOf heads extents a → IsStepOf heads extents b → a ≡ b
-one_step heads extents a b (inl (by, one)) (inl (also, other)) = one ∙ sym other
-one_step heads extents a b (inl (by, one)) (inr (not_by, other)) = absurd (not_by by)
-one_step heads extents a b (inr (not_by, one)) (inl (by, other)) = absurd (not_by by)
-one_step heads extents a b (inr (not_by, one)) (inr (also, other)) = one ∙ sym other
 
 -- the maximal runs of a set of tracks are one list
 pub one_list : SameTracksSameRuns → (set : ℕ → Type 0) (a b : List Run) → AreMaximalRuns set a → AreMaximalRuns set b → a ≡ b
@@ -127,8 +109,8 @@ module _ {units : List UnitState} {transfer : Transfer} {case : Case} (is : IsTr
     where
       by : (delete within : Bool) → case.wish.delete ≡ delete → case.within ≡ within → IsCarried case
       by true false delete within = (delete, within)
-      by true true delete within = absurd (not_true (sym (carried_same ∙ (λ i. carried_by (delete i) (within i))) ∙ carried))
-      by false within delete same = absurd (not_true (sym (carried_same ∙ (λ i. carried_by (delete i) (same i))) ∙ carried))
+      by true true delete within = absurd (false≢true (sym (carried_same ∙ (λ i. carried_by (delete i) (within i))) ∙ carried))
+      by false within delete same = absurd (false≢true (sym (carried_same ∙ (λ i. carried_by (delete i) (same i))) ∙ carried))
 
   -- ---- whose free space is stated
 
@@ -233,7 +215,7 @@ module _ {units : List UnitState} {transfer : Transfer} {case : Case} (is : IsTr
       where
         by : (replaced : Bool) → transfer.replaced ≡ replaced → (gone : List DataSet) × GoFor case gone
         by true same = let other = is.replaced_is.0 same in (other.0 ∷ [], inl (other.0, other.1, refl))
-        by false same = ([], inr (λ some. not_true (sym same ∙ is.replaced_is.1 some), refl))
+        by false same = ([], inr (λ some. false≢true (sym same ∙ is.replaced_is.1 some), refl))
 
     -- ---- the copy lacks room
 
@@ -253,7 +235,7 @@ module _ {units : List UnitState} {transfer : Transfer} {case : Case} (is : IsTr
           is.placed,
           is_copy,
           gone.1,
-          subst (IsFull case.to gone.0) (puts_sets transfer.replaced copy_texts)
+          subst (IsFullFor case.to gone.0) (puts_sets transfer.replaced copy_texts)
               (law is.target case.to (putting transfer.replaced transfer.to.name plan.copy.row) gone.0 copy_texts is.target_sound is.to_is may_change (gone_of gone.0 gone.1) here),
         )
 
@@ -272,12 +254,12 @@ module _ {units : List UnitState} {transfer : Transfer} {case : Case} (is : IsTr
         (λ i. record { name = name i; fields = fields i; extents = extents i; texts = other.texts; threes = threes i })
 
     pub fits_copy : FittingChangesAreNotFull → (next : Volume) → IsNext is.target plan.change next → (other : DataSet) (gone : List DataSet) → IsCopy case.from case.to case.set case.new transfer.runs other
-        → GoFor case gone → ¬ IsFull case.to gone (other ∷ [])
+        → GoFor case gone → ¬ IsFullFor case.to gone (other ∷ [])
     fits_copy law next next_is other gone copied go full =
         let put : IsPut other = All-head IsPut other [] full.3.are_put in
         law is.target next case.to (putting transfer.replaced transfer.to.name plan.copy.row) gone other.texts is.target_sound is.to_is may_change
         (putting_no_mark transfer.replaced transfer.to.name plan.copy.row) (gone_of gone go) (subst (λ (c : Change). IsNext is.target c next) plan.copy.change_is next_is)
-        (subst (IsFull case.to gone) (sym (puts_sets transfer.replaced other.texts ∙ ap (λ (s : DataSet). s ∷ []) (same_copy other copied put))) full)
+        (subst (IsFullFor case.to gone) (sym (puts_sets transfer.replaced other.texts ∙ ap (λ (s : DataSet). s ∷ []) (same_copy other copied put))) full)
 
   -- ---- the origin goes
 
@@ -287,7 +269,7 @@ module _ {units : List UnitState} {transfer : Transfer} {case : Case} (is : IsTr
   -- ---- free space is stated
 
   module _ (unit : ℕ) (loaded : Volume) (volume : OnlineVolume) (at : IsLoadedAt units unit loaded) (sound : IsSound loaded) (describes : Describes loaded volume) where
-    pub repair_lacks : LackingChangesAreFull → (plan : Plan) (need free : ℕ) → plan.step ≡ steps.Repair unit → IsPlan units plan → IsFullFor units plan.changes need free → IsFull volume [] []
+    pub repair_lacks : LackingChangesAreFull → (plan : Plan) (need free : ℕ) → plan.step ≡ steps.Repair unit → IsPlan units plan → LacksRecordsFor units plan.changes need free → IsFullFor volume [] []
     repair_lacks law plan need free step_is lawful full =
         let made = (repair_planned units plan unit step_is lawful).1 in
         let one = full_one full in
@@ -299,7 +281,7 @@ module _ {units : List UnitState} {transfer : Transfer} {case : Case} (is : IsTr
           | inr none ↦ absurd (in_none one.0 none)
         ]
 
-    pub repair_fits_now : FittingChangesAreNotFull → (plan : Plan) → plan.step ≡ steps.Repair unit → IsPlan units plan → HaveNext units plan.changes → ¬ IsFull volume [] []
+    pub repair_fits_now : FittingChangesAreNotFull → (plan : Plan) → plan.step ≡ steps.Repair unit → IsPlan units plan → HaveNext units plan.changes → ¬ IsFullFor volume [] []
     repair_fits_now law plan step_is lawful nexts full =
         let made = (repair_planned units plan unit step_is lawful).1 in
         let one = All-head (λ (change : ℕ × Change). (v : Volume) × (next : Volume) × IsLoadedAt units change.0 v × IsNext v change.1 next) (unit, Repair) []

@@ -1,5 +1,5 @@
 -- The turn of a data set that is to be copied: what was judged of it, and what became of it.
-use Rattle.std.proofs.Common.{◌≡◌, ◌≢◌, ◌⊎◌, inl, inr, ◌↔◌, ℕ, ◌<◌, ◌≤◌, ◌==◌, Bool, true, false, IsTrue, List, [], ◌∷◌, ◌++◌, length, All, Contains, Option, Some, None, Ok, Err, refl, sym, ap, subst, ◌∙◌, arith}
+use Rattle.std.proofs.Common.{◌≡◌, inl, inr, ℕ, ◌≤◌, ◌==◌, List, [], ◌∷◌, ◌++◌, length, All, refl, ap, subst, ◌∙◌, arith}
 use Rattle.std.proofs.lemmas.List.Elements.{All-nil, All-cons, All-head, All-tail}
 use Rattle.ckd_image.specs.Device.{heads_of}
 use Rattle.ckd_image.specs.declared.device.Device.TheVariants.{D3390, D3380}
@@ -20,7 +20,8 @@ use Rattle.job_copies.specs.Places.{ArePlacesFor, HasNoPlaces}
 use Rattle.job_copies.specs.Reasons.{PreventsAtFirst, first_reasons}
 use Rattle.job_ops.specs.Copy.{Request, PreventsCopy, LacksRoomToCopy}
 use Rattle.job_ops.specs.Copying.{IsThere, IsCase}
-use Rattle.job_ops.proofs.CopyRoom.{one_list, one_step}
+use Rattle.job_ops.proofs.CopyRoom.{one_list}
+use Rattle.job_ops.proofs.NewKinds.{one_step}
 
 -- ---- reasons
 

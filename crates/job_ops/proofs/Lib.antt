@@ -1,3 +1,4 @@
+mod NewKinds
 mod ReshapeTargets
 mod ReshapeRoom
 mod ReshapeUnits

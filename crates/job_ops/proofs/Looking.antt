@@ -35,7 +35,8 @@ use Rattle.job_ops.specs.declared.task.Task.TheVariants as tasks
 use Rattle.job_ops.specs.Asked.{MayProcess, IsCandidate, IsSeen}
 use Rattle.job_ops.specs.Task.{StaysFor}
 use Rattle.job_ops.proofs.Judging.{volume_in}
-use Rattle.job_ops.proofs.SetsOfRows.{named_set, one_set}
+use Rattle.job_copies.proofs.SetsOfRows.{named_set}
+use Rattle.job_ops.proofs.SetsOfRows.{one_set}
 use Rattle.job_steps.proofs.unit_session.unit_steps.OneChange.{same_volume}
 
 -- ---- units
@@ -88,7 +89,7 @@ module _ {task : Task} {units : List UnitState} {unit : ℕ} {name : Dsn} {candi
         volume = volume;
         set = set;
         set_is = record { online_is = at; there = found.1; name_is = named };
-        alone = λ other there is_named. one_set is.volume volume is.sound describes name is.row is.row_is other set there found.1 is_named named;
+        alone = λ other there is_named. one_set is.volume volume is.sound describes name other set there found.1 is_named named;
         name_is = is.name_is ∙ sym has.name_is;
         size_is = is.size_is ∙ ap (λ (extents : List Extent). length (tracks_of extents)) (sym has.extents_are);
         extents_are = is.extents_are ∙ sym (ap length has.extents_are ∙ length-map is.row.extents (λ (extent : Field). extent_in (heads_of is.volume.device) (field_of extent)));

@@ -1,5 +1,5 @@
 -- The place of a data set on a volume that was loaded, and on what it describes.
-use Rattle.std.proofs.Common.{◌≡◌, inl, inr, ◌↔◌, ℕ, ◌+◌, ◌<◌, ◌≤◌, List, [], ◌∷◌, length, map, All, Contains, true, sym, ap, subst, ◌∙◌, arith}
+use Rattle.std.proofs.Common.{◌≡◌, ◌↔◌, ℕ, ◌+◌, ◌<◌, ◌≤◌, List, [], ◌∷◌, length, map, All, Contains, true, sym, ap, subst, arith}
 use Rattle.std.proofs.lemmas.List.{length-append, length-map}
 use Rattle.std.proofs.lemmas.List.Elements.{All-head}
 use Rattle.ckd_image.specs.Device.{heads_of}
@@ -21,23 +21,18 @@ use Rattle.volume_change.proofs.Names.{one_text}
 use Rattle.job_copies.specs.unit_change.Described.{DescribesSet, Describes}
 use Rattle.unit_load.specs.declared.state.UnitState.{UnitState}
 use Rattle.job_copies.specs.unit_steps.Plans.{IsLoadedAt, HasRow, extents_in}
-use Rattle.plan_core.specs.Consolidate.{IsRowOf, IsSized, IsStepOf, IsPlaceFor, HasNoPlace}
+use Rattle.plan_core.specs.Consolidate.{IsRowOf, IsSized, IsPlaceFor, HasNoPlace}
 use Rattle.job_copies.specs.step_plans.Plans.{IsSound, IsPlaceOn}
 use Rattle.job_copies.proofs.step_plans.LoadedRows.{sound_row}
 use Rattle.job_copies.proofs.step_room.SoundRows.{one_row}
 use Rattle.job_copies.proofs.job_select.Counts.{row_tracks_few}
 use Rattle.job_ops.proofs.ReshapeTargets.{described_by}
+use Rattle.job_ops.proofs.NewKinds.{one_step}
 use Rattle.job_ops.specs.Consolidate.{IsPlaceOf, LacksPlace}
 use Rattle.volume_model.proofs.Numbers.{numbers_long}
 use Rattle.job_steps.proofs.unit_session.unit_steps.OneChange.{same_volume}
 
 -- ---- places
-
-one_step : (heads : ℕ) (extents : List Extent) (a b : ℕ) → IsStepOf heads extents a → IsStepOf heads extents b → a ≡ b
-one_step heads extents a b (inl one) (inl other) = one.1 ∙ sym other.1
-one_step heads extents a b (inl one) (inr other) = absurd (other.0 one.0)
-one_step heads extents a b (inr one) (inl other) = absurd (one.0 other.0)
-one_step heads extents a b (inr one) (inr other) = one.1 ∙ sym other.1
 
 -- there is one place
 pub one_place : {set : ℕ → Type 0} {heads : ℕ} {extents : List Extent} {a b : ℕ} → IsPlaceFor set heads extents a → IsPlaceFor set heads extents b → a ≡ b

@@ -13,8 +13,8 @@ use Rattle.move_core.specs.Stands.{IsSettled}
 use Rattle.move_core.proofs.Running.{run_then}
 use Rattle.job_copies.specs.unit_steps.Plans.{PlansRepair}
 use Rattle.job_steps.specs.unit_session.Sessions.{SessionView, IsSameSession}
-use Rattle.job_steps.specs.unit_session.Planned.{PlannedView, IsFullFor}
-use Rattle.job_copies.specs.step_room.Room.{IsFullFor as IsFull, LackingChangesAreFull, FittingChangesAreNotFull}
+use Rattle.job_steps.specs.unit_session.Planned.{PlannedView, LacksRecordsFor}
+use Rattle.job_copies.specs.step_room.Room.{IsFullFor, LackingChangesAreFull, FittingChangesAreNotFull}
 use Rattle.job_steps.specs.declared.cut.Cut.{Cut}
 use Rattle.job_steps.specs.declared.cut.Cut.TheVariants as cuts
 use Rattle.job_steps.specs.Carried.{pending_cut, IsCutBefore, IsCutIn, AreAfter, HaveNext}
@@ -26,25 +26,10 @@ use Rattle.job_ops.specs.Setting.{facts_of}
 use Rattle.job_ops.specs.Reshaping.{step_of, IsReshaped, NeedsRepair, IsKnown, IsTarget, steps_of_reshape, LacksRoomToReshape, HasRoomToReshape, StaysChangeable, CutKeepsFacts, ReshapeAnswers, EndsReshape}
 use Rattle.job_ops.proofs.ReshapeTargets.{PlansReshape, one_put, put, put_reshaped}
 use Rattle.job_ops.proofs.ReshapeRoom.{change_full, change_fits, repair_full, repair_fits}
+use Rattle.job_ops.proofs.SameSessions.{keeps_same, keeps_then, same_then}
 
 module _ {P : Type 0} (pools : Ghosts P) where
   -- ---- sessions
-
-  pub same_facts : {old new : SessionView P} → IsSameSession pools old new → KeepsFacts pools old new
-  same_facts same = record { shape = same.shape; names = same.names; room = same.room }
-
-  pub facts_then : {old mid new : SessionView P} → KeepsFacts pools old mid → KeepsFacts pools mid new → KeepsFacts pools old new
-  facts_then one other = record { shape = other.shape ∙ one.shape; names = other.names ∙ one.names; room = other.room ∙ one.room }
-
-  same_then : {old mid new : SessionView P} → IsSameSession pools old mid → IsSameSession pools mid new → IsSameSession pools old new
-  same_then one other = record {
-    shape = other.shape ∙ one.shape;
-    state = λ told. other.state told ∙ one.state told;
-    room = other.room ∙ one.room;
-    names = other.names ∙ one.names;
-    units = other.units ∙ one.units;
-    vtocs = other.vtocs ∙ one.vtocs;
-  }
 
   -- what holds for the units of a session holds for those of the same one
   pub for_same : {old new : SessionView P} {Holds : List UnitModel → Type 0} → IsSameSession pools old new → ForUnits pools new Holds → ForUnits pools old Holds
@@ -56,7 +41,7 @@ module _ {P : Type 0} (pools : Ghosts P) where
 
   pub cut_facts_then : {old new : SessionView P} (cut : Cut P) → KeepsFacts pools old new → CutKeepsFacts pools new cut → CutKeepsFacts pools old cut
   cut_facts_then (cuts.Halted broken) facts keeps = tt
-  cut_facts_then (cuts.Short kept) facts keeps = facts_then facts keeps
+  cut_facts_then (cuts.Short kept) facts keeps = keeps_then pools facts keeps
 
   stays_from : {room room' : ℕ} {units units' : List UnitState} (after : List UnitState) (unit : ℕ) → room' ≡ room → units' ≡ units → StaysChangeable room' units' after unit → StaysChangeable room units after unit
   stays_from {room} {room'} {units} {units'} after unit rooms same stays =
@@ -65,10 +50,10 @@ module _ {P : Type 0} (pools : Ghosts P) where
   answers_same : {old new : SessionView P} (reshape : Reshape) (added : List Step) (result : Result (Reshaped P) (Cut P)) → IsSameSession pools old new → ReshapeAnswers pools new reshape added result
       → ReshapeAnswers pools old reshape added result
   answers_same reshape added (Ok (variants.Done next)) same (all, facts, stays, room) =
-      (all, facts_then (same_facts same) facts, stays_from next.units reshape.unit same.room same.units stays, for_same same room)
-  answers_same reshape added (Ok (variants.Full next)) same (none, kept, lacks) = (none, same_then same kept, for_same same lacks)
-  answers_same reshape added (Err cut) same (facts, inl before) = (cut_facts_then cut (same_facts same) facts, inl before)
-  answers_same reshape added (Err cut) same (facts, inr (rest, front, room)) = (cut_facts_then cut (same_facts same) facts, inr (rest, front, for_same same room))
+      (all, keeps_then pools (keeps_same pools same) facts, stays_from next.units reshape.unit same.room same.units stays, for_same same room)
+  answers_same reshape added (Ok (variants.Full next)) same (none, kept, lacks) = (none, same_then pools same kept, for_same same lacks)
+  answers_same reshape added (Err cut) same (facts, inl before) = (cut_facts_then cut (keeps_same pools same) facts, inl before)
+  answers_same reshape added (Err cut) same (facts, inr (rest, front, room)) = (cut_facts_then cut (keeps_same pools same) facts, inr (rest, front, for_same same room))
 
   -- the same from an earlier session that is the same
   pub ends_same : {old new : SessionView P} (reshape : Reshape) (before after : List Step) (result : Result (Reshaped P) (Cut P)) → IsSameSession pools old new
@@ -84,11 +69,11 @@ module _ {P : Type 0} (pools : Ghosts P) where
 
   pub cut_before : (session : SessionView P) (cut : Cut P) → IsCutBefore pools session cut → CutKeepsFacts pools session cut × (pending_cut cut ≡ None)
   cut_before session (cuts.Halted broken) is = (tt, is)
-  cut_before session (cuts.Short kept) is = (same_facts is, refl)
+  cut_before session (cuts.Short kept) is = (keeps_same pools is, refl)
 
   pub cut_in : (planned : PlannedView P) (cut : Cut P) → IsCutIn pools planned cut → CutKeepsFacts pools planned.session cut × ((pending_cut cut ≡ None) ⊎ (pending_cut cut ≡ Some planned.plan.step))
-  cut_in planned (cuts.Halted broken) is = (tt, is)
-  cut_in planned (cuts.Short kept) is = (same_facts is, inl refl)
+  cut_in planned (cuts.Halted broken) is = (tt, inr is)
+  cut_in planned (cuts.Short kept) is = (keeps_same pools is, inl refl)
 
   pub after_facts : (planned : PlannedView P) (session : SessionView P) → AreAfter pools planned session → KeepsFacts pools planned.session session
   after_facts planned session is = record { shape = is.shape; names = is.names; room = is.room }
@@ -97,7 +82,7 @@ module _ {P : Type 0} (pools : Ghosts P) where
 
   module _ {session : SessionView P} (reshape : Reshape) (known : IsKnown pools session reshape.unit) where
     module _ {changes : List (ℕ × Change)} (plan : PlansReshape session.units reshape changes) where
-      pub lacks_change : (need free : ℕ) → LackingChangesAreFull → IsFullFor session.units changes need free → ForUnits pools session (LacksRoomToReshape reshape)
+      pub lacks_change : (need free : ℕ) → LackingChangesAreFull → LacksRecordsFor session.units changes need free → ForUnits pools session (LacksRoomToReshape reshape)
       lacks_change need free law full told units settled volume set target =
           let sound = known.sound plan.swap.volume plan.swap.loaded in
           let is = known.described told units settled plan.swap.volume volume plan.swap.loaded target.online_is in (
@@ -107,13 +92,13 @@ module _ {P : Type 0} (pools : Ghosts P) where
           )
 
       fits_change : FittingChangesAreNotFull → HaveNext session.units changes → pools.tells → (units : List UnitModel) → IsSettled (facts_of pools session) (pools.disk session.pool).state units
-          → (volume : OnlineVolume) (set other : DataSet) → IsTarget units reshape volume set → IsReshaped reshape.layout set other → ¬ IsFull volume (set ∷ []) (other ∷ [])
+          → (volume : OnlineVolume) (set other : DataSet) → IsTarget units reshape volume set → IsReshaped reshape.layout set other → ¬ IsFullFor volume (set ∷ []) (other ∷ [])
       fits_change law all told units settled volume set other target becomes full =
           let sound = known.sound plan.swap.volume plan.swap.loaded in
           let is = known.described told units settled plan.swap.volume volume plan.swap.loaded target.online_is in
           let one : put plan sound is set target.there target.name_is ≡ other =
           one_put reshape.layout set (put plan sound is set target.there target.name_is) other (put_reshaped plan sound is set target.there target.name_is) becomes in
-          change_fits plan sound is set target.there target.name_is law all (subst (λ (d : DataSet). IsFull volume (set ∷ []) (d ∷ [])) (sym one) full)
+          change_fits plan sound is set target.there target.name_is law all (subst (λ (d : DataSet). IsFullFor volume (set ∷ []) (d ∷ [])) (sym one) full)
 
       not_both : true ≡ false → ⊥
       not_both same = absurd (subst is_true same (tt {0}))
@@ -137,7 +122,7 @@ module _ {P : Type 0} (pools : Ghosts P) where
 
       -- there is no room for the statement of the free space
       pub lacks_repair : {repairs : List (ℕ × Change)} → PlansRepair session.units reshape.unit repairs → reshape.repair ≡ true → NeedsRepair session.units reshape → (need free : ℕ)
-          → LackingChangesAreFull → IsFullFor session.units repairs need free → ForUnits pools session (LacksRoomToReshape reshape)
+          → LackingChangesAreFull → LacksRecordsFor session.units repairs need free → ForUnits pools session (LacksRoomToReshape reshape)
       lacks_repair repair unstated needs need free law full told units settled volume set target =
           let sound = known.sound plan.swap.volume plan.swap.loaded in
           let here = known.described told units settled plan.swap.volume volume plan.swap.loaded target.online_is in

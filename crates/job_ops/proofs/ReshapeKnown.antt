@@ -4,6 +4,7 @@ use Rattle.std.specs.Prelude.{slice_get}
 use Rattle.std.proofs.lemmas.Option.{same_Some}
 use Rattle.dasd_pool.specs.declared.pool.Pool.{Ghosts}
 use Rattle.volume_model.specs.Unit.{OnlineVolume, UnitModel, online}
+use Rattle.volume_model.proofs.Units.{same_online}
 use Rattle.vtoc_core.specs.declared.volume.Volume.{Volume}
 use Rattle.job_copies.specs.unit_change.Described.{Describes}
 use Rattle.unit_load.specs.declared.state.UnitState.{UnitState}
@@ -18,9 +19,6 @@ use Rattle.job_copies.specs.step_plans.Plans.{IsSound}
 use Rattle.job_ops.specs.Setting.{facts_of}
 use Rattle.job_ops.specs.Reshaping.{IsKnown}
 
-same_model : (a b : OnlineVolume) → online a ≡ online b → a ≡ b
-same_model a b same = cc
-
 module _ {P : Type 0} (pools : Ghosts P) (session : SessionView P) (unit : ℕ) (state : UnitState) (state_is : slice_get session.units unit ≡ Some state) where
   loaded_is : (volume : Volume) → IsLoadedAt session.units unit volume → state ≡ Online volume
   loaded_is volume loaded = same_Some state (Online volume) (sym state_is ∙ loaded)
@@ -31,7 +29,7 @@ module _ {P : Type 0} (pools : Ghosts P) (session : SessionView P) (unit : ℕ) 
   describes_unit : (loaded : Volume) (volume : OnlineVolume) → IsLoadedAt session.units unit loaded → IsModel state (online volume) → Describes loaded volume
   describes_unit loaded volume at is =
       let model : IsModel (Online loaded) (online volume) = subst (λ (s : UnitState). IsModel s (online volume)) (loaded_is loaded at) is in
-      subst (λ (v : OnlineVolume). Describes loaded v) (sym (same_model volume model.0 model.1)) model.2
+      subst (λ (v : OnlineVolume). Describes loaded v) (sym (same_online volume model.0 model.1)) model.2
 
   pub known : (head slots : List ℕ) (blocks : ℕ) → IsKept head blocks state slots
       → (pools.tells → (facts : Facts) (models : List UnitModel) (model : UnitModel) → facts.shape ≡ pools.shape session.pool → IsSettled facts (pools.disk session.pool).state models

@@ -14,7 +14,7 @@ use Rattle.move_core.proofs.Running.{run_then, run_halted}
 use Rattle.job_copies.specs.unit_steps.declared.plan.Plan.{Plan}
 use Rattle.job_copies.specs.unit_steps.Plans.{IsPlan}
 use Rattle.job_steps.specs.unit_session.Sessions.{SessionView, IsSameSession}
-use Rattle.job_steps.specs.unit_session.Planned.{PlannedView, IsFullFor}
+use Rattle.job_steps.specs.unit_session.Planned.{PlannedView, LacksRecordsFor}
 use Rattle.job_copies.specs.step_room.Room.{RepairsKeepRoomForExtents}
 use Rattle.job_steps.specs.declared.cut.Cut.{Cut}
 use Rattle.job_steps.specs.declared.steps.Attempt.{Attempt}
@@ -26,7 +26,8 @@ use Rattle.job_ops.specs.Ends.{ForUnits, KeepsFacts}
 use Rattle.job_ops.specs.Reshaping.{step_of, MayReshape, IsKnown, FitsReshape, IsAttemptOf, steps_of_reshape, LacksRoomToReshape, HasRoomToReshape, StaysChangeable, EndsReshape}
 use Rattle.job_ops.proofs.ReshapeUnits.{reshape_planned, repair_planned, after_one, stays_repaired, stays_changed, stays_then, may_after, still_fits}
 use Rattle.job_ops.proofs.ReshapeRoom.{next_at}
-use Rattle.job_ops.proofs.ReshapeEnds.{same_facts, facts_then, cut_facts_then, cut_before, cut_in, after_facts}
+use Rattle.job_ops.proofs.ReshapeEnds.{cut_facts_then, cut_before, cut_in, after_facts}
+use Rattle.job_ops.proofs.SameSessions.{keeps_same, keeps_then}
 
 -- ---- attempts
 
@@ -47,7 +48,7 @@ pub record IsFullAt {P : Type 0} (pools : Ghosts P) (session : SessionView P) (s
   pub lawful : IsPlan session.units plan
   pub need : ℕ
   pub free : ℕ
-  pub full : IsFullFor session.units plan.changes need free
+  pub full : LacksRecordsFor session.units plan.changes need free
 
 module _ {P : Type 0} (pools : Ghosts P) where
   ready : (session : SessionView P) (step : Step) (planned : PlannedView P) → IsAttemptOf pools session step (Ok (attempts.Ready planned)) → IsReadyFor pools session step planned
@@ -149,7 +150,7 @@ module _ {P : Type 0} (pools : Ghosts P) where
       added = done ++ (step ∷ []);
       steps_are = steps_are;
       run = run_then run (tt {0}) made;
-      answers = (sym all, facts_then pools facts (after_facts pools planned next is), stays, room);
+      answers = (sym all, keeps_then pools facts (after_facts pools planned next is), stays, room);
     }
 
   -- ---- units
@@ -175,7 +176,7 @@ module _ {P : Type 0} (pools : Ghosts P) where
   module _ (session : SessionView P) (reshape : Reshape) (planned : PlannedView P) (next : SessionView P) (is : IsReadyFor pools session (steps.Repair reshape.unit) planned)
       (after : AreAfter pools planned next) where
     pub facts_repaired : KeepsFacts pools session next
-    facts_repaired = facts_then pools (same_facts pools is.same) (after_facts pools planned next after)
+    facts_repaired = keeps_then pools (keeps_same pools is.same) (after_facts pools planned next after)
 
     pub there_repaired : reshape.unit < journal_of (pools.shape session.pool) → reshape.unit < journal_of (pools.shape next.pool)
     there_repaired below = subst (λ (shape : Shape). reshape.unit < journal_of shape) (sym facts_repaired.shape) below

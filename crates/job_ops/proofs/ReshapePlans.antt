@@ -1,6 +1,7 @@
 -- Plans of the steps of a change, which nothing bars.
-use Rattle.std.proofs.Common.{◌≡◌, ◌⊎◌, ℕ, ◌-◌, ◌/◌, ◌<◌, Bool, true, false, List, [], ◌∷◌, length, Result, Ok, Err, inl, inr, refl, sym, ap, subst, ◌∙◌, arith}
+use Rattle.std.proofs.Common.{◌≡◌, ◌⊎◌, ℕ, ◌-◌, ◌/◌, ◌<◌, true, false, List, [], ◌∷◌, length, Result, Ok, Err, inl, inr, refl, sym, ap, subst, ◌∙◌, arith}
 use Rattle.std.specs.Prelude.{Any, IfOk, IfErr}
+use Rattle.std.proofs.lemmas.Bool.{false≢true}
 use Rattle.dasd_pool.specs.declared.pool.Pool.{Ghosts}
 use Rattle.free_map.specs.declared.run.Run.{Run}
 use Rattle.vtoc_core.specs.declared.volume.Row.{Row}
@@ -36,18 +37,11 @@ use Rattle.job_ops.proofs.ReshapeUnits.{reshape_planned, repair_planned}
 any_one : {X : Type 0} (P : X → Type 0) (x : X) → Any P (x ∷ []) → P x
 any_one P x any = elim (first_or_later x any.1 [] (any.0, any.2, any.3)) [ inl same ↦ subst P (sym same) any.4 | inr none ↦ absurd (in_none any.1 none) ]
 
-not_true : false ≡ true → ⊥
-not_true same = absurd (subst is_false same (tt {0}))
-  where
-    is_false : Bool → Type 0
-    is_false false = Unit {0}
-    is_false true = ⊥
-
 module _ {room : ℕ} {units : List UnitState} {unit : ℕ} (may : MayBeChanged room units unit) (change : Change) (changes : List (ℕ × Change)) (are : changes ≡ (unit, change) ∷ []) where
   not_indexed : ¬ IsIndexed units changes
   not_indexed any =
       let one = any_one (λ (one : ℕ × Change). (volume : Volume) × IsLoadedAt units one.0 volume × (volume.indexed ≡ true)) (unit, change) (subst (λ (list : List (ℕ × Change)). IsIndexed units list) are any) in
-      not_true (sym may.not_indexed ∙ ap (λ (v : Volume). v.indexed) (same_volume units unit may.volume one.0 may.loaded one.1) ∙ one.2)
+      false≢true (sym may.not_indexed ∙ ap (λ (v : Volume). v.indexed) (same_volume units unit may.volume one.0 may.loaded one.1) ∙ one.2)
 
   not_long : ¬ IsLong room units changes
   not_long any =

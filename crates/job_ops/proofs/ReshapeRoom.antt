@@ -12,9 +12,9 @@ use Rattle.job_copies.specs.unit_change.Described.{Describes}
 use Rattle.unit_load.specs.declared.state.UnitState.{UnitState}
 use Rattle.job_copies.specs.unit_steps.Plans.{IsLoadedAt, PlansRepair}
 use Rattle.job_copies.proofs.unit_steps.OneChange.{same_volume}
-use Rattle.job_steps.specs.unit_session.Planned.{IsFullFor}
+use Rattle.job_steps.specs.unit_session.Planned.{LacksRecordsFor}
 use Rattle.job_copies.specs.step_plans.Plans.{IsSound}
-use Rattle.job_copies.specs.step_room.Room.{IsFullFor as IsFull, LacksRoom, AreTaken, LackingChangesAreFull, FittingChangesAreNotFull}
+use Rattle.job_copies.specs.step_room.Room.{IsFullFor, LacksRoom, AreTaken, LackingChangesAreFull, FittingChangesAreNotFull}
 use Rattle.job_steps.specs.Carried.{HaveNext}
 use Rattle.job_ops.specs.declared.reshaping.Reshape.{Reshape}
 use Rattle.job_ops.proofs.ReshapeTargets.{PlansReshape, texts_to, put, taken, put_is}
@@ -23,7 +23,7 @@ use Rattle.job_steps.proofs.unit_session.unit_steps.Small.{swap_no_mark}
 -- ---- one change
 
 -- the volume of one change lacks room
-pub one_lacks : (units : List UnitState) (unit : ℕ) (change : Change) (changes : List (ℕ × Change)) (need free : ℕ) → changes ≡ (unit, change) ∷ [] → IsFullFor units changes need free
+pub one_lacks : (units : List UnitState) (unit : ℕ) (change : Change) (changes : List (ℕ × Change)) (need free : ℕ) → changes ≡ (unit, change) ∷ [] → LacksRecordsFor units changes need free
     → (volume : Volume) × IsLoadedAt units unit volume × LacksRoom volume change
 one_lacks units unit change changes need free are full =
     let there : Contains ((unit, change) ∷ []) (full.unit, full.change) =
@@ -44,7 +44,7 @@ one_next units unit change changes are all =
 
 -- the same of a volume that is known
 pub lacks_at : (units : List UnitState) (unit : ℕ) (change : Change) (changes : List (ℕ × Change)) (volume : Volume) (need free : ℕ) → changes ≡ (unit, change) ∷ [] → IsLoadedAt units unit volume
-    → IsFullFor units changes need free → LacksRoom volume change
+    → LacksRecordsFor units changes need free → LacksRoom volume change
 lacks_at units unit change changes volume need free are loaded full =
     let one = one_lacks units unit change changes need free are full in
     subst (λ (v : Volume). LacksRoom v change) (same_volume units unit one.0 volume one.1 loaded) one.2
@@ -59,17 +59,17 @@ next_at units unit change changes volume are loaded all =
 
 module _ {units : List UnitState} {reshape : Reshape} {changes : List (ℕ × Change)} (plan : PlansReshape units reshape changes)
     {volume : OnlineVolume} (sound : IsSound plan.swap.volume) (is : Describes plan.swap.volume volume) (set : DataSet) (there : Contains volume.sets set) (named : IsNameOf reshape.name set.name) where
-  pub change_full : (need free : ℕ) → LackingChangesAreFull → IsFullFor units changes need free → IsFull volume (set ∷ []) (put plan sound is set there named ∷ [])
+  pub change_full : (need free : ℕ) → LackingChangesAreFull → LacksRecordsFor units changes need free → IsFullFor volume (set ∷ []) (put plan sound is set there named ∷ [])
   change_full need free law full =
-      subst (IsFull volume (set ∷ [])) (put_is plan sound is set there named)
+      subst (IsFullFor volume (set ∷ [])) (put_is plan sound is set there named)
       (law plan.swap.volume volume (Swap reshape.name plan.swap.row) (set ∷ []) (texts_to reshape.layout set.texts) sound is plan.swap.may (taken plan sound is set there named)
       (lacks_at units reshape.unit (Swap reshape.name plan.swap.row) changes plan.swap.volume need free plan.swap.changes_are plan.swap.loaded full))
 
-  pub change_fits : FittingChangesAreNotFull → HaveNext units changes → ¬ IsFull volume (set ∷ []) (put plan sound is set there named ∷ [])
+  pub change_fits : FittingChangesAreNotFull → HaveNext units changes → ¬ IsFullFor volume (set ∷ []) (put plan sound is set there named ∷ [])
   change_fits law all full =
       let next = next_at units reshape.unit (Swap reshape.name plan.swap.row) changes plan.swap.volume plan.swap.changes_are plan.swap.loaded all in
       law plan.swap.volume next.0 volume (Swap reshape.name plan.swap.row) (set ∷ []) (texts_to reshape.layout set.texts) sound is plan.swap.may (swap_no_mark reshape.name plan.swap.row)
-      (taken plan sound is set there named) next.1 (subst (IsFull volume (set ∷ [])) (sym (put_is plan sound is set there named)) full)
+      (taken plan sound is set there named) next.1 (subst (IsFullFor volume (set ∷ [])) (sym (put_is plan sound is set there named)) full)
 
 -- ---- the free space
 
@@ -85,11 +85,11 @@ none_taken volume = (refl, All-nil (Contains volume.sets))
 
 module _ {units : List UnitState} {unit : ℕ} {changes : List (ℕ × Change)} (plan : PlansRepair units unit changes)
     {volume : OnlineVolume} (sound : IsSound plan.volume) (is : Describes plan.volume volume) where
-  pub repair_full : (need free : ℕ) → LackingChangesAreFull → IsFullFor units changes need free → IsFull volume [] []
+  pub repair_full : (need free : ℕ) → LackingChangesAreFull → LacksRecordsFor units changes need free → IsFullFor volume [] []
   repair_full need free law full =
       law plan.volume volume Repair [] [] sound is (tt {0}) (none_taken volume) (lacks_at units unit Repair changes plan.volume need free plan.changes_are plan.loaded full)
 
-  pub repair_fits : FittingChangesAreNotFull → HaveNext units changes → ¬ IsFull volume [] []
+  pub repair_fits : FittingChangesAreNotFull → HaveNext units changes → ¬ IsFullFor volume [] []
   repair_fits law all full =
       let next = next_at units unit Repair changes plan.volume plan.changes_are plan.loaded all in
       law plan.volume next.0 volume Repair [] [] sound is (tt {0}) no_mark_repairs (none_taken volume) next.1 full

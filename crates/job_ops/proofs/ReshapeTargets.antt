@@ -1,5 +1,5 @@
 -- The data set that gets other extents, as its volume was loaded and as its volume is.
-use Rattle.std.proofs.Common.{◌≡◌, ◌≢◌, ℕ, List, [], ◌∷◌, length, take, Contains, inl, inr, refl, sym, ap, subst, ◌∙◌}
+use Rattle.std.proofs.Common.{◌≡◌, ℕ, List, [], ◌∷◌, length, take, Contains, inl, inr, refl, sym, ap, subst, ◌∙◌}
 use Rattle.std.proofs.lemmas.List.{length-map}
 use Rattle.std.proofs.lemmas.List.Elements.{All-nil, All-cons}
 use Rattle.ckd_image.specs.Device.{heads_of}
@@ -18,7 +18,7 @@ use Rattle.volume_change.proofs.Names.{one_text}
 use Rattle.job_copies.specs.unit_change.Changed.{sets_put}
 use Rattle.job_copies.specs.unit_change.Described.{DescribesSet, DescribesSets, Describes}
 use Rattle.unit_load.specs.declared.state.UnitState.{UnitState}
-use Rattle.move_core.specs.Steps.{IsNewKind, JoinsExtents, cut, extents_on, moved}
+use Rattle.move_core.specs.Steps.{JoinsExtents, cut, extents_on, moved}
 use Rattle.job_copies.specs.unit_steps.Plans.{HasRow, SwapsRow, IsRowWith, extents_in}
 use Rattle.job_copies.specs.step_plans.Plans.{IsSound}
 use Rattle.job_copies.specs.step_room.Room.{AreTaken}
@@ -27,6 +27,7 @@ use Rattle.job_ops.specs.declared.reshaping.Layout.{Layout}
 use Rattle.job_ops.specs.declared.reshaping.Layout.TheVariants as layouts
 use Rattle.job_ops.specs.declared.reshaping.Reshape.{Reshape}
 use Rattle.job_ops.specs.Reshaping.{IsReshaped}
+use Rattle.job_ops.proofs.NewKinds.{one_kind}
 
 -- ---- rows and data sets
 
@@ -69,12 +70,6 @@ pub record PlansReshape (units : List UnitState) (reshape : Reshape) (changes : 
   pub row_is : IsRowWith swap.volume swap.old.name (fields_of_1 swap.old.f1) extents swap.row
 
 -- ---- there is one such data set
-
-one_kind : (extents : List Extent) (a b : ℕ) → IsNewKind extents a → IsNewKind extents b → a ≡ b
-one_kind extents a b (inl one) (inl other) = one.1 ∙ sym other.1
-one_kind extents a b (inl one) (inr other) = absurd (other.0 one.0)
-one_kind extents a b (inr one) (inl other) = absurd (one.0 other.0)
-one_kind extents a b (inr one) (inr other) = one.1 ∙ sym other.1
 
 pub one_extents : (layout : Layout) (old a b : List Extent) → ExtentsTo layout old a → ExtentsTo layout old b → a ≡ b
 one_extents (layouts.Front keep) old a b one other = one ∙ sym other

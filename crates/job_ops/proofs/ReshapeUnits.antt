@@ -1,8 +1,8 @@
 -- The units behind a step that was carried out: what a statement asks of them stays, and so does the room for the change of a data set.
-use Rattle.std.proofs.Common.{◌≡◌, ◌≢◌, ◌⊎◌, inl, inr, ℕ, ◌+◌, ◌-◌, ◌/◌, ◌<◌, ◌≤◌, zero, suc, List, [], ◌∷◌, ◌++◌, length, map, Contains, Some, refl, sym, ap, subst, ◌∙◌}
-use Rattle.std.specs.Prelude.{slice_get, slice_set}
+use Rattle.std.proofs.Common.{◌≡◌, ◌≢◌, ◌⊎◌, inl, inr, ℕ, ◌+◌, ◌-◌, ◌/◌, ◌<◌, ◌≤◌, List, [], ◌∷◌, ◌++◌, length, map, Contains, Some, refl, sym, ap, subst, ◌∙◌}
+use Rattle.std.specs.Prelude.{slice_get}
 use Rattle.std.proofs.lemmas.List.{length-map}
-use Rattle.std.proofs.lemmas.Option.{none-some}
+use Rattle.dasd_pool.proofs.Slices.{get_set}
 use Rattle.ckd_image.specs.declared.device.Device.{Device}
 use Rattle.ckd_image.specs.Device.{heads_of}
 use Rattle.dscb_rec.specs.declared.field.Extent.{Extent as Field}
@@ -33,7 +33,7 @@ use Rattle.job_copies.specs.unit_steps.declared.plan.Plan.{Plan}
 use Rattle.job_copies.specs.unit_steps.declared.plan.Tracks.TheVariants as texts
 use Rattle.job_copies.specs.unit_steps.Plans.{IsLoadedAt, HasRow, Plans, PlansMove, PlansShrink, PlansRepair, IsPlan, extents_in}
 use Rattle.job_copies.proofs.unit_steps.OneChange.{same_volume}
-use Rattle.job_steps.specs.unit_session.Planned.{IsFullFor}
+use Rattle.job_steps.specs.unit_session.Planned.{LacksRecordsFor}
 use Rattle.job_copies.specs.step_plans.Plans.{IsSound}
 use Rattle.job_copies.specs.step_room.Room.{LacksRoom, RepairsKeepRoomForExtents}
 use Rattle.job_copies.proofs.step_room.SoundRows.{one_row}
@@ -99,11 +99,6 @@ pub repair_planned : (units : List UnitState) (plan : Plan) (unit : ℕ) → pla
 repair_planned units plan unit step_is is = subst (λ (step : Step). Plans units step plan.tracks plan.changes) step_is is
 
 -- ---- the unit behind one change
-
-get_set : {X : Type 0} (xs : List X) (i : ℕ) (x y : X) → slice_get xs i ≡ Some y → slice_get (slice_set xs i x) i ≡ Some x
-get_set [] i x y at = absurd (none-some y at)
-get_set (z ∷ xs) zero x y at = refl
-get_set (z ∷ xs) (suc i) x y at = get_set xs i x y at
 
 pub after_one : (units after : List UnitState) (unit : ℕ) (change : Change) (changes : List (ℕ × Change)) → changes ≡ (unit, change) ∷ [] → AreUnitsAfter units changes after
     → IsUnitAfter units unit change after
@@ -251,7 +246,7 @@ module _ {units after : List UnitState} {reshape : Reshape} {changes others : Li
       ∙ ap (λ (heads : ℕ). extents_of heads plan.swap.row) heads_were
 
   -- the room for the change stays
-  pub still_fits : RepairsKeepRoomForExtents → (next : Volume) → IsNext plan.swap.volume (Swap reshape.name plan.swap.row) next → (need free : ℕ) → ¬ IsFullFor after others need free
+  pub still_fits : RepairsKeepRoomForExtents → (next : Volume) → IsNext plan.swap.volume (Swap reshape.name plan.swap.row) next → (need free : ℕ) → ¬ LacksRecordsFor after others need free
   still_fits law next next_is need free full =
       law is.volume is.next next reshape.name plan.swap.row other.swap.row sound is.next_is (subst (λ (v : Volume). IsNext v (Swap reshape.name plan.swap.row) next) was next_is) same_name same_extents
       (subst (λ (v : Volume). LacksRoom v (Swap reshape.name other.swap.row)) becomes

@@ -38,6 +38,16 @@ module _ {P : Type 0} (pools : Ghosts P) where
     room = other.room ∙ one.room;
   }
 
+  pub same_then : {old mid new : SessionView P} → IsSameSession pools old mid → IsSameSession pools mid new → IsSameSession pools old new
+  same_then {old} {mid} {new} one other = record {
+    shape = other.shape ∙ one.shape;
+    state = λ told. other.state told ∙ one.state told;
+    room = other.room ∙ one.room;
+    names = other.names ∙ one.names;
+    units = other.units ∙ one.units;
+    vtocs = other.vtocs ∙ one.vtocs;
+  }
+
   pub leaves_then : {old mid : SessionView P} (result : Result (SessionView P) (Cut P)) → KeepsFacts pools old mid → LeavesFacts pools mid result → LeavesFacts pools old result
   leaves_then {old} {mid} (Ok next) one other = keeps_then one other
   leaves_then {old} {mid} (Err (cuts.Short kept)) one other = keeps_then one other

@@ -1,10 +1,11 @@
 -- A data set of settled units has as many texts as tracks.
-use Rattle.std.proofs.Common.{◌≡◌, ◌⊎◌, inl, inr, ℕ, zero, suc, ◌+◌, List, [], ◌∷◌, ◌++◌, length, Bool, Contains, Some, refl, sym, ap, subst, ◌∙◌, arith}
+use Rattle.std.proofs.Common.{◌≡◌, ◌⊎◌, inl, inr, ℕ, ◌+◌, List, [], ◌∷◌, ◌++◌, length, Bool, Contains, Some, refl, sym, ap, subst, ◌∙◌, arith}
 use Rattle.std.specs.Prelude.{slice_get}
 use Rattle.std.proofs.lemmas.Bool.{cases_eq}
 use Rattle.std.proofs.lemmas.List.{length-append}
 use Rattle.std.proofs.lemmas.Option.{same_Some}
 use Rattle.dasd_pool.specs.Disk.{State}
+use Rattle.dasd_pool.proofs.Slices.{get_there, get_other}
 use Rattle.redo_core.specs.declared.control.Control.{Control}
 use Rattle.redo_core.specs.declared.control.Control.TheVariants.{Idle, Slide}
 use Rattle.volume_model.specs.Directory.{DirectoryRow}
@@ -17,19 +18,6 @@ use Rattle.move_core.specs.Stands.{extent_from, moved_to, Slides, IsAfterSlide, 
 use Rattle.job_copies.proofs.unit_steps.Cutting.{texts_long}
 use Rattle.job_ops.proofs.Judging.{volume_in}
 use Rattle.job_copies.proofs.job_select.Counts.{tracks_long}
-
--- ---- lists
-
-module _ {X : Type 0} where
-  get_there : (front back : List X) (x : X) → slice_get (front ++ (x ∷ back)) (length front) ≡ Some x
-  get_there [] back x = refl
-  get_there (y ∷ front) back x = get_there front back x
-
-  get_other : (front back : List X) (old new : X) (u : ℕ) → ¬ (u ≡ length front) → slice_get (front ++ (old ∷ back)) u ≡ slice_get (front ++ (new ∷ back)) u
-  get_other [] back old new zero apart = absurd (apart refl)
-  get_other [] back old new (suc u) apart = refl
-  get_other (y ∷ front) back old new zero apart = refl
-  get_other (y ∷ front) back old new (suc u) apart = get_other front back old new u (λ same. apart (ap (λ (n : ℕ). suc n) same))
 
 -- ---- tracks
 

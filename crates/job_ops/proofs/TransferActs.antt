@@ -1,7 +1,7 @@
 -- The acts of a transfer can be done one after the other, where each of them fitted at first.
 use Rattle.std.proofs.Common.{◌≡◌, ◌≢◌, inl, inr, ℕ, ◌-◌, ◌/◌, ◌≤◌, ◌==◌, nat_lt, not, Bool, true, false, List, [], ◌∷◌, ◌++◌, Contains, refl, sym, ap, subst, ◌∙◌, append_assoc}
 use Rattle.std.specs.Prelude.{if◌then◌else◌}
-use Rattle.std.proofs.lemmas.Bool.{eqb-true}
+use Rattle.std.proofs.lemmas.Bool.{eqb-true, false≢true}
 use Rattle.std.proofs.lemmas.List.Elements.{All-contains}
 use Rattle.dsn_filter.specs.declared.dsn.Dsn.{Dsn}
 use Rattle.free_map.specs.declared.run.Run.{Run}
@@ -64,13 +64,6 @@ changed_by false name row old new is = is.0
 
 -- ---- a deletion behind the copy
 
-not_true : false ≡ true → ⊥
-not_true same = absurd (subst is_false same (tt {0}))
-  where
-    is_false : Bool → Type 0
-    is_false false = Unit {0}
-    is_false true = ⊥
-
 -- one that is deleted in a step of its own stays on its unit
 pub deleted_within : (transfer : Transfer) → is_deleted transfer ≡ true → (transfer.delete ≡ true) × (transfer.from.unit ≡ transfer.to.unit) × (is_carried transfer ≡ false)
 deleted_within transfer deleted = by transfer.delete refl
@@ -83,7 +76,7 @@ deleted_within transfer deleted = by transfer.delete refl
           eqb-true transfer.from.unit transfer.to.unit one,
           ap (λ (d : Bool). if d then not (transfer.from.unit == transfer.to.unit) else false) is ∙ ap not one,
         )
-    by false is = absurd (not_true (ap (λ (d : Bool). if d then transfer.from.unit == transfer.to.unit else false) (sym is) ∙ deleted))
+    by false is = absurd (false≢true (ap (λ (d : Bool). if d then transfer.from.unit == transfer.to.unit else false) (sym is) ∙ deleted))
 
 module _ {room : ℕ} {first units after : List UnitState} {transfer : Transfer} {began : MayTransfer room first transfer} (ready : IsReady began units) (deleted : is_deleted transfer ≡ true)
     (done : IsDone units transfer acts.Copy after) (sound : AreSound after transfer) where

@@ -23,7 +23,8 @@ use Rattle.job_ops.specs.declared.transfer.Act.TheVariants as acts
 use Rattle.job_ops.specs.Acts.{is_carried, is_deleted, is_unstated, step_of_act, due, repair_acts, acts_of, MayTransfer, MayLook, MayPlan, FitsNow, AllFit, SomeLacks, LacksRoom, EndsLook, EndsActs, EndsTransfer, AreDone}
 use Rattle.job_ops.specs.Copy.{lower_first}
 use Rattle.job_ops.specs.Reshaping.{IsAttemptOf}
-use Rattle.job_ops.proofs.ReshapeEnds.{same_facts, facts_then, cut_facts_then, cut_before}
+use Rattle.job_ops.proofs.ReshapeEnds.{cut_facts_then, cut_before}
+use Rattle.job_ops.proofs.SameSessions.{keeps_same, keeps_then, same_then}
 use Rattle.job_ops.proofs.ReshapeParts.{IsReadyFor, IsFullAt}
 use Rattle.job_ops.proofs.TransferPlans.{carried_deletes}
 
@@ -90,16 +91,6 @@ module _ {P : Type 0} (pools : Ghosts P) (transfer : Transfer) where
   same_itself : (session : SessionView P) → IsSameSession pools session session
   same_itself session = record { shape = refl; state = λ told. refl; room = refl; names = refl; units = refl; vtocs = refl }
 
-  same_then : {old mid new : SessionView P} → IsSameSession pools old mid → IsSameSession pools mid new → IsSameSession pools old new
-  same_then one other = record {
-    shape = other.shape ∙ one.shape;
-    state = λ told. other.state told ∙ one.state told;
-    room = other.room ∙ one.room;
-    names = other.names ∙ one.names;
-    units = other.units ∙ one.units;
-    vtocs = other.vtocs ∙ one.vtocs;
-  }
-
   abbrev FitsIn : List UnitState → Act → Type 0
   FitsIn units act = FitsNow units transfer act
 
@@ -153,7 +144,7 @@ module _ {P : Type 0} (pools : Ghosts P) (transfer : Transfer) where
   module _ {first now : SessionView P} {seen : List Act} (so_far : SeenSoFar first now seen) where
     pub seen_more : {next : SessionView P} (act : Act) → EndsLook pools now transfer (act ∷ []) (Ok (looks.Fits next)) → SeenSoFar first next (seen ++ (act ∷ []))
     seen_more {next} act is = record {
-      same = same_then so_far.same is.answers.0;
+      same = same_then pools so_far.same is.answers.0;
       run = run_then so_far.run (tt {0}) is.run;
       fit =
           All-append (FitsIn first.units) seen (act ∷ []) so_far.fit
@@ -171,7 +162,7 @@ module _ {P : Type 0} (pools : Ghosts P) (transfer : Transfer) where
         record {
           run = run_then so_far.run (tt {0}) is.run;
           answers = (
-            same_then so_far.same is.answers.0,
+            same_then pools so_far.same is.answers.0,
             (
               lacks.0,
               subst (λ (a : Act). Contains all a) same there,
@@ -186,7 +177,7 @@ module _ {P : Type 0} (pools : Ghosts P) (transfer : Transfer) where
       where
         before : (c : Cut P) → IsCutBefore pools now c → IsCutBefore pools first c
         before (cuts.Halted broken) none = none
-        before (cuts.Short kept) same = same_then so_far.same same
+        before (cuts.Short kept) same = same_then pools so_far.same same
 
   -- ---- the whole
 
@@ -195,7 +186,7 @@ module _ {P : Type 0} (pools : Ghosts P) (transfer : Transfer) where
     added = [];
     steps_are = sym (append-nil steps);
     run = run_idle (tt {0});
-    answers = (same_facts pools (same_itself session), inl (refl, refl));
+    answers = (keeps_same pools (same_itself session), inl (refl, refl));
   }
 
   pub transfer_unseen : (session : SessionView P) (all : List Act) (before after : List Step) (cut : Cut P) → after ≡ before → EndsLook pools session transfer all (Err cut)
@@ -224,7 +215,7 @@ module _ {P : Type 0} (pools : Ghosts P) (transfer : Transfer) where
       run = run_then look.run (tt {0}) is.run;
       answers = (
         is.answers.0 ∙ ap (map (step_of_act transfer)) acts_are,
-        facts_then pools (same_facts pools look.answers.0) is.answers.1,
+        keeps_then pools (keeps_same pools look.answers.0) is.answers.1,
         subst (λ (units : List UnitState). AreDone units transfer (acts_of session.units transfer) next.units) look.answers.0.units
             (subst (λ (list : List Act). AreDone seen.units transfer list next.units) acts_are is.answers.2),
         fit,
@@ -237,7 +228,7 @@ module _ {P : Type 0} (pools : Ghosts P) (transfer : Transfer) where
       steps_are = is.steps_are;
       run = run_then look.run (tt {0}) is.run;
       answers = (
-        cut_facts_then pools cut (same_facts pools look.answers.0) is.answers.0,
+        cut_facts_then pools cut (keeps_same pools look.answers.0) is.answers.0,
         inr (
           is.answers.1.0,
           ap (map (step_of_act transfer)) (sym acts_are) ∙ is.answers.1.1,

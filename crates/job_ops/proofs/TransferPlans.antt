@@ -1,7 +1,7 @@
 -- Plans of the acts of a transfer, which nothing bars.
 use Rattle.std.proofs.Common.{◌≡◌, ◌≢◌, ◌⊎◌, inl, inr, ℕ, Bool, true, false, ◌==◌, not, List, [], ◌∷◌, length, All, refl, sym, ap, subst, ◌∙◌, arith}
 use Rattle.std.specs.Prelude.{if◌then◌else◌}
-use Rattle.std.proofs.lemmas.Bool.{eq-eqb}
+use Rattle.std.proofs.lemmas.Bool.{eq-eqb, false≢true}
 use Rattle.std.proofs.lemmas.List.Elements.{All-nil, All-cons, All-contains}
 use Rattle.vtoc_core.specs.declared.volume.Row.{Row}
 use Rattle.vtoc_core.specs.declared.volume.Volume.{Volume}
@@ -28,13 +28,6 @@ use Rattle.job_ops.specs.Reshaping.{IsStepPlan}
 
 -- ---- nothing bars changes of volumes that may be changed
 
-not_true : false ≡ true → ⊥
-not_true same = absurd (subst is_false same (tt {0}))
-  where
-    is_false : Bool → Type 0
-    is_false false = Unit {0}
-    is_false true = ⊥
-
 abbrev AreChangeable : ℕ → List UnitState → List (ℕ × Change) → Type 0
 AreChangeable room units changes = All (λ (change : ℕ × Change). MayBeChanged room units change.0) changes
 
@@ -43,7 +36,7 @@ module _ {room : ℕ} {units : List UnitState} (changes : List (ℕ × Change)) 
   not_indexed any =
       let one = All-contains (λ (change : ℕ × Change). MayBeChanged room units change.0) changes any.1 may (any.0, any.2, any.3) in
       let is = any.4 in
-      not_true (sym one.not_indexed ∙ ap (λ (v : Volume). v.indexed) (same_volume units any.1.0 one.volume is.0 one.loaded is.1) ∙ is.2)
+      false≢true (sym one.not_indexed ∙ ap (λ (v : Volume). v.indexed) (same_volume units any.1.0 one.volume is.0 one.loaded is.1) ∙ is.2)
 
   not_long : ¬ IsLong room units changes
   not_long any =
@@ -81,7 +74,7 @@ module _ (units : List UnitState) (transfer : Transfer) (plan : Plan) (step_is :
     change = put.change;
     copy = put.copy;
     changes_are = put.changes_are ∙ ap (λ (b : Bool). (transfer.to.unit, put.change) ∷ (if b then (transfer.from.unit, Remove transfer.from.name) ∷ [] else [])) (sym carried);
-    may_remove = λ yes. absurd (not_true (sym carried ∙ yes));
+    may_remove = λ yes. absurd (false≢true (sym carried ∙ yes));
   }
 
   by_carried : (carried : Bool) → is_carried transfer ≡ carried → PlansTransfer units transfer plan.changes
@@ -129,9 +122,9 @@ carried_apart transfer carried same = by transfer.delete refl
   where
     by : (delete : Bool) → transfer.delete ≡ delete → ⊥
     by true is =
-        not_true
+        false≢true
         (sym (ap (λ (d : Bool). if d then not (transfer.from.unit == transfer.to.unit) else false) is ∙ ap not (eq-eqb transfer.from.unit transfer.to.unit same)) ∙ carried)
-    by false is = not_true (sym (ap (λ (d : Bool). if d then not (transfer.from.unit == transfer.to.unit) else false) is) ∙ carried)
+    by false is = false≢true (sym (ap (λ (d : Bool). if d then not (transfer.from.unit == transfer.to.unit) else false) is) ∙ carried)
 
 -- a data set that is carried is deleted
 pub carried_deletes : (transfer : Transfer) → is_carried transfer ≡ true → transfer.delete ≡ true
@@ -139,7 +132,7 @@ carried_deletes transfer carried = by transfer.delete refl
   where
     by : (delete : Bool) → transfer.delete ≡ delete → transfer.delete ≡ true
     by true is = is
-    by false is = absurd (not_true (ap (λ (d : Bool). if d then not (transfer.from.unit == transfer.to.unit) else false) (sym is) ∙ carried))
+    by false is = absurd (false≢true (ap (λ (d : Bool). if d then not (transfer.from.unit == transfer.to.unit) else false) (sym is) ∙ carried))
 
 module _ {room : ℕ} {units : List UnitState} {transfer : Transfer} (may : MayTransfer room units transfer) where
   changeable : (changes : List (ℕ × Change)) → PlansTransfer units transfer changes → AreChangeable room units changes

@@ -1,9 +1,9 @@
 -- The units behind the acts of a transfer: it may still go on there, and there is still room for what fitted before.
-use Rattle.std.proofs.Common.{◌≡◌, ◌≢◌, inl, inr, ℕ, ◌-◌, ◌/◌, ◌≤◌, zero, suc, Bool, true, false, List, [], ◌∷◌, length, All, Contains, Some, refl, sym, ap, subst, ◌∙◌}
-use Rattle.std.specs.Prelude.{slice_get, slice_set, if◌then◌else◌}
+use Rattle.std.proofs.Common.{◌≡◌, inl, inr, ℕ, ◌-◌, ◌/◌, ◌≤◌, Bool, true, false, List, [], ◌∷◌, length, All, Contains, Some, refl, sym, ap, subst, ◌∙◌}
+use Rattle.std.specs.Prelude.{slice_get, if◌then◌else◌}
 use Rattle.std.proofs.lemmas.Bool.{cases_eq}
-use Rattle.std.proofs.lemmas.Option.{none-some}
 use Rattle.std.proofs.lemmas.List.Elements.{All-head, All-tail}
+use Rattle.dasd_pool.proofs.Slices.{get_set_other}
 use Rattle.ckd_image.specs.declared.device.Device.{Device}
 use Rattle.ckd_image.specs.Device.{heads_of}
 use Rattle.dsn_filter.specs.declared.dsn.Dsn.{Dsn}
@@ -28,7 +28,7 @@ use Rattle.plan_core.specs.Consolidate.{IsStepOf}
 use Rattle.job_copies.specs.unit_steps.declared.plan.Plan.{Plan}
 use Rattle.job_copies.specs.unit_steps.Plans.{IsLoadedAt, HasRow, PlansCopy, IsPlan, putting, extents_in}
 use Rattle.job_copies.proofs.unit_steps.OneChange.{same_volume}
-use Rattle.job_steps.specs.unit_session.Planned.{IsFullFor}
+use Rattle.job_steps.specs.unit_session.Planned.{LacksRecordsFor}
 use Rattle.job_copies.specs.step_plans.Plans.{IsSound, ArePlacesOn, IsClear}
 use Rattle.job_copies.specs.step_room.Room.{LacksRoom, AreAlike, IsAsBefore, AlikeChangesHaveRoom}
 use Rattle.job_copies.proofs.step_room.Repairs.{as_it_was}
@@ -39,6 +39,7 @@ use Rattle.job_ops.specs.Asked.{MayBeChanged}
 use Rattle.job_ops.specs.Acts.{is_carried, step_of_act, MayTransfer, AreSound}
 use Rattle.job_ops.proofs.ReshapeUnits.{loaded_after, repair_planned}
 use Rattle.job_ops.proofs.TransferPlans.{PlansTransfer, transfer_planned}
+use Rattle.job_ops.proofs.NewKinds.{one_kind}
 
 -- ---- a volume whose free space is stated
 
@@ -74,18 +75,6 @@ as_before_then {first} {old} {new} (inr once) (inr next) = inr (as_it_was once.0
 
 -- ---- the units behind it
 
-get_set : {X : Type 0} (xs : List X) (i : ℕ) (x y : X) → slice_get xs i ≡ Some y → slice_get (slice_set xs i x) i ≡ Some x
-get_set [] i x y at = absurd (none-some y at)
-get_set (z ∷ xs) zero x y at = refl
-get_set (z ∷ xs) (suc i) x y at = get_set xs i x y at
-
-pub get_other : {X : Type 0} (xs : List X) (i j : ℕ) (x : X) → i ≢ j → slice_get (slice_set xs i x) j ≡ slice_get xs j
-get_other [] i j x differ = refl
-get_other (z ∷ xs) zero zero x differ = absurd (differ refl)
-get_other (z ∷ xs) zero (suc j) x differ = refl
-get_other (z ∷ xs) (suc i) zero x differ = refl
-get_other (z ∷ xs) (suc i) (suc j) x differ = get_other xs i j x (λ same. differ (ap suc same))
-
 -- a unit's volume behind a change of a unit
 pub record StandsBehind (units after : List UnitState) (unit : ℕ) (volume : Volume) : Type 0 where
   pub next : Volume
@@ -104,7 +93,7 @@ behind_repair units after unit other volume is at = elim (cases_eq unit other) [
   | inr differ ↦
       record {
         next = volume;
-        loaded = subst (λ (list : List UnitState). slice_get list other ≡ Some (Online volume)) (sym is.after_is) (get_other units unit other (Online is.next) differ ∙ at);
+        loaded = subst (λ (list : List UnitState). slice_get list other ≡ Some (Online volume)) (sym is.after_is) (get_set_other units unit other (Online is.next) (λ same. differ (sym same)) ∙ at);
         as_before = inl refl;
       }
 ]
@@ -196,7 +185,7 @@ ready_then {room} {first} {units} {after} {transfer} {began} {unit} ready is sou
 -- ---- room
 
 -- a change that has no room is one of the changes
-pub full_one : {units : List UnitState} {changes : List (ℕ × Change)} {need free : ℕ} → IsFullFor units changes need free
+pub full_one : {units : List UnitState} {changes : List (ℕ × Change)} {need free : ℕ} → LacksRecordsFor units changes need free
     → (one : ℕ × Change) × (volume : Volume) × Contains changes one × IsLoadedAt units one.0 volume × LacksRoom volume one.1
 full_one {units} {changes} {need} {free} full = (
   (full.unit, full.change),
@@ -220,7 +209,7 @@ next_of first unit old old_loaded fitted step_is lawful nexts =
 module _ (units first : List UnitState) (unit : ℕ) (old volume : Volume) (old_loaded : IsLoadedAt first unit old) (loaded : IsLoadedAt units unit volume) (sound : IsSound old)
     (before : IsAsBefore old volume) (law : AlikeChangesHaveRoom) where
   pub repair_fits : (fitted plan : Plan) (need free : ℕ) → fitted.step ≡ steps.Repair unit → IsPlan first fitted → HaveNext first fitted.changes → plan.step ≡ steps.Repair unit → IsPlan units plan
-      → ¬ IsFullFor units plan.changes need free
+      → ¬ LacksRecordsFor units plan.changes need free
   repair_fits fitted plan need free fitted_is fitted_lawful nexts step_is lawful full =
       let made = (repair_planned units plan unit step_is lawful).1 in
       let one = full_one full in
@@ -236,12 +225,6 @@ module _ (units first : List UnitState) (unit : ℕ) (old volume : Volume) (old_
 module _ {room : ℕ} {first units : List UnitState} {transfer : Transfer} {began : MayTransfer room first transfer} (ready : IsReady began units) (law : AlikeChangesHaveRoom) where
   abbrev heads : ℕ
   heads = heads_of began.target.volume.device
-
-  one_kind : (extents : List Extent) (a b : ℕ) → IsNewKind extents a → IsNewKind extents b → a ≡ b
-  one_kind extents a b (inl (by, one)) (inl (also, other)) = one ∙ sym other
-  one_kind extents a b (inl (by, one)) (inr (not_by, other)) = absurd (not_by by)
-  one_kind extents a b (inr (not_by, one)) (inl (by, other)) = absurd (not_by by)
-  one_kind extents a b (inr (not_by, one)) (inr (also, other)) = one ∙ sym other
 
   alike_by : (replaced : Bool) (row like : Row) → like.name ≡ row.name → extents_of heads like ≡ extents_of heads row
       → AreAlike heads (putting replaced transfer.to.name row) (putting replaced transfer.to.name like)
@@ -337,7 +320,7 @@ module _ {room : ℕ} {first units : List UnitState} {transfer : Transfer} {bega
         law began.source ready.may.source (next_source carried).0 (Remove transfer.from.name) (Remove transfer.from.name) began.source_sound ready.source (next_source carried).1 refl
         (subst (λ (v : Volume). LacksRoom v (Remove transfer.from.name)) (same_volume units transfer.from.unit volume ready.may.source loaded ready.may.source_loaded) lacks)
 
-    pub copy_fits : ¬ IsFullFor units plan.changes need free
+    pub copy_fits : ¬ LacksRecordsFor units plan.changes need free
     copy_fits full =
         let one = full_one full in
         elim (first_or_later (transfer.to.unit, now.change) one.0 (taking (is_carried transfer)) (subst (λ (list : List (ℕ × Change)). Contains list one.0) now.changes_are one.2)) [

@@ -13,7 +13,7 @@ use Rattle.move_core.specs.Runs.{IsRun, moves_of}
 use Rattle.job_copies.specs.unit_steps.declared.plan.Plan.{Plan}
 use Rattle.job_copies.specs.unit_steps.Plans.{IsLoadedAt, HasRow, IsPlan}
 use Rattle.job_steps.specs.unit_session.Sessions.{SessionView, IsSameSession}
-use Rattle.job_steps.specs.unit_session.Planned.{IsFullFor}
+use Rattle.job_steps.specs.unit_session.Planned.{LacksRecordsFor}
 use Rattle.job_copies.specs.step_plans.declared.copies.SetCopy.{SetCopy}
 use Rattle.job_copies.specs.step_plans.Plans.{IsSound, ArePlacesOn, IsClear}
 use Rattle.job_steps.specs.declared.cut.Cut.{Cut}
@@ -112,7 +112,7 @@ MayLook room units transfer act = MayPlan room units transfer act
 
 -- no plan of the act lacks room
 abbrev pub HasRoomFor : List UnitState → Transfer → Act → Type 0
-HasRoomFor units transfer act = (plan : Plan) (need free : ℕ) → plan.step ≡ step_of_act transfer act → IsPlan units plan → ¬ IsFullFor units plan.changes need free
+HasRoomFor units transfer act = (plan : Plan) (need free : ℕ) → plan.step ≡ step_of_act transfer act → IsPlan units plan → ¬ LacksRecordsFor units plan.changes need free
 
 -- ---- behind
 
@@ -173,7 +173,7 @@ pub record LacksRoom (units : List UnitState) (transfer : Transfer) (act : Act) 
   pub lawful : IsPlan units plan
   pub need : ℕ
   pub free : ℕ
-  pub full : IsFullFor units plan.changes need free
+  pub full : LacksRecordsFor units plan.changes need free
 
 -- a deletion is looked at when the copy stands
 abbrev pub FitsNow : List UnitState → Transfer → Act → Type 0

@@ -10,7 +10,7 @@ use Rattle.unit_load.specs.declared.state.UnitState.{UnitState}
 use Rattle.unit_load.specs.declared.state.UnitState.TheVariants.{Online}
 use Rattle.unit_session.specs.unit_steps.Plans.{IsLoadedAt}
 use Rattle.unit_session.specs.unit_steps.Rendering.{WereRendered, AreOfUnits, units_after}
-use Rattle.unit_session.proofs.unit_steps.Lists.{get_set_other}
+use Rattle.dasd_pool.proofs.Slices.{get_set_other}
 use Rattle.unit_session.proofs.unit_steps.Readying.{pairs_first, pairs_rest}
 use Rattle.job_steps.specs.Carried.{HaveNext, IsUnitAfter, AreUnitsAfter}
 

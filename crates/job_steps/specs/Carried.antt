@@ -1,5 +1,5 @@
 -- What is left where a step was planned or carried out, and where a statement was cut.
-use Rattle.std.specs.Prelude.{◌≡◌, ◌⊎◌, ℕ, List, [], ◌∷◌, All, slice_set, Option, Some, None, Result, Ok, Err}
+use Rattle.std.specs.Prelude.{◌≡◌, ℕ, List, [], ◌∷◌, All, slice_set, Option, Some, None, Result, Ok, Err}
 use Rattle.dasd_pool.specs.declared.pool.Pool.{Ghosts}
 use Rattle.vtoc_core.specs.declared.volume.Volume.{Volume}
 use Rattle.volume_change.specs.declared.change.Change.{Change}
@@ -10,7 +10,7 @@ use Rattle.move_core.specs.declared.steps.Step.{Step}
 use Rattle.unit_session.specs.unit_steps.declared.plan.Plan.{Plan}
 use Rattle.unit_session.specs.unit_steps.Plans.{IsLoadedAt}
 use Rattle.unit_session.specs.Sessions.{SessionView, BrokenView, IsSameSession}
-use Rattle.unit_session.specs.Planned.{PlannedView, IsFullFor}
+use Rattle.unit_session.specs.Planned.{PlannedView, LacksRecordsFor}
 use Rattle.job_steps.specs.declared.cut.Cut.{Cut}
 use Rattle.job_steps.specs.declared.cut.Cut.TheVariants as cuts
 use Rattle.job_steps.specs.declared.steps.Attempt.{Attempt}
@@ -66,7 +66,7 @@ HaveNext units changes = All (λ change. (volume : Volume) × (next : Volume) ×
 -- a plan of the session's units is ready, or the VTOC of one of its changes has no room; the session is as it was
 abbrev pub IsReadyOrFull : {P : Type 0} → Ghosts P → SessionView P → Plan → Attempt P → Type 0
 IsReadyOrFull pools session plan (attempts.Ready planned) = IsSameSession pools session planned.session × (planned.plan ≡ plan) × HaveNext session.units plan.changes
-IsReadyOrFull pools session plan (attempts.Full kept) = IsSameSession pools session kept × ((need : ℕ) × (free : ℕ) × IsFullFor session.units plan.changes need free)
+IsReadyOrFull pools session plan (attempts.Full kept) = IsSameSession pools session kept × ((need : ℕ) × (free : ℕ) × LacksRecordsFor session.units plan.changes need free)
 
 -- a statement was cut before a step was under way, and a session that is left is as it was
 abbrev pub IsCutBefore : {P : Type 0} → Ghosts P → SessionView P → Cut P → Type 0
@@ -80,9 +80,9 @@ abbrev pub steps_of : {P : Type 0} → Step → Result (SessionView P) (Cut P) �
 steps_of step (Ok session) = step ∷ []
 steps_of step (Err cut) = []
 
--- no step is under way, or this one is
+-- this step is under way
 abbrev pub IsUnderWay : {P : Type 0} → Step → BrokenView P → Type 0
-IsUnderWay step broken = (broken.pending ≡ None) ⊎ (broken.pending ≡ Some step)
+IsUnderWay step broken = broken.pending ≡ Some step
 
 abbrev pub pending_made : {P : Type 0} → Result (SessionView P) (BrokenView P) → Option Step
 pending_made (Ok session) = None
@@ -108,7 +108,7 @@ pub record AreAfter {P : Type 0} (pools : Ghosts P) (planned : PlannedView P) (s
   pub names : session.names ≡ planned.session.names
   pub units : AreUnitsAfter planned.session.units planned.plan.changes session.units
 
--- a planned step was cut: nothing was done, or it is under way
+-- a planned step was cut: it is under way, or nothing was done
 abbrev pub IsCutIn : {P : Type 0} → Ghosts P → PlannedView P → Cut P → Type 0
 IsCutIn pools planned (cuts.Halted broken) = IsUnderWay planned.plan.step broken
 IsCutIn pools planned (cuts.Short kept) = IsSameSession pools planned.session kept

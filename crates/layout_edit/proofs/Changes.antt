@@ -9,7 +9,7 @@ use Rattle.volume_model.specs.declared.place.Vtoc.{Vtoc}
 use Rattle.volume_model.specs.Dscbs.{format_of}
 use Rattle.volume_model.specs.Check.{records_of}
 use Rattle.vtoc_check.specs.Sized.{IsSized}
-use Rattle.vtoc_layout.specs.Layout.{AreDistinct, SetRecords, Layout, AreSetRecords, IsLayoutOf, records_in_set, used_records}
+use Rattle.vtoc_layout.specs.Layout.{AreDistinct, SetRecords, Layout, AreSetRecords, IsLayoutOf, records_in_set, records_used}
 use Rattle.vtoc_layout.proofs.Apart.{all_from}
 use Rattle.vtoc_layout.proofs.Distinct.{first_or_later, at_first, in_later, in_front, in_back, in_flat, from_map, not_both, distinct_front, distinct_back, distinct_append}
 use Rattle.vtoc_layout.proofs.Uses.{used_there, distinct_of_sets, set_is}
@@ -73,7 +73,7 @@ module _ (vtoc : Vtoc) (layout : Layout) (front gone back : List SetRecords) (ch
   kept = kept_records front back
 
   abbrev used : List Placed
-  used = used_records (layout_after front change back)
+  used = records_used (layout_after front change back)
 
   sets_before : flat_map records_in_set layout.sets ≡ of_front ++ (of_gone ++ of_back)
   sets_before = ap (flat_map records_in_set) made.sets_are ∙ flat_three records_in_set front gone back
@@ -316,7 +316,7 @@ module _ (vtoc : Vtoc) (layout : Layout) (front gone back : List SetRecords) (ch
       let found : edit_of edits old.place ≡ Some at.0 = edit_named edits at.0 old.place made.once at.1 at.2 in
       (let q : no_edit ≡ Some at.0 = sym none ∙ found in cc)
 
-  was_kept : (old : Placed) → Contains (used_records layout) old → edit_of edits old.place ≡ None → Contains kept old
+  was_kept : (old : Placed) → Contains (records_used layout) old → edit_of edits old.place ≡ None → Contains kept old
   was_kept old c none = by (first_or_later layout.four old (layout.fives ++ flat_map records_in_set layout.sets) c)
     where
       P : List Placed → Type 0

@@ -16,7 +16,7 @@ use Rattle.volume_model.specs.Check.{breach, records_of, fives_of, named_by, sam
 use Rattle.vtoc_check.specs.Places.{AreShort}
 use Rattle.vtoc_check.proofs.Order.{ascending}
 use Rattle.vtoc_check.proofs.Marks.{any_passes, passes_any}
-use Rattle.vtoc_layout.specs.FiveChain.{EndsAt, IsFiveChain, walk_of}
+use Rattle.volume_model.specs.FiveChain.{EndsAt, IsFiveChain, walk_of}
 use Rattle.vtoc_layout.specs.Layout.{IsLinked, AreLinkedFives, fives_in_order}
 use Rattle.vtoc_layout.proofs.FiveChains.{walk_is_chain}
 use Rattle.vtoc_layout.specs.Layout.{AreDistinct}

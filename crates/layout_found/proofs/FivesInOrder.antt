@@ -7,7 +7,7 @@ use Rattle.volume_model.specs.Check.{records_of, fives_of, named_by, first_of, f
 use Rattle.vtoc_check.specs.Places.{AreShort}
 use Rattle.vtoc_check.specs.FiveRule.{is_five}
 use Rattle.vtoc_check.specs.Pointers.{named}
-use Rattle.vtoc_layout.specs.FiveChain.{walk_of}
+use Rattle.volume_model.specs.FiveChain.{walk_of}
 use Rattle.vtoc_layout.specs.Layout.{IsLinked, AreLinkedFives, fives_in_order}
 use Rattle.vtoc_layout.proofs.FiveChains.{walk_is_chain}
 use Rattle.vtoc_layout.proofs.Distinct.{no_more}

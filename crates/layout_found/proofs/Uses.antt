@@ -15,7 +15,7 @@ use Rattle.volume_model.specs.Directory.{same_place}
 use Rattle.volume_model.specs.Check.{breach, records_of, same_bytes, later_ones, bad_tracks, bad_dscbs, bad_names, bad_pointers, breaches_of}
 use Rattle.vtoc_check.specs.Places.{AreShort}
 use Rattle.vtoc_check.proofs.Order.{ascending}
-use Rattle.vtoc_layout.specs.Layout.{SetRecords, IsLayoutOf, AreSetRecords, records_in_set, used_records, name_of, fives_in_order, set_of, sets_of, layout_of}
+use Rattle.vtoc_layout.specs.Layout.{SetRecords, IsLayoutOf, AreSetRecords, records_in_set, records_used, name_of, fives_in_order, set_of, sets_of, layout_of}
 use Rattle.vtoc_layout.specs.Layout.{AreDistinct}
 use Rattle.vtoc_layout.proofs.Apart.{all_from}
 use Rattle.vtoc_layout.proofs.Uses.{distinct_records, one_record}
@@ -162,10 +162,10 @@ layout_right vtoc four short there four_is four_at sound = record {
     all : AreAllFives vtoc fives
     all = all_fives vtoc short sound
 
-    subst_used : (x : Placed) → Contains (used_records (layout_of vtoc four)) x → Contains (four ∷ (fives ++ sets)) x
+    subst_used : (x : Placed) → Contains (records_used (layout_of vtoc four)) x → Contains (four ∷ (fives ++ sets)) x
     subst_used x c = let P : List Placed → Type 0 = λ found. Contains (four ∷ (fives ++ found)) x in subst P (set_records vtoc) c
 
-    used : (x : Placed) → Contains (four ∷ (fives ++ sets)) x → Contains (used_records (layout_of vtoc four)) x
+    used : (x : Placed) → Contains (four ∷ (fives ++ sets)) x → Contains (records_used (layout_of vtoc four)) x
     used x c = let P : List Placed → Type 0 = λ found. Contains (four ∷ (fives ++ found)) x in subst P (sym (set_records vtoc)) c
 
     of_set : (x : Placed) → Contains sets x → Contains records x × ((is_f1 (format_of x.bytes) ≡ true) ⊎ (is_f3 (format_of x.bytes) ≡ true))
@@ -210,7 +210,7 @@ layout_right vtoc four short there four_is four_at sound = record {
     ones_once : AreDistinct (ones_of vtoc)
     ones_once = distinct_filter is_one records (distinct_records (256 * vtoc.run.first) records (ascending vtoc.run.first vtoc.tracks short))
 
-    once : AreDistinct (used_records (layout_of vtoc four))
+    once : AreDistinct (records_used (layout_of vtoc four))
     once =
         let P : List Placed → Type 0 = λ found. AreDistinct (four ∷ (fives ++ found)) in
         subst P (sym (set_records vtoc)) (
@@ -230,7 +230,7 @@ layout_right vtoc four short there four_is four_at sound = record {
           linked = set_linked vtoc short sound found.0 one.0 one.1;
         })
 
-    rest : (placed : Placed) → Contains records placed → ¬ Contains (used_records (layout_of vtoc four)) placed → format_of placed.bytes ≡ Free
+    rest : (placed : Placed) → Contains records placed → ¬ Contains (records_used (layout_of vtoc four)) placed → format_of placed.bytes ≡ Free
     rest placed c unused = by (format_of placed.bytes) refl
       where
         off : Contains (four ∷ (fives ++ sets)) placed → format_of placed.bytes ≡ Free

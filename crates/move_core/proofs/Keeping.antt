@@ -1,12 +1,12 @@
 -- What a run keeps of the units that a pool stood for, and how runs follow one another.
-use Rattle.std.proofs.Common.{◌≡◌, ◌⊎◌, ⊎_elim, inl, ℕ, ◌+◌, ◌≤◌, List, [], ◌∷◌, ◌++◌, length, take, Bool, false, Option, Some, None, refl, sym, subst, arith, append_assoc}
+use Rattle.std.proofs.Common.{◌≡◌, ◌⊎◌, ⊎_elim, inl, ℕ, ◌+◌, ◌≤◌, List, [], ◌∷◌, ◌++◌, length, take, Bool, Option, Some, None, refl, sym, subst, arith, append_assoc}
 use Rattle.std.proofs.lemmas.List.{length-append, take-append-le, take_all}
 use Rattle.std.proofs.Math.Seq.{take-append-add}
 use Rattle.dasd_pool.specs.Disk.{Image, Shape, Disk, MayLeave, LeavesOnly, Touches, Spares, Runs, none}
 use Rattle.dasd_pool.proofs.Moments.{and_then, weaken, since_start, runs_start}
 use Rattle.redo_core.specs.declared.entries.Entry.{Entry}
-use Rattle.redo_core.specs.Format.{is_open}
-use Rattle.redo_core.specs.Reading.{journal_of, Reading}
+use Rattle.redo_core.specs.Reading.{Reading}
+use Rattle.redo_core.specs.Faults.{IsAllClosed}
 use Rattle.redo_core.specs.Phases.{OldOrNew, IsCommitted}
 use Rattle.redo_core.specs.declared.control.Control.{Control}
 use Rattle.redo_core.specs.Opening.{ReadsSame, IsOpened}
@@ -17,7 +17,7 @@ use Rattle.move_core.specs.Facts.{Facts}
 use Rattle.move_core.specs.Steps.{Reaches}
 use Rattle.move_core.specs.Stands.{Stands, AreUnused, IsSettled}
 use Rattle.move_core.specs.Laws.{WillStand}
-use Rattle.move_core.proofs.Standing.{opening_stands, opened_settled, image_stands, commit_stands, committed_settled}
+use Rattle.move_core.proofs.Standing.{opening_stands, opened_settled, image_stands, commit_stands, committed_settled, same_closed, image_closed, commit_closed}
 use Rattle.move_core.specs.Runs.{moves_of, StandsAfterSome, StandsAfterMost, EndsSettled, KeepsUnits, KeepsEach}
 use Rattle.move_core.proofs.Unused.{masked, masked_left, masked_settled, unused_settled}
 
@@ -82,12 +82,14 @@ moves_then steps more (Some step) = sym (append_assoc steps more (step ∷ []))
 -- ---- a run whose moments and end are known
 
 pub settled_keeps : (facts : Facts) (old new : Disk) (ended : Type 0) (first : List UnitModel) (steps : List Step)
-    → LeavesOnly old new (StandsAfterSome facts first steps) → EndsSettled facts new first steps None → KeepsUnits facts old new ended first steps None
-settled_keeps facts old new ended first steps moments ends = record {
+    → LeavesOnly old new (StandsAfterSome facts first steps) → (IsAllClosed facts.shape old.state.contents → LeavesOnly old new (IsAllClosed facts.shape))
+    → EndsSettled facts new first steps None → KeepsUnits facts old new ended first steps None
+settled_keeps facts old new ended first steps moments closes ends = record {
   any_moment = moments;
   returned = λ image left.
       all_of facts first steps ends.units ends.reached image (image_stands facts new.state ends.units image ends.settled left);
   settled = λ end. ends;
+  closed = closes;
 }
 
 -- it ends less often than that
@@ -97,6 +99,7 @@ ends_less facts old new ended less first steps pending implies keeps = record {
   any_moment = keeps.any_moment;
   returned = keeps.returned;
   settled = λ end. keeps.settled (implies end);
+  closed = keeps.closed;
 }
 
 -- ---- a run that writes only blocks on which no meaning rests
@@ -109,11 +112,16 @@ module _ (facts : Facts) (may : ℕ → ℕ → Bool) (old new : Disk) (units : 
       all_of facts units [] units refl image (image_stands facts (masked may old.state) units image
       (masked_settled may facts old.state units settled unused) (masked_left may old.state image spares))) run.leaves
 
+  quiet_closed : IsAllClosed facts.shape old.state.contents → LeavesOnly old new (IsAllClosed facts.shape)
+  quiet_closed closed = weaken old new (Spares may old.state) (IsAllClosed facts.shape)
+      (λ image spares.
+      image_closed facts (masked may old.state) units image (masked_settled may facts old.state units settled unused) (masked_left may old.state image spares) closed) run.leaves
+
   pub quiet_settled : IsSettled facts new.state units
   quiet_settled = unused_settled may facts old.state units settled unused new.state run.touches
 
   pub quiet : (ended : Type 0) → KeepsUnits facts old new ended units [] None
-  quiet ended = settled_keeps facts old new ended units [] quiet_moments (record { none_pending = refl; units = units; reached = refl; settled = quiet_settled })
+  quiet ended = settled_keeps facts old new ended units [] quiet_moments quiet_closed (record { none_pending = refl; units = units; reached = refl; settled = quiet_settled })
 
 none_unused : (shape : Shape) (reading : Reading) (found : List UnitModel) → AreUnused none shape reading found
 none_unused shape reading found = record { journal = λ b. refl; volumes = λ u b less rests. refl }
@@ -126,9 +134,35 @@ still facts old new ended run units settled = quiet facts none old new units set
 pub idle : (facts : Facts) (disk : Disk) (ended : Type 0) → KeepsEach facts disk disk ended [] None
 idle facts disk ended = still facts disk disk ended (runs_start none disk)
 
+-- ---- any moment of a run
+
+-- what a stop may have left since it began
+pub each_moment : (facts : Facts) (old new : Disk) (ended : Type 0) (units : List UnitModel) (steps : List Step) (pending : Option Step)
+    → IsSettled facts old.state units → KeepsUnits facts old new ended units steps pending
+    → (image : Image) → new.left_since old.moment image → StandsAfterSome facts units (moves_of steps pending) image
+each_moment facts old new ended units steps pending settled keeps =
+    since_start old new (StandsAfterSome facts units (moves_of steps pending)) keeps.any_moment
+    (λ image left.
+    lengthened facts units [] (moves_of steps pending) 0 image (all_of facts units [] units refl image (image_stands facts old.state units image settled left)))
+
+-- no slide and no fill is open in it
+pub each_closed : (facts : Facts) (old new : Disk) (ended : Type 0) (units : List UnitModel) (steps : List Step) (pending : Option Step)
+    → IsSettled facts old.state units → KeepsUnits facts old new ended units steps pending → IsAllClosed facts.shape old.state.contents
+    → (image : Image) → new.left_since old.moment image → IsAllClosed facts.shape image
+each_closed facts old new ended units steps pending settled keeps closed =
+    since_start old new (IsAllClosed facts.shape) (keeps.closed closed) (λ image left. image_closed facts old.state units image settled left closed)
+
+-- nor in what the pool then holds
+pub ends_closed : (facts : Facts) (old new : Disk) (ended : Type 0) (units : List UnitModel) (steps : List Step) (pending : Option Step)
+    → IsSettled facts old.state units → KeepsUnits facts old new ended units steps pending → IsAllClosed facts.shape old.state.contents
+    → IsAllClosed facts.shape new.state.contents
+ends_closed facts old new ended units steps pending settled keeps closed =
+    each_closed facts old new ended units steps pending settled keeps closed new.state.contents
+    (new.counts_now old.moment new.state.contents keeps.any_moment.later (λ u b was. refl))
+
 -- ---- one run, and then another
 
-module _ (facts : Facts) (old mid new : Disk) (ended later : Type 0) (first : List UnitModel) (steps more : List Step) (pending : Option Step)
+module _ (facts : Facts) (old mid new : Disk) (ended later : Type 0) (first : List UnitModel) (start : IsSettled facts old.state first) (steps more : List Step) (pending : Option Step)
     (run : KeepsUnits facts old mid ended first steps None) (end : ended) (next : KeepsEach facts mid new later more pending) where
   abbrev ends : EndsSettled facts mid first steps None
   ends = run.settled end
@@ -164,11 +198,14 @@ module _ (facts : Facts) (old mid new : Disk) (ended later : Type 0) (first : Li
               reached = reaches_then facts first steps ends.units more last.units ends.reached last.reached;
               settled = last.settled;
             };
+        closed = λ closed.
+            and_then old mid new (IsAllClosed facts.shape) (run.closed closed)
+            (second.closed (ends_closed facts old mid ended first steps None start run closed));
       }
 
 -- ---- a commit that makes one step, or none
 
-module _ (facts : Facts) (old new : Disk) (move : Option Step) (units made : List UnitModel) (settled : IsSettled facts old.state units) (closed : is_open (old.state.contents (journal_of facts.shape) 1) ≡ false)
+module _ (facts : Facts) (old new : Disk) (move : Option Step) (units made : List UnitModel) (settled : IsSettled facts old.state units)
     (entries : List Entry) (reached : Reaches facts units (moves_of [] move) made) (will : WillStand facts settled.stands.reading entries made)
     (moments : LeavesOnly old new (OldOrNew facts.shape old.state entries)) where
   abbrev moves : List Step
@@ -181,7 +218,11 @@ module _ (facts : Facts) (old new : Disk) (move : Option Step) (units made : Lis
 
   commit_moments : LeavesOnly old new (StandsAfterSome facts units moves)
   commit_moments = weaken old new (OldOrNew facts.shape old.state entries) (StandsAfterSome facts units moves)
-      (λ image either. stands_some image (commit_stands facts old.state units made entries image settled closed will either)) moments
+      (λ image either. stands_some image (commit_stands facts old.state units made entries image settled will either)) moments
+
+  closes : IsAllClosed facts.shape old.state.contents → LeavesOnly old new (IsAllClosed facts.shape)
+  closes closed = weaken old new (OldOrNew facts.shape old.state entries) (IsAllClosed facts.shape)
+      (λ image either. commit_closed facts old.state units made entries image settled will either closed) moments
 
   pub commit_failed : (ended : Type 0) → ¬ ended → KeepsUnits facts old new ended units [] move
   commit_failed ended never = record {
@@ -191,11 +232,12 @@ module _ (facts : Facts) (old new : Disk) (move : Option Step) (units made : Lis
         (λ other was. stands_some other (inl (image_stands facts old.state units other settled was)))
         image (new.counts_now old.moment image moments.later left);
     settled = λ end. absurd (never end);
+    closed = closes;
   }
 
   pub commit_done : (ended : Type 0) → IsCommitted facts.shape old.state entries new.state → KeepsUnits facts old new ended units (moves_of [] move) None
   commit_done ended committed =
-      settled_keeps facts old new ended units moves commit_moments (record {
+      settled_keeps facts old new ended units moves commit_moments closes (record {
         none_pending = refl;
         units = made;
         reached = reached;
@@ -211,6 +253,18 @@ demote facts old new ended later first steps step keeps never = record {
   returned = λ image left.
       least_of facts first (steps ++ (step ∷ [])) (length (steps ++ (step ∷ []))) (length steps) (omega (arith, length-append steps (step ∷ []))) image (keeps.returned image left);
   settled = λ end. absurd (never end);
+  closed = keeps.closed;
+}
+
+-- a step turns out to be under way where none was told
+pub under_way : (facts : Facts) (old new : Disk) (ended later : Type 0) (first : List UnitModel) (step : Step)
+    → KeepsUnits facts old new ended first [] None → ¬ later → KeepsUnits facts old new later first [] (Some step)
+under_way facts old new ended later first step keeps never = record {
+  any_moment = weaken old new (StandsAfterSome facts first []) (StandsAfterSome facts first (step ∷ []))
+      (λ image some. lengthened facts first [] (step ∷ []) 0 image some) keeps.any_moment;
+  returned = λ image left. lengthened facts first [] (step ∷ []) 0 image (keeps.returned image left);
+  settled = λ end. absurd (never end);
+  closed = keeps.closed;
 }
 
 -- ---- an opening
@@ -219,6 +273,11 @@ opening_moments : (facts : Facts) (old new : Disk) (units : List UnitModel) → 
     → LeavesOnly old new (ReadsSame facts.shape old.state) → LeavesOnly old new (StandsAfterSome facts units [])
 opening_moments facts old new units settled moments = weaken old new (ReadsSame facts.shape old.state) (StandsAfterSome facts units [])
     (λ image same. all_of facts units [] units refl image (opening_stands facts old.state units image settled same)) moments
+
+opening_closed : (facts : Facts) (old new : Disk) (units : List UnitModel) → IsSettled facts old.state units
+    → LeavesOnly old new (ReadsSame facts.shape old.state) → IsAllClosed facts.shape old.state.contents → LeavesOnly old new (IsAllClosed facts.shape)
+opening_closed facts old new units settled moments closed = weaken old new (ReadsSame facts.shape old.state) (IsAllClosed facts.shape)
+    (λ image same. same_closed facts old.state units image settled same closed) moments
 
 -- it was refused, and wrote nothing where it ended
 pub refused : (facts : Facts) (old new : Disk) (ended : Type 0) (units : List UnitModel) → IsSettled facts old.state units
@@ -237,26 +296,16 @@ refused facts old new ended units settled moments unwritten =
         reached = refl;
         settled = unused_settled none facts old.state units settled (none_unused facts.shape settled.stands.reading settled.stands.means.found) new.state (unwritten end);
       };
+      closed = opening_closed facts old new units settled moments;
     }
 
 -- it ended well, whatever names were asked for
 pub opened : (facts : Facts) (asked : List Serial) (room : ℕ) (control : Control) (fills : List Bool) (old new : Disk) (ended : Type 0) (units : List UnitModel) → IsSettled facts old.state units
     → LeavesOnly old new (ReadsSame facts.shape old.state) → IsOpened facts.shape old.state asked room control fills new.state → KeepsUnits facts old new ended units [] None
 opened facts asked room control fills old new ended units settled moments opens =
-    settled_keeps facts old new ended units [] (opening_moments facts old new units settled moments) (record {
+    settled_keeps facts old new ended units [] (opening_moments facts old new units settled moments) (opening_closed facts old new units settled moments) (record {
       none_pending = refl;
       units = units;
       reached = refl;
       settled = opened_settled facts old.state new.state units asked room control fills settled.stands opens;
     })
-
--- ---- any moment of a run
-
--- what a stop may have left since it began
-pub each_moment : (facts : Facts) (old new : Disk) (ended : Type 0) (units : List UnitModel) (steps : List Step) (pending : Option Step)
-    → IsSettled facts old.state units → KeepsUnits facts old new ended units steps pending
-    → (image : Image) → new.left_since old.moment image → StandsAfterSome facts units (moves_of steps pending) image
-each_moment facts old new ended units steps pending settled keeps =
-    since_start old new (StandsAfterSome facts units (moves_of steps pending)) keeps.any_moment
-    (λ image left.
-    lengthened facts units [] (moves_of steps pending) 0 image (all_of facts units [] units refl image (image_stands facts old.state units image settled left)))

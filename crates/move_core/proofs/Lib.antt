@@ -11,4 +11,5 @@ pub mod Replacing
 pub mod Unused
 pub mod Keeping
 pub mod Running
+pub mod SameBlocks
 pub mod Resuming

@@ -3,7 +3,6 @@ use Rattle.std.proofs.Common.{◌≡◌, ◌⊎◌, inl, inr, ℕ, zero, suc, �
 use Rattle.std.specs.Prelude.{Contains}
 use Rattle.std.specs.List.{AllByRecursion, IsDistinct, list_any}
 use Rattle.std.specs.List.Sorted.{IsSortedBy}
-use Rattle.std.specs.Cmp.{IsStrictWeakOrder}
 use Rattle.std.specs.declared.cmp.Ordering.{Ordering}
 use Rattle.std.specs.declared.cmp.Ordering.TheVariants.{Less, Equal, Greater}
 use Rattle.std.specs.Ordering.{is_lt, nat_cmp, ordering_reverse}
@@ -11,7 +10,6 @@ use Rattle.std.specs.Cmp.Lexicographic.{slice_cmp}
 use Rattle.std.specs.FinMap.{nat_cmp-IsAntisymmetric, slice_cmp-IsAntisymmetric}
 use Rattle.std.proofs.lemmas.Bool.{cases_Bool, both_ways, or_parts}
 use Rattle.std.proofs.lemmas.Cmp.{nat_list_cmp_total}
-use Rattle.std.proofs.lemmas.List.MinMax.{ranks_by}
 use Rattle.std.proofs.lemmas.List.Sorted.{sorted_far, Contains-permutation, IsPermutation-sym}
 use Rattle.std.proofs.lemmas.List.Folds.{list_any-append}
 use Rattle.std.proofs.lemmas.Map.Keys.{IsDistinct-IsPermutation}
@@ -24,6 +22,7 @@ use Rattle.volume_model.specs.Check.{breach, records_of, same_bytes, with_earlie
 use Rattle.volume_model.proofs.Filters.{filter_skip, filter_keep}
 use Rattle.move_core.proofs.Below.{nil_parts}
 use Rattle.ckd_image.proofs.Lists.{map_nil}
+use Rattle.volume_model.proofs.NameOrder.{by_name}
 use Rattle.volume_model.proofs.Numbers.{bytes_itself, bytes_equal}
 
 -- ---- lists whose names rise
@@ -35,9 +34,6 @@ IsIn row (x ∷ xs) = (row ≡ x) ⊎ IsIn row xs
 abbrev Rises : List DirectoryRow → Type 0
 Rises [] = Unit {0}
 Rises (x ∷ xs) = ((row : DirectoryRow) → IsIn row xs → name_before x row ≡ true) × Rises xs
-
-by_name : IsStrictWeakOrder name_before
-by_name = ranks_by nat_list_cmp_total (λ (row : DirectoryRow). take 44 row.format_1)
 
 not_both : (a b : DirectoryRow) → name_before a b ≡ true → name_before b a ≡ true → ⊥
 not_both a b one other = both_ways (name_before b a) (by_name.one_way a b one) other

@@ -1,6 +1,5 @@
 -- The blocks of a unit say one unit.
 use Rattle.std.proofs.Common.{◌≡◌, ◌⊎◌, inl, inr, ℕ, ◌-◌, ◌≤◌, List, [], ◌∷◌, length, map, not, Bool, true, false, refl, sym, ap, subst, ◌∙◌, arith}
-use Rattle.std.specs.Prelude.{Contains}
 use Rattle.std.specs.List.{AllByRecursion}
 use Rattle.std.proofs.lemmas.Bool.{false≢true}
 use Rattle.std.proofs.lemmas.List.Elements.{recursion_from_All}
@@ -9,7 +8,7 @@ use Rattle.ckd_image.specs.declared.fault.CkdFault.TheVariants.{BadHead}
 use Rattle.ckd_image.specs.declared.head.Head.{Head}
 use Rattle.ckd_image.specs.declared.track.Cchhr.{Cchhr}
 use Rattle.ckd_image.specs.declared.track.Track.{Track}
-use Rattle.ckd_image.specs.Address.{address_of, IsCchhr}
+use Rattle.ckd_image.specs.Address.{address_of}
 use Rattle.ckd_image.specs.Device.{heads_of}
 use Rattle.ckd_image.specs.Head.{IsHeadFault}
 use Rattle.ckd_image.proofs.OneText.{one_text}
@@ -21,25 +20,24 @@ use Rattle.free_map.specs.Runs.{InRuns}
 use Rattle.free_map.proofs.Gaps.{append_left, append_right}
 use Rattle.redo_core.proofs.Heads.{no_head}
 use Rattle.volume_model.specs.declared.why.Why.TheVariants as whys
-use Rattle.volume_model.specs.declared.rule.VtocRule.{VtocRule}
-use Rattle.volume_model.specs.declared.rule.VtocRule.TheVariants as rules
-use Rattle.volume_model.specs.Rules.{number_of}
 use Rattle.volume_model.specs.declared.place.Vtoc.{Vtoc}
 use Rattle.volume_model.specs.declared.place.Breach.{Breach}
-use Rattle.volume_model.specs.Check.{records_of, fives_of, usable_in, breaches_of, IsNotAfter, IsLowestBreach}
+use Rattle.volume_model.specs.Check.{records_of, fives_of, usable_in}
 use Rattle.volume_model.specs.Space.{track_at}
-use Rattle.volume_model.specs.declared.place.Place.{Place}
 use Rattle.volume_model.specs.Directory.{DirectoryRow, AreInOrder, rows_of}
-use Rattle.volume_model.specs.Sound.{Slots, IsFormat4, IsFirstRuleBroken, IsVtoc, IsCheckFault, HasGeometry, HasVtocExtent}
+use Rattle.volume_model.specs.Sound.{Slots, IsFormat4, IsVtoc, IsCheckFault}
 use Rattle.volume_model.specs.Unit.{Text, good, bad, Extent, DataSet, OnlineVolume, UnitModel, online, offline, run_in, runs_of_sets, tracks_of}
 use Rattle.volume_model.specs.Reads.{IsTextAt, AreTexts, IsDataSet, AreDataSets, IsOnline, HasImage, IsFirstText, HasBadLabel, HasLabelOf, HasBadVtoc, IsUnit, fields_of_4, has_index, blocks_from}
 use Rattle.move_core.proofs.Frames.{set_track_below}
-use Rattle.move_core.proofs.OneVtoc.{one_format4, one_vtoc}
+use Rattle.move_core.proofs.OneVtoc.{one_vtoc}
 use Rattle.move_core.proofs.OneOrder.{one_order}
 use Rattle.move_core.proofs.OneFault.{one_head_fault, one_label_fault}
-use Rattle.move_core.proofs.Online.{one_image, first_text, same_label, few_tracks, no_bad_label, no_bad_vtoc}
+use Rattle.move_core.proofs.Online.{one_image, first_text, same_label, no_bad_label, no_bad_vtoc}
 use Rattle.ckd_image.proofs.Devices.{is_address, one_device}
 use Rattle.volume_model.proofs.Numbers.{tracks_all}
+use Rattle.volume_model.proofs.OneVtoc.{one_format_4}
+use Rattle.volume_model.proofs.OneCheck as checks
+use Rattle.volume_model.proofs.OneCheck.{AreAlike}
 
 module _ (sliding : Bool) (place : ℕ → ℕ) (head : List ℕ) (blocks : ℕ) (slots : Slots) (short : (track : ℕ) → length (slots track) ≤ 65536) (down : (track : ℕ) → place track ≤ track) where
   -- ---- texts
@@ -123,8 +121,7 @@ module _ (sliding : Bool) (place : ℕ → ℕ) (head : List ℕ) (blocks : ℕ)
         let Q : Cchhr → Type 0 = λ pointer.
         (v : IsVtoc s.image slots pointer sliding other.stands.vtoc) → (s.vtoc ≡ other.stands.vtoc) × (s.vtoc_stands.bytes ≡ v.bytes) in
         let own : Q one.found.label.vtoc = λ v.
-        one_vtoc s.image slots one.found.label.vtoc sliding s.vtoc other.stands.vtoc (λ track holds. short track)
-        (few_tracks sliding head blocks slots one.found s (short 0) (λ track holds. short track)) s.label_stands.text.numbers s.vtoc_stands v in
+        one_vtoc s.image slots one.found.label.vtoc sliding s.vtoc other.stands.vtoc (λ track holds. short track) s.vtoc_stands v in
         subst P (sym image_is) (subst Q (sym (ap (λ (l : Label). l.vtoc) label_is)) own) other.stands.vtoc_stands
 
     device_is : one.found.device ≡ other.found.device
@@ -209,81 +206,15 @@ module _ (sliding : Bool) (place : ℕ → ℕ) (head : List ℕ) (blocks : ℕ)
 
   -- ---- the check of a VTOC
 
-  module _ (image : Head) (pointer : Cchhr) (few : image.tracks ≤ 65535) (fits : IsCchhr pointer) where
+  module _ (image : Head) (pointer : Cchhr) where
     four_same : (a b : List ℕ) → IsFormat4 (heads_of image.device) slots pointer a → IsFormat4 (heads_of image.device) slots pointer b → a ≡ b
-    four_same a b one other = one_format4 (heads_of image.device) slots pointer a b fits.0 (short (track_at (heads_of image.device) pointer.at)) one other
+    four_same a b one other = one_format_4 (heads_of image.device) slots pointer a b (short (track_at (heads_of image.device) pointer.at)) one other
 
-    -- where the rules of all stand, none of the first three fails
-    none_first : (rule : VtocRule) (vtoc : Vtoc) → IsVtoc image slots pointer sliding vtoc → ¬ IsFirstRuleBroken image slots pointer rule
-    none_first rules.NoFormat4 vtoc is broken = broken is.bytes is.format_4
-    none_first rules.Geometry vtoc is broken = broken.2 (subst (HasGeometry (heads_of image.device)) (four_same is.bytes broken.0 is.format_4 broken.1) is.geometry)
-    none_first rules.VtocExtent vtoc is broken = broken.3 (subst (HasVtocExtent image pointer) (four_same is.bytes broken.0 is.format_4 broken.1) is.extent)
-    none_first rules.Track vtoc is broken = broken
-    none_first rules.Dscb vtoc is broken = broken
-    none_first rules.Name vtoc is broken = broken
-    none_first rules.Pointer vtoc is broken = broken
-    none_first rules.Range vtoc is broken = broken
-    none_first rules.Overlap vtoc is broken = broken
-    none_first rules.Free vtoc is broken = broken
-
-    -- which of the three fails
-    abbrev FailsBy : ℕ → Type 0
-    FailsBy number =
-        ((number ≡ 1) × ((bytes : List ℕ) → ¬ IsFormat4 (heads_of image.device) slots pointer bytes))
-        ⊎ ((number ≡ 2) × ((bytes : List ℕ) × IsFormat4 (heads_of image.device) slots pointer bytes × ¬ HasGeometry (heads_of image.device) bytes))
-        ⊎ ((number ≡ 3) × ((bytes : List ℕ) × IsFormat4 (heads_of image.device) slots pointer bytes × HasGeometry (heads_of image.device) bytes × ¬ HasVtocExtent image pointer bytes))
-
-    fails_by : (rule : VtocRule) → IsFirstRuleBroken image slots pointer rule → FailsBy (number_of rule)
-    fails_by rules.NoFormat4 broken = inl (refl, broken)
-    fails_by rules.Geometry broken = inr (inl (refl, broken))
-    fails_by rules.VtocExtent broken = inr (inr (refl, broken))
-    fails_by rules.Track broken = absurd broken
-    fails_by rules.Dscb broken = absurd broken
-    fails_by rules.Name broken = absurd broken
-    fails_by rules.Pointer broken = absurd broken
-    fails_by rules.Range broken = absurd broken
-    fails_by rules.Overlap broken = absurd broken
-    fails_by rules.Free broken = absurd broken
-
-    one_failing : (a b : ℕ) → FailsBy a → FailsBy b → a ≡ b
-    one_failing a b (inl p) (inl q) = p.0 ∙ sym q.0
-    one_failing a b (inl p) (inr (inl q)) = absurd (p.1 q.1.0 q.1.1)
-    one_failing a b (inl p) (inr (inr q)) = absurd (p.1 q.1.0 q.1.1)
-    one_failing a b (inr (inl p)) (inl q) = absurd (q.1 p.1.0 p.1.1)
-    one_failing a b (inr (inl p)) (inr (inl q)) = p.0 ∙ sym q.0
-    one_failing a b (inr (inl p)) (inr (inr q)) = absurd (p.1.2 (subst (HasGeometry (heads_of image.device)) (four_same q.1.0 p.1.0 q.1.1 p.1.1) q.1.2))
-    one_failing a b (inr (inr p)) (inl q) = absurd (q.1 p.1.0 p.1.1)
-    one_failing a b (inr (inr p)) (inr (inl q)) = absurd (q.1.2 (subst (HasGeometry (heads_of image.device)) (four_same p.1.0 q.1.0 p.1.1 q.1.1) p.1.2))
-    one_failing a b (inr (inr p)) (inr (inr q)) = p.0 ∙ sym q.0
-
-    -- the same place, and the same rule by its number
-    abbrev AreAlike : Breach → Breach → Type 0
-    AreAlike a b = (a.place.track ≡ b.place.track) × (a.place.record_number ≡ b.place.record_number) × (number_of a.rule ≡ number_of b.rule)
-
-    lowest_alike : (a b : Breach) → IsNotAfter a b → IsNotAfter b a → AreAlike a b
-    lowest_alike a b (inl p) (inl q) = absurd (omega (arith, p, q))
-    lowest_alike a b (inl p) (inr (inl q)) = absurd (omega (arith, p, q.0))
-    lowest_alike a b (inl p) (inr (inr q)) = absurd (omega (arith, p, q.0))
-    lowest_alike a b (inr (inl p)) (inl q) = absurd (omega (arith, p.0, q))
-    lowest_alike a b (inr (inl p)) (inr (inl q)) = absurd (omega (arith, p.1, q.1))
-    lowest_alike a b (inr (inl p)) (inr (inr q)) = absurd (omega (arith, p.1, q.1))
-    lowest_alike a b (inr (inr p)) (inl q) = absurd (omega (arith, p.0, q))
-    lowest_alike a b (inr (inr p)) (inr (inl q)) = absurd (omega (arith, p.1, q.1))
-    lowest_alike a b (inr (inr p)) (inr (inr q)) = (p.0, p.1, omega (arith, p.2, q.2))
-
-    lowest_of : (vtoc : Vtoc) (a b : Breach) → IsLowestBreach vtoc a → Contains (breaches_of vtoc) b → IsNotAfter a b
-    lowest_of vtoc a b lowest there = subst (IsNotAfter a) there.2 (lowest.lowest there.0 b there.1)
+    same_vtoc : (a b : Vtoc) → IsVtoc image slots pointer sliding a → IsVtoc image slots pointer sliding b → a ≡ b
+    same_vtoc a b one other = (one_vtoc image slots pointer sliding a b (λ track holds. short track) one other).0
 
     one_check : (a b : Breach) → IsCheckFault image slots pointer sliding a → IsCheckFault image slots pointer sliding b → AreAlike a b
-    one_check a b (inl p) (inl q) =
-        let place = p.1 ∙ sym q.1 in
-        (ap (λ (at : Place). at.track) place, ap (λ (at : Place). at.record_number) place, one_failing (number_of a.rule) (number_of b.rule) (fails_by a.rule p.0) (fails_by b.rule q.0))
-    one_check a b (inl p) (inr q) = absurd (none_first a.rule q.0 q.1 p.0)
-    one_check a b (inr p) (inl q) = absurd (none_first b.rule p.0 p.1 q.0)
-    one_check a b (inr p) (inr q) =
-        let same : p.0 ≡ q.0 = (one_vtoc image slots pointer sliding p.0 q.0 (λ track holds. short track) few fits p.1 q.1).0 in
-        let other : IsLowestBreach p.0 b = subst (λ (v : Vtoc). IsLowestBreach v b) (sym same) q.2 in
-        lowest_alike a b (lowest_of p.0 a b p.2 other.is_there) (lowest_of p.0 b a other p.2.is_there)
+    one_check = checks.one_check image slots pointer sliding four_same same_vtoc
 
   one_bad_vtoc : (t n w u m v : ℕ) → HasBadVtoc sliding head blocks slots t n w → HasBadVtoc sliding head blocks slots u m v → (t ≡ u) × (n ≡ m) × (w ≡ v)
   one_bad_vtoc t n w u m v one other =
@@ -294,8 +225,7 @@ module _ (sliding : Bool) (place : ℕ → ℕ) (head : List ℕ) (blocks : ℕ)
       one_label one.image one.labelled.text.recs other.label one.label (subst (λ (x : Track). IsLabel one.image x.recs other.label) text moved.stands) one.labelled.stands in
       let at_image = subst (λ (i : Head). IsCheckFault i slots other.label.vtoc sliding other.told) image other.fault in
       let fault = subst (λ (l : Label). IsCheckFault one.image slots l.vtoc sliding other.told) label at_image in
-      let few : one.image.tracks ≤ 65535 = omega (arith, one.labelled.head_stands.tracks_are, one.labelled.head_stands.stands.cylinders.1) in
-      let alike = one_check one.image one.label.vtoc few one.labelled.stands.text.numbers one.told other.told one.fault fault in
+      let alike = one_check one.image one.label.vtoc one.told other.told one.fault fault in
       (one.track_is ∙ alike.0 ∙ sym other.track_is, one.number_is ∙ alike.1 ∙ sym other.number_is, one.why_is ∙ alike.2 ∙ sym other.why_is)
 
   -- ---- a unit

@@ -1,97 +1,17 @@
--- A VTOC reads in one way.
-use Rattle.std.proofs.Common.{◌≡◌, ℕ, ◌+◌, ◌<◌, ◌≤◌, List, length, map, find, Bool, ◌==◌, Option, Some, None, refl, sym, ap, subst, ◌∙◌, arith}
-use Rattle.std.proofs.lemmas.List.{ext_get_or}
-use Rattle.std.proofs.lemmas.Option.{same_Some}
-use Rattle.ckd_image.specs.declared.device.Device.{Device}
-use Rattle.ckd_image.specs.declared.device.Device.TheVariants.{D3390, D3380}
+-- A VTOC reads in one way where the slots of its run are short: the track of the format 4 is one of them.
+use Rattle.std.proofs.Common.{◌≡◌, ◌+◌, Bool, arith}
 use Rattle.ckd_image.specs.declared.head.Head.{Head}
 use Rattle.ckd_image.specs.declared.track.Cchhr.{Cchhr}
-use Rattle.ckd_image.specs.declared.track.Track.{Track}
-use Rattle.ckd_image.specs.Address.{address_of, IsAddress, IsCchhr}
 use Rattle.ckd_image.specs.Device.{heads_of}
-use Rattle.ckd_image.proofs.OneText.{one_text}
-use Rattle.free_map.specs.declared.run.Run.{Run}
-use Rattle.volume_model.specs.Dscbs.{number_at, extent_at}
-use Rattle.volume_model.specs.Space.{track_at, run_of}
+use Rattle.volume_model.specs.Space.{track_at}
 use Rattle.volume_model.specs.declared.place.Vtoc.{Vtoc}
-use Rattle.volume_model.specs.Sound.{Slots, dscb_of, IsTrackReading, IsReading, IsFormat4, limit_of, is_valid, IsVtoc}
+use Rattle.volume_model.specs.Sound.{Slots, IsVtoc}
+use Rattle.volume_model.proofs.OneVtoc as vtocs
 use Rattle.move_core.specs.Loaded.{AreShort}
-use Rattle.move_core.proofs.Frames.{vtoc_below, pointer_held}
-use Rattle.ckd_image.proofs.Devices.{is_address}
+use Rattle.move_core.proofs.Frames.{pointer_held}
 
--- ---- addresses
-
-pub heads_15 : (device : Device) → heads_of device ≡ 15
-heads_15 D3390 = refl
-heads_15 D3380 = refl
-
--- ---- the format 4
-
-pub one_format4 : (heads : ℕ) (slots : Slots) (pointer : Cchhr) (a b : List ℕ) → IsAddress pointer.at → length (slots (track_at heads pointer.at)) ≤ 65536
-    → IsFormat4 heads slots pointer a → IsFormat4 heads slots pointer b → a ≡ b
-one_format4 heads slots pointer a b fits short one other =
-    let text : one.text ≡ other.text = one_text pointer.at (slots (track_at heads pointer.at)) one.text other.text fits short one.stands other.stands in
-    let rec : one.rec ≡ other.rec =
-    same_Some one.rec other.rec (sym one.numbered ∙ ap (λ (t : Track). find (λ x. x.r == pointer.r) t.recs) text ∙ other.numbered) in
-    one.bytes_are ∙ ap dscb_of rec ∙ sym other.bytes_are
-
--- ---- the tracks
-
-one_track : (heads track : ℕ) (slot : List ℕ) (a b : Option (List (List ℕ))) → IsAddress (address_of heads track) → length slot ≤ 65536
-    → IsTrackReading heads track slot a → IsTrackReading heads track slot b → a ≡ b
-one_track heads track slot None None fits short one other = refl
-one_track heads track slot None (Some b) fits short one other = absurd (one b other)
-one_track heads track slot (Some a) None fits short one other = absurd (other a one)
-one_track heads track slot (Some a) (Some b) fits short one other =
-    let text : one.text ≡ other.text = one_text (address_of heads track) slot one.text other.text fits short one.stands other.stands in
-    ap Some (one.dscbs_are ∙ ap (λ (t : Track). map dscb_of t.recs) text ∙ sym other.dscbs_are)
-
-one_reading : (heads : ℕ) (slots : Slots) (run : Run) (a b : List (Option (List (List ℕ)))) → ((k : ℕ) → k < run.len → IsAddress (address_of heads (run.first + k)))
-    → AreShort slots run → IsReading heads slots run a → IsReading heads slots run b → a ≡ b
-one_reading heads slots run a b fits short one other =
-    ext_get_or None a b (one.whole ∙ sym other.whole)
-    (λ k less.
-    let within : k < run.len = omega (arith, less, one.whole) in
-    one_track heads (run.first + k) (slots (run.first + k)) _ _ (fits k within) (short (run.first + k) (omega arith, omega (arith, within))) (one.each k within) (other.each k within))
-
--- ---- all of it
-
-module _ (head : Head) (slots : Slots) (pointer : Cchhr) (sliding : Bool) (a b : Vtoc) (short : AreShort slots a.run) (few : head.tracks ≤ 65535)
-    (fits : IsCchhr pointer) (one : IsVtoc head slots pointer sliding a) (other : IsVtoc head slots pointer sliding b) where
-  same_bytes : one.bytes ≡ other.bytes
-  same_bytes =
-      one_format4 (heads_of head.device) slots pointer one.bytes other.bytes fits.0
-      (short (track_at (heads_of head.device) pointer.at) (pointer_held head pointer slots sliding a one)) one.format_4 other.format_4
-
-  same_run : a.run ≡ b.run
-  same_run = one.run_is ∙ ap (λ (bytes : List ℕ). run_of (heads_of head.device) (extent_at bytes 105)) same_bytes ∙ sym other.run_is
-
-  in_reach : (k : ℕ) → k < a.run.len → IsAddress (address_of (heads_of head.device) (a.run.first + k))
-  in_reach k less =
-      let below : a.run.first + k < head.tracks = vtoc_below head pointer slots sliding a one (a.run.first + k) (omega arith, omega (arith, less)) in
-      is_address head.device (a.run.first + k) (omega (arith, below, few))
-
-  same_tracks : a.tracks ≡ b.tracks
-  same_tracks =
-      one_reading (heads_of head.device) slots a.run a.tracks b.tracks in_reach short one.reading
-      (subst (λ (run : Run). IsReading (heads_of head.device) slots run b.tracks) (sym same_run) other.reading)
-
-  same_vtoc : a ≡ b
-  same_vtoc =
-      let heads : a.heads ≡ b.heads = one.heads_are ∙ sym other.heads_are in
-      let limit : a.limit ≡ b.limit = one.limit_is ∙ ap (limit_of head) same_bytes ∙ sym other.limit_is in
-      let place : a.format_4 ≡ b.format_4 = one.place_is ∙ sym other.place_is in
-      let valid : a.valid ≡ b.valid = one.valid_is ∙ ap (is_valid sliding) same_bytes ∙ sym other.valid_is in
-      let alternates : a.alternates ≡ b.alternates = one.alternates_are ∙ ap (λ (bytes : List ℕ). number_at bytes 56) same_bytes ∙ sym other.alternates_are in
-      (λ i. record {
-        heads = heads i;
-        limit = limit i;
-        format_4 = place i;
-        valid = valid i;
-        alternates = alternates i;
-        run = same_run i;
-        tracks = same_tracks i;
-      })
-
-  pub one_vtoc : (a ≡ b) × (one.bytes ≡ other.bytes)
-  one_vtoc = (same_vtoc, same_bytes)
+pub one_vtoc : (head : Head) (slots : Slots) (pointer : Cchhr) (sliding : Bool) (a b : Vtoc) → AreShort slots a.run
+    → (one : IsVtoc head slots pointer sliding a) → (other : IsVtoc head slots pointer sliding b) → (a ≡ b) × (one.bytes ≡ other.bytes)
+one_vtoc head slots pointer sliding a b short one other =
+    vtocs.one_vtoc head slots pointer sliding a b (short (track_at (heads_of head.device) pointer.at) (pointer_held head pointer slots sliding a one))
+    (λ k less. short (a.run.first + k) (omega arith, omega (arith, less))) one other

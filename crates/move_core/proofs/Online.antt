@@ -1,6 +1,5 @@
 -- A unit on which a loader finds a volume is online.
-use Rattle.std.proofs.Common.{◌≡◌, ◌⊎◌, inl, inr, ℕ, ◌≤◌, List, [], length, Bool, false, refl, sym, ap, subst, ◌∙◌, arith}
-use Rattle.std.specs.Prelude.{Contains}
+use Rattle.std.proofs.Common.{◌≡◌, ◌⊎◌, inl, inr, ℕ, ◌≤◌, List, length, Bool, false, refl, sym, subst, ◌∙◌, arith}
 use Rattle.std.proofs.lemmas.Bool.{false≢true}
 use Rattle.ckd_image.specs.declared.head.Head.{Head}
 use Rattle.ckd_image.specs.declared.fault.CkdFault.TheVariants.{BadHead}
@@ -14,17 +13,17 @@ use Rattle.vol_label.specs.Label.{IsLabelFault, IsLabel}
 use Rattle.vol_label.proofs.OneLabel.{one_label, no_label}
 use Rattle.redo_core.proofs.Heads.{no_head}
 use Rattle.volume_model.specs.declared.why.Why.TheVariants as whys
-use Rattle.volume_model.specs.declared.rule.VtocRule.{VtocRule}
-use Rattle.volume_model.specs.declared.rule.VtocRule.TheVariants as rules
 use Rattle.volume_model.specs.declared.place.Breach.{Breach}
-use Rattle.volume_model.specs.Check.{breaches_of}
+use Rattle.volume_model.specs.declared.place.Vtoc.{Vtoc}
 use Rattle.volume_model.specs.Space.{track_at}
-use Rattle.volume_model.specs.Sound.{Slots, IsFormat4, HasGeometry, HasVtocExtent, IsFirstRuleBroken, IsCheckFault, Volume, IsVolume}
+use Rattle.volume_model.specs.Sound.{Slots, IsFormat4, IsVtoc, IsCheckFault, Volume, IsVolume}
 use Rattle.volume_model.specs.Unit.{OnlineVolume, UnitModel, online, offline}
 use Rattle.volume_model.specs.Reads.{IsOnline, HasImage, IsFirstText, HasBadLabel, HasLabelOf, HasBadVtoc, IsUnit}
 use Rattle.move_core.specs.Loaded.{AreShort}
 use Rattle.move_core.proofs.Frames.{pointer_held}
-use Rattle.move_core.proofs.OneVtoc.{one_format4, one_vtoc}
+use Rattle.volume_model.proofs.OneVtoc.{one_format_4}
+use Rattle.volume_model.proofs.OneCheck.{none_told}
+use Rattle.move_core.proofs.OneVtoc.{one_vtoc}
 use Rattle.ckd_image.proofs.Devices.{is_address, one_device}
 
 module _ (sliding : Bool) (head : List ℕ) (blocks : ℕ) (slots : Slots) (found : Volume) (is : IsVolume head blocks slots sliding found) (first_short : length (slots 0) ≤ 65536)
@@ -58,34 +57,22 @@ module _ (sliding : Bool) (head : List ℕ) (blocks : ℕ) (slots : Slots) (foun
 
   -- ---- the VTOC
 
-  same_four : (bytes : List ℕ) → IsFormat4 (heads_of is.image.device) slots found.label.vtoc bytes → bytes ≡ is.vtoc_stands.bytes
-  same_four bytes stands =
-      one_format4 (heads_of is.image.device) slots found.label.vtoc bytes is.vtoc_stands.bytes is.label_stands.text.numbers.0
-      (short (track_at (heads_of is.image.device) found.label.vtoc.at) (pointer_held is.image found.label.vtoc slots sliding is.vtoc is.vtoc_stands))
-      stands is.vtoc_stands.format_4
-
-  no_rule : (rule : VtocRule) → ¬ IsFirstRuleBroken is.image slots found.label.vtoc rule
-  no_rule rules.NoFormat4 broken = broken is.vtoc_stands.bytes is.vtoc_stands.format_4
-  no_rule rules.Geometry broken = broken.2 (subst (HasGeometry (heads_of is.image.device)) (sym (same_four broken.0 broken.1)) is.vtoc_stands.geometry)
-  no_rule rules.VtocExtent broken = broken.3 (subst (HasVtocExtent is.image found.label.vtoc) (sym (same_four broken.0 broken.1)) is.vtoc_stands.extent)
-  no_rule rules.Track broken = broken
-  no_rule rules.Dscb broken = broken
-  no_rule rules.Name broken = broken
-  no_rule rules.Pointer broken = broken
-  no_rule rules.Range broken = broken
-  no_rule rules.Overlap broken = broken
-  no_rule rules.Free broken = broken
+  same_four : (a b : List ℕ) → IsFormat4 (heads_of is.image.device) slots found.label.vtoc a → IsFormat4 (heads_of is.image.device) slots found.label.vtoc b → a ≡ b
+  same_four a b one other =
+      one_format_4 (heads_of is.image.device) slots found.label.vtoc a b
+      (short (track_at (heads_of is.image.device) found.label.vtoc.at) (pointer_held is.image found.label.vtoc slots sliding is.vtoc is.vtoc_stands)) one other
 
   pub few_tracks : is.image.tracks ≤ 65535
   few_tracks = omega (arith, is.tracks_are, is.head_stands.cylinders.1)
 
+  same_vtoc : (a b : Vtoc) → IsVtoc is.image slots found.label.vtoc sliding a → IsVtoc is.image slots found.label.vtoc sliding b → a ≡ b
+  same_vtoc a b one other = sym (own a one) ∙ own b other
+    where
+      own : (v : Vtoc) → IsVtoc is.image slots found.label.vtoc sliding v → is.vtoc ≡ v
+      own v stands = (one_vtoc is.image slots found.label.vtoc sliding is.vtoc v short is.vtoc_stands stands).0
+
   no_fault : (told : Breach) → ¬ IsCheckFault is.image slots found.label.vtoc sliding told
-  no_fault told (inl first) = no_rule told.rule first.0
-  no_fault told (inr other) =
-      let same : is.vtoc ≡ other.0 =
-      (one_vtoc is.image slots found.label.vtoc sliding is.vtoc other.0 short few_tracks is.label_stands.text.numbers is.vtoc_stands other.1).0 in
-      let none : Contains [] told = subst (λ (all : List Breach). Contains all told) (ap breaches_of (sym same) ∙ is.sound) other.2.is_there in
-      absurd (omega (arith, none.1))
+  no_fault = none_told is.image slots found.label.vtoc sliding same_four same_vtoc is.vtoc is.vtoc_stands is.sound
 
   pub no_bad_vtoc : (track number why : ℕ) → ¬ HasBadVtoc sliding head blocks slots track number why
   no_bad_vtoc track number why bad =

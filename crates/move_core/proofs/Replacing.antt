@@ -5,6 +5,7 @@ use Rattle.std.proofs.lemmas.Bool.{cases_eq}
 use Rattle.std.proofs.lemmas.List.{length-append}
 use Rattle.std.proofs.lemmas.Option.{same_Some, none-some}
 use Rattle.dasd_pool.specs.Disk.{Image, Shape}
+use Rattle.dasd_pool.proofs.Slices.{get_there, get_other}
 use Rattle.redo_core.specs.declared.control.Control.{Control}
 use Rattle.redo_core.specs.declared.control.Control.TheVariants.{Idle}
 use Rattle.redo_core.specs.Reading.{set_block, Reading}
@@ -31,16 +32,6 @@ module _ {X : Type 0} where
   split_at (y ∷ xs) (suc place) x at =
       let rest = split_at xs place x at in
       record { front = y ∷ rest.front; back = rest.back; long = ap (λ (n : ℕ). suc n) rest.long; is = ap (λ (zs : List X). y ∷ zs) rest.is }
-
-  get_there : (front back : List X) (x : X) → slice_get (front ++ (x ∷ back)) (length front) ≡ Some x
-  get_there [] back x = refl
-  get_there (y ∷ front) back x = get_there front back x
-
-  get_other : (front back : List X) (old new : X) (u : ℕ) → ¬ (u ≡ length front) → slice_get (front ++ (old ∷ back)) u ≡ slice_get (front ++ (new ∷ back)) u
-  get_other [] back old new zero apart = absurd (apart refl)
-  get_other [] back old new (suc u) apart = refl
-  get_other (y ∷ front) back old new zero apart = refl
-  get_other (y ∷ front) back old new (suc u) apart = get_other front back old new u (λ same. apart (ap (λ (n : ℕ). suc n) same))
 
 -- ---- a reading with nothing under way on a unit
 

@@ -1,24 +1,42 @@
 -- Functions of a run, one after another.
-use Rattle.std.proofs.Common.{◌≡◌, ℕ, ◌<◌, ◌≤◌, List, [], ◌∷◌, ◌++◌, Bool, false, Option, Some, None, refl, sym, subst, ◌∙◌, arith}
+use Rattle.std.proofs.Common.{◌≡◌, ℕ, ◌<◌, ◌≤◌, List, [], ◌∷◌, ◌++◌, length, Bool, false, Option, Some, None, refl, sym, ap, subst, ◌∙◌, arith}
+use Rattle.std.specs.Prelude.{◌&&◌}
 use Rattle.std.proofs.lemmas.List.{append-nil}
+use Rattle.std.proofs.lemmas.Option.{none-some}
 use Rattle.dasd_pool.specs.Count.{Rose}
 use Rattle.dasd_pool.specs.Disk.{Image, Shape, State, Disk, LeavesOnly, Touches, Runs, none}
+use Rattle.dasd_pool.proofs.Moments.{runs_start, runs_then}
 use Rattle.vol_label.specs.declared.serial.Serial.{Serial}
 use Rattle.redo_core.specs.declared.control.Control.{Control}
 use Rattle.redo_core.specs.declared.control.Control.TheVariants.{Idle}
 use Rattle.redo_core.specs.declared.entries.Entry.{Entry}
-use Rattle.redo_core.specs.Format.{is_open}
+use Rattle.redo_core.specs.Format.{is_open, directory_in}
 use Rattle.redo_core.specs.Reading.{journal_of, fills_of}
-use Rattle.redo_core.specs.Opening.{IsJournalSynced, IsOpened, ReadsSame}
+use Rattle.redo_core.specs.Faults.{IsAllClosed}
+use Rattle.redo_core.specs.Opening.{IsJournalSynced, IsOpened, ReadsSame, of_opening, of_redo}
 use Rattle.redo_core.specs.Phases.{IsAtRest, OldOrNew, IsCommitted}
 use Rattle.volume_model.specs.Unit.{UnitModel}
 use Rattle.move_core.specs.declared.steps.Step.{Step}
 use Rattle.move_core.specs.Facts.{Facts, Shown}
 use Rattle.move_core.specs.Stands.{AreUnused, IsSettled}
-use Rattle.move_core.specs.Runs.{StandsAfterSome, KeepsUnits, IsRun, moves_of}
+use Rattle.move_core.specs.Runs.{StandsAfterSome, KeepsUnits, AreCalls, IsRun, moves_of}
 use Rattle.move_core.specs.Taking.{IsIdle, TakeUnits}
-use Rattle.move_core.proofs.Keeping.{demote, quiet, still, idle, ends_less, keeps_then, opened, refused, commit_done, commit_failed, each_moment}
+use Rattle.move_core.proofs.Below.{nil_parts}
+use Rattle.move_core.proofs.Keeping.{demote, under_way, quiet, still, idle, ends_less, keeps_then, opened, refused, commit_done, commit_failed, each_moment, each_closed}
 use Rattle.dasd_pool.proofs.Streams.{rose_since}
+
+-- under the shape of the facts
+pub at_shape : (P : Shape → Type 0) {given shape : Shape} → given ≡ shape → P shape → P given
+at_shape P same holds = subst P (sym same) holds
+
+-- ---- a list of steps that isn't empty
+
+some_steps : (steps : List Step) (step : Step) → steps ++ (step ∷ []) ≡ [] → ⊥
+some_steps steps step empty = let last = (nil_parts steps (step ∷ []) empty).1 in omega (arith, ap length last)
+
+-- a run does what its calls do
+pub call_of : {tells : Type 0} {old new : Shown} {ended : Type 0} {steps : List Step} {pending : Option Step} → IsRun tells old new ended steps pending → AreCalls tells old new ended steps pending
+call_of run = record { shape = run.shape; later = run.later; cause = run.cause; keeps = run.keeps }
 
 -- nothing was done
 pub run_idle : {tells : Type 0} {now : Shown} {ended : Type 0} → ended → IsRun tells now now ended [] None
@@ -27,6 +45,7 @@ run_idle {tells} {now} {ended} end = record {
   later = omega arith;
   cause = λ not. absurd (not end);
   keeps = λ told facts same. idle facts now.disk ended;
+  still = λ told gate no_steps none_pending. runs_start none now.disk;
 }
 
 -- nothing was written
@@ -37,13 +56,14 @@ run_still {tells} {old} {new} {ended} shape later cause run = record {
   later = later;
   cause = cause;
   keeps = λ told facts same. still facts old.disk new.disk ended (run told);
+  still = λ told gate no_steps none_pending. run told;
 }
 
 -- only blocks were written on which no meaning rests
 pub run_quiet : {tells : Type 0} {old new : Shown} {ended : Type 0} {may : ℕ → ℕ → Bool} → new.shape ≡ old.shape → old.faults ≤ new.faults → (¬ ended → Rose old.faults new.faults)
     → (tells → (facts : Facts) (units : List UnitModel) → facts.shape ≡ old.shape → (settled : IsSettled facts old.disk.state units)
     → AreUnused may facts.shape settled.stands.reading settled.stands.means.found)
-    → (tells → Runs may old.disk new.disk) → IsRun tells old new ended [] None
+    → (tells → Runs may old.disk new.disk) → AreCalls tells old new ended [] None
 run_quiet {tells} {old} {new} {ended} {may} shape later cause unused run = record {
   shape = shape;
   later = later;
@@ -59,8 +79,14 @@ run_then {tells} {old} {mid} {new} {ended} {later} {steps} {more} {pending} run 
   later = omega (arith, run.later, next.later);
   cause = λ not. rose_since old.faults mid.faults new.faults run.later (next.cause not);
   keeps = λ told facts same units settled.
-      keeps_then facts old.disk mid.disk new.disk ended later units steps more pending (run.keeps told facts same units settled) end
+      keeps_then facts old.disk mid.disk new.disk ended later units settled steps more pending (run.keeps told facts same units settled) end
       (next.keeps told facts (same ∙ sym run.shape));
+  still = λ told gate no_steps none_pending.
+      let parts = nil_parts steps more no_steps in
+      let first = run.still told gate parts.0 refl in
+      let between = at_shape (λ s. is_open (mid.disk.state.contents (journal_of s) 1) ≡ false) run.shape
+      (ap is_open (first.touches.contents (journal_of old.shape) 1 refl) ∙ gate) in
+      runs_then none none none old.disk mid.disk new.disk (λ u b apart. refl) (λ u b apart. refl) first (next.still told between parts.1 none_pending);
 }
 
 -- one run that ended, and then another that did no step
@@ -77,6 +103,7 @@ run_less {tells} {old} {new} {ended} {less} {steps} {pending} implies cause run 
   later = run.later;
   cause = cause;
   keeps = λ told facts same units settled. ends_less facts old.disk new.disk ended less units steps pending implies (run.keeps told facts same units settled);
+  still = run.still;
 }
 
 -- the last step of a run turns out to be under way
@@ -87,7 +114,44 @@ run_demoted {tells} {old} {new} {ended} {later} {steps} {step} never rose run = 
   later = run.later;
   cause = λ not. rose;
   keeps = λ told facts same units settled. demote facts old.disk new.disk ended later units steps step (run.keeps told facts same units settled) never;
+  still = λ told gate no_steps none_pending. absurd (none-some step (sym none_pending));
 }
+
+-- a step turns out to be under way in calls that did none
+pub calls_pending : {tells : Type 0} {old new : Shown} {ended later : Type 0} {step : Step} → ¬ later → Rose old.faults new.faults
+    → AreCalls tells old new ended [] None → AreCalls tells old new later [] (Some step)
+calls_pending {tells} {old} {new} {ended} {later} {step} never rose calls = record {
+  shape = calls.shape;
+  later = calls.later;
+  cause = λ not. rose;
+  keeps = λ told facts same units settled. under_way facts old.disk new.disk ended later units step (calls.keeps told facts same units settled) never;
+}
+
+-- calls that did a step, or have one under way, are a run
+pub run_of : {tells : Type 0} {old new : Shown} {ended : Type 0} {steps : List Step} {pending : Option Step} → AreCalls tells old new ended steps pending
+    → (steps ≡ [] → pending ≡ None → ⊥) → IsRun tells old new ended steps pending
+run_of calls some = record {
+  shape = calls.shape;
+  later = calls.later;
+  cause = calls.cause;
+  keeps = calls.keeps;
+  still = λ told gate no_steps none_pending. absurd (some no_steps none_pending);
+}
+
+-- so are calls that ended without a step, and then a run that did one or has one under way
+pub run_behind : {tells : Type 0} {old mid new : Shown} {ended later : Type 0} {steps : List Step} {pending : Option Step} → AreCalls tells old mid ended [] None → ended
+    → IsRun tells mid new later steps pending → (steps ≡ [] → pending ≡ None → ⊥) → IsRun tells old new later steps pending
+run_behind {tells} {old} {mid} {new} {ended} {later} {steps} {pending} calls end next some = run_of both some
+  where
+    both : AreCalls tells old new later steps pending
+    both = record {
+      shape = next.shape ∙ calls.shape;
+      later = omega (arith, calls.later, next.later);
+      cause = λ not. rose_since old.faults mid.faults new.faults calls.later (next.cause not);
+      keeps = λ told facts same units settled.
+          keeps_then facts old.disk mid.disk new.disk ended later units settled [] steps pending (calls.keeps told facts same units settled) end
+          (next.keeps told facts (same ∙ sym calls.shape));
+    }
 
 -- steps under another form
 pub run_steps : {tells : Type 0} {old new : Shown} {ended : Type 0} {steps others : List Step} {pending : Option Step} → (tells → steps ≡ others)
@@ -98,6 +162,7 @@ run_steps {tells} {old} {new} {ended} {steps} {others} {pending} same run = reco
   cause = run.cause;
   keeps = λ told facts at units settled.
       subst (λ (l : List Step). KeepsUnits facts old.disk new.disk ended units l pending) (same told) (run.keeps told facts at units settled);
+  still = λ told gate no_steps none_pending. run.still told gate (same told ∙ no_steps) none_pending;
 }
 
 -- what a stop may have left since a run began
@@ -107,37 +172,53 @@ pub run_stops : {tells : Type 0} {old new : Shown} {ended : Type 0} {steps : Lis
 run_stops {tells} {old} {new} {ended} {steps} {pending} run told facts same units settled =
     each_moment facts old.disk new.disk ended units steps pending settled (run.keeps told facts same units settled)
 
--- ---- the journal is opened
+-- no slide and no fill is open in it where none was
+pub run_closed : {tells : Type 0} {old new : Shown} {ended : Type 0} {steps : List Step} {pending : Option Step} → IsRun tells old new ended steps pending → tells
+    → (facts : Facts) → facts.shape ≡ old.shape → (units : List UnitModel) → IsSettled facts old.disk.state units → IsAllClosed facts.shape old.disk.state.contents
+    → (image : Image) → new.disk.left_since old.disk.moment image → IsAllClosed facts.shape image
+run_closed {tells} {old} {new} {ended} {steps} {pending} run told facts same units settled closed =
+    each_closed facts old.disk new.disk ended units steps pending settled (run.keeps told facts same units settled) closed
 
--- under the shape of the facts
-pub at_shape : (P : Shape → Type 0) {given shape : Shape} → given ≡ shape → P shape → P given
-at_shape P same holds = subst P (sym same) holds
+-- ---- the journal is opened
 
 moments_for : (old new : Disk) {given shape : Shape} → given ≡ shape → (IsJournalSynced shape old.state → LeavesOnly old new (ReadsSame shape old.state))
     → IsJournalSynced given old.state → LeavesOnly old new (ReadsSame given old.state)
 moments_for old new same moments = at_shape (λ s. IsJournalSynced s old.state → LeavesOnly old new (ReadsSame s old.state)) same moments
 
+-- behind a closed gate an opening writes nothing
+none_opened : (old new : Shown) → is_open (old.disk.state.contents (journal_of old.shape) 1) ≡ false
+    → Runs (of_opening (journal_of old.shape) old.disk.state.contents) old.disk new.disk → Runs none old.disk new.disk
+none_opened old new gate run =
+    let j = journal_of old.shape in
+    let image = old.disk.state.contents in
+    runs_then none (of_opening j image) none old.disk new.disk new.disk
+    (λ u b apart. ap (λ (t : Bool). t && of_redo j (directory_in (image j 3)) u b) gate) (λ u b apart. refl) run (runs_start none new.disk)
+
 pub run_opened : {tells : Type 0} {old new : Shown} {ended : Type 0} {asked : List Serial} {room : ℕ} {control : Control} {fills : List Bool} → new.shape ≡ old.shape → old.faults ≤ new.faults
     → (tells → IsJournalSynced old.shape old.disk.state → LeavesOnly old.disk new.disk (ReadsSame old.shape old.disk.state)) → ended
-    → (tells → IsOpened old.shape old.disk.state asked room control fills new.disk.state) → IsRun tells old new ended [] None
-run_opened {tells} {old} {new} {ended} {asked} {room} {control} {fills} shape later moments end opens = record {
+    → (tells → IsOpened old.shape old.disk.state asked room control fills new.disk.state)
+    → (tells → Runs (of_opening (journal_of old.shape) old.disk.state.contents) old.disk new.disk) → IsRun tells old new ended [] None
+run_opened {tells} {old} {new} {ended} {asked} {room} {control} {fills} shape later moments end opens runs = record {
   shape = shape;
   later = later;
   cause = λ not. absurd (not end);
   keeps = λ told facts same units settled.
       opened facts asked room control fills old.disk new.disk ended units settled (moments_for old.disk new.disk same (moments told) settled.journal)
       (at_shape (λ s. IsOpened s old.disk.state asked room control fills new.disk.state) same (opens told));
+  still = λ told gate no_steps none_pending. none_opened old new gate (runs told);
 }
 
 pub run_refused : {tells : Type 0} {old new : Shown} {ended : Type 0} → new.shape ≡ old.shape → old.faults ≤ new.faults
     → (tells → IsJournalSynced old.shape old.disk.state → LeavesOnly old.disk new.disk (ReadsSame old.shape old.disk.state))
-    → (¬ ended → Rose old.faults new.faults) → (tells → ended → Touches none old.disk.state new.disk.state) → IsRun tells old new ended [] None
-run_refused {tells} {old} {new} {ended} shape later moments cause unwritten = record {
+    → (¬ ended → Rose old.faults new.faults) → (tells → ended → Touches none old.disk.state new.disk.state)
+    → (tells → Runs (of_opening (journal_of old.shape) old.disk.state.contents) old.disk new.disk) → IsRun tells old new ended [] None
+run_refused {tells} {old} {new} {ended} shape later moments cause unwritten runs = record {
   shape = shape;
   later = later;
   cause = cause;
   keeps = λ told facts same units settled.
       refused facts old.disk new.disk ended units settled (moments_for old.disk new.disk same (moments told) settled.journal) (unwritten told);
+  still = λ told gate no_steps none_pending. none_opened old new gate (runs told);
 }
 
 -- ---- one commit makes a step
@@ -162,9 +243,10 @@ switch_done {tells} {old} {new} {ended} {step} {room} {entries} shape later idle
   keeps = λ told facts same units settled.
       let made = takes told facts old.disk.state units same (λ u b less. refl) (idle told) settled in
       commit_done facts old.disk new.disk (Some step) units made.0 settled
-      (at_shape (λ s. is_open (old.disk.state.contents (journal_of s) 1) ≡ false) same (idle told).rest.closed) entries (made.0, made.1, refl) made.2
+      entries (made.0, made.1, refl) made.2
       (at_shape (λ s. LeavesOnly old.disk new.disk (OldOrNew s old.disk.state entries)) same (moments told)) ended
       (at_shape (λ s. IsCommitted s old.disk.state entries new.disk.state) same (committed told));
+  still = λ told gate no_steps none_pending. absurd (some_steps [] step no_steps);
 }
 
 pub switch_failed : {tells : Type 0} {old new : Shown} {ended : Type 0} {step : Step} {room : ℕ} {entries : List Entry} → new.shape ≡ old.shape → old.faults ≤ new.faults
@@ -177,6 +259,7 @@ switch_failed {tells} {old} {new} {ended} {step} {room} {entries} shape later id
   keeps = λ told facts same units settled.
       let made = takes told facts old.disk.state units same (λ u b less. refl) (idle told) settled in
       commit_failed facts old.disk new.disk (Some step) units made.0 settled
-      (at_shape (λ s. is_open (old.disk.state.contents (journal_of s) 1) ≡ false) same (idle told).rest.closed) entries (made.0, made.1, refl) made.2
+      entries (made.0, made.1, refl) made.2
       (at_shape (λ s. LeavesOnly old.disk new.disk (OldOrNew s old.disk.state entries)) same (moments told)) ended never;
+  still = λ told gate no_steps none_pending. absurd (none-some step (sym none_pending));
 }

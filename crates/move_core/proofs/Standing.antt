@@ -1,18 +1,19 @@
 -- What a stop, an opening and a commit leave of the units that a pool stands for.
-use Rattle.std.proofs.Common.{◌≡◌, ◌⊎◌, ⊎_elim, inl, inr, ℕ, ◌+◌, ◌-◌, ◌<◌, ◌≤◌, List, Bool, false, refl, sym, subst, ◌∙◌, arith}
+use Rattle.std.proofs.Common.{◌≡◌, ◌⊎◌, ⊎_elim, inl, inr, ℕ, ◌+◌, ◌-◌, ◌<◌, ◌≤◌, List, Bool, refl, sym, subst, ◌∙◌, arith}
 use Rattle.std.specs.Prelude.{◌==◌, ◌&&◌, nat_le, nat_lt}
-use Rattle.std.proofs.lemmas.Bool.{cond_both, and_parts, leb-true, both_ways}
+use Rattle.std.proofs.lemmas.Bool.{cond_both, and_parts, leb-true}
 use Rattle.std.proofs.lemmas.Option.{slice_get_within, slice_get_cases}
 use Rattle.dasd_pool.specs.Disk.{Image, Shape, State, MayLeave}
 use Rattle.vol_label.specs.declared.serial.Serial.{Serial}
 use Rattle.redo_core.specs.declared.control.Control.{Control}
 use Rattle.redo_core.specs.declared.control.Control.TheVariants.{Idle, Slide}
 use Rattle.redo_core.specs.declared.entries.Entry.{Entry}
-use Rattle.redo_core.specs.Format.{is_open, directory_in}
-use Rattle.redo_core.specs.Reading.{journal_of, placed, Reading, Reads, IsLawful, IsRegistration, IsDirectory}
-use Rattle.redo_core.specs.Faults.{HasSerial}
+use Rattle.redo_core.specs.Format.{directory_in}
+use Rattle.redo_core.specs.Reading.{journal_of, with_entries, Reading, Reads, IsLawful, IsRegistration, IsDirectory}
+use Rattle.redo_core.specs.Faults.{HasSerial, IsAllClosed}
 use Rattle.redo_core.specs.Phases.{ReadsNew, OldOrNew, IsCommitted}
 use Rattle.redo_core.specs.Opening.{ReadsSame, IsOpened}
+use Rattle.redo_core.proofs.Closed.{closed_by}
 use Rattle.redo_core.proofs.Openings.{spared_reads}
 use Rattle.volume_model.specs.declared.why.Why.TheVariants as whys
 use Rattle.volume_model.specs.Unit.{UnitModel, online, offline}
@@ -162,7 +163,7 @@ opened_settled facts old new units asked room control fills stands opened = reco
 new_stands : (facts : Facts) (old : State) (before after : List UnitModel) (entries : List Entry) (image : Image)
     → (settled : IsSettled facts old before) → WillStand facts settled.stands.reading entries after → ReadsNew facts.shape old entries image → Stands facts image after
 new_stands facts old before after entries image settled will new = record {
-  reading = record settled.stands.reading { volumes = placed settled.stands.reading.volumes entries };
+  reading = with_entries facts.shape settled.stands.reading entries;
   reads = new settled.stands.reading settled.stands.reads;
   names_are = settled.stands.names_are;
   room_is = settled.stands.room_is;
@@ -170,18 +171,12 @@ new_stands facts old before after entries image settled will new = record {
   means = will.means;
 }
 
--- within a commit, whose gate is closed before
+-- within a commit
 pub commit_stands : (facts : Facts) (state : State) (before after : List UnitModel) (entries : List Entry) (image : Image)
-    → (settled : IsSettled facts state before) → is_open (state.contents (journal_of facts.shape) 1) ≡ false → WillStand facts settled.stands.reading entries after
+    → (settled : IsSettled facts state before) → WillStand facts settled.stands.reading entries after
     → OldOrNew facts.shape state entries image → Stands facts image before ⊎ Stands facts image after
-commit_stands facts state before after entries image settled closed will = ⊎_elim
-    (λ old.
-    let told = old settled.stands.reading settled.stands.reads in
-    inl (stands_kept facts state.contents before settled.stands image told.0 told.1
-    (λ u b less rests. told.2 u b less (⊎_elim
-    (λ synced. synced)
-    (λ target. absurd (both_ways (is_open (state.contents (journal_of facts.shape) 1)) closed target.0))
-    (settled.vital u b less rests)))))
+commit_stands facts state before after entries image settled will = ⊎_elim
+    (λ same. inl (opening_stands facts state before image settled same))
     (λ new. inr (new_stands facts state before after entries image settled will new))
 
 -- after a commit
@@ -192,3 +187,29 @@ committed_settled facts old new before after entries settled will committed = re
   journal = λ b. committed.all (journal_of facts.shape) b;
   vital = λ u b less rests. inl (committed.all u b);
 }
+
+-- ---- no slide and no fill is open
+
+-- where an image reads as a settled pool did, none is that wasn't
+pub same_closed : (facts : Facts) (state : State) (units : List UnitModel) (image : Image)
+    → IsSettled facts state units → ReadsSame facts.shape state image → IsAllClosed facts.shape state.contents → IsAllClosed facts.shape image
+same_closed facts state units image settled same closed =
+    let told = same settled.stands.reading settled.stands.reads in
+    closed_by facts.shape image (record settled.stands.reading { volumes = told.0 }) told.1 (closed settled.stands.reading settled.stands.reads)
+
+-- a stop now
+pub image_closed : (facts : Facts) (state : State) (units : List UnitModel) (image : Image)
+    → IsSettled facts state units → MayLeave state image → IsAllClosed facts.shape state.contents → IsAllClosed facts.shape image
+image_closed facts state units image settled left =
+    same_closed facts state units image settled (spared_reads facts.shape state settled.journal image (λ u b unlisted was. left u b was))
+
+-- within a commit that opens none
+pub commit_closed : (facts : Facts) (state : State) (before after : List UnitModel) (entries : List Entry) (image : Image)
+    → (settled : IsSettled facts state before) → WillStand facts settled.stands.reading entries after
+    → OldOrNew facts.shape state entries image → IsAllClosed facts.shape state.contents → IsAllClosed facts.shape image
+commit_closed facts state before after entries image settled will either closed = ⊎_elim
+    (λ same. same_closed facts state before image settled same closed)
+    (λ new.
+    closed_by facts.shape image (with_entries facts.shape settled.stands.reading entries) (new settled.stands.reading settled.stands.reads)
+    (will.opens_none (closed settled.stands.reading settled.stands.reads)))
+    either

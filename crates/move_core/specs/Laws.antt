@@ -1,13 +1,12 @@
 -- What a stop, an opening and a commit leave of the units that a pool stands for.
-use Rattle.std.specs.Prelude.{◌≡◌, ◌⊎◌, ℕ, ◌<◌, ◌≤◌, List, length, Bool, false}
+use Rattle.std.specs.Prelude.{◌≡◌, ◌⊎◌, ℕ, ◌<◌, ◌≤◌, List, length, Bool}
 use Rattle.dasd_pool.specs.Disk.{Image, Shape, State, MayLeave}
 use Rattle.vol_label.specs.declared.serial.Serial.{Serial}
 use Rattle.redo_core.specs.declared.control.Control.{Control}
 use Rattle.redo_core.specs.declared.control.Control.TheVariants.{Idle}
 use Rattle.redo_core.specs.declared.entries.Entry.{Entry}
-use Rattle.redo_core.specs.Format.{is_open}
-use Rattle.redo_core.specs.Reading.{journal_of, placed, Reading}
-use Rattle.redo_core.specs.Faults.{LabelsAre}
+use Rattle.redo_core.specs.Reading.{journal_of, placed, with_entries, Reading}
+use Rattle.redo_core.specs.Faults.{IsBusy, LabelsAre}
 use Rattle.redo_core.specs.Phases.{OldOrNew, IsCommitted}
 use Rattle.redo_core.specs.Opening.{ReadsSame, IsOpened}
 use Rattle.volume_model.specs.Unit.{UnitModel}
@@ -38,17 +37,17 @@ OpenedIsSettled =
     (facts : Facts) (old new : State) (units : List UnitModel) (asked : List Serial) (room : ℕ) (control : Control) (fills : List Bool)
     → Stands facts old.contents units → IsOpened facts.shape old asked room control fills new → IsSettled facts new units
 
--- with all entries in place a reading means these units, and each label that reads has its name
+-- with all entries in place a reading means these units, each label that reads has its name, and no slide and no fill is open where none was
 pub record WillStand (facts : Facts) (reading : Reading) (entries : List Entry) (units : List UnitModel) : Type 0 where
   pub labels : LabelsAre facts.shape (placed reading.volumes entries) facts.names (journal_of facts.shape)
-  pub means : Means facts.shape (record reading { volumes = placed reading.volumes entries }) units
+  pub means : Means facts.shape (with_entries facts.shape reading entries) units
+  pub opens_none : ¬ IsBusy facts.shape reading → ¬ IsBusy facts.shape (with_entries facts.shape reading entries)
 
--- What a stop leaves within a commit stands for the units before it, or for those that the commit makes. Its gate is closed before.
+-- What a stop leaves within a commit stands for the units before it, or for those that the commit makes.
 abbrev pub CommitStands : Type 0
 CommitStands =
     (facts : Facts) (state : State) (before after : List UnitModel) (entries : List Entry) (image : Image)
-    → (settled : IsSettled facts state before) → is_open (state.contents (journal_of facts.shape) 1) ≡ false
-    → WillStand facts settled.stands.reading entries after → OldOrNew facts.shape state entries image → Stands facts image before ⊎ Stands facts image after
+    → (settled : IsSettled facts state before) → WillStand facts settled.stands.reading entries after → OldOrNew facts.shape state entries image → Stands facts image before ⊎ Stands facts image after
 
 -- After a commit a pool stands for those, and is settled.
 abbrev pub CommittedIsSettled : Type 0

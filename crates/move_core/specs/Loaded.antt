@@ -2,7 +2,6 @@
 use Rattle.std.specs.Prelude.{◌≡◌, ℕ, ◌≤◌, Bool, false, List, length}
 use Rattle.ckd_image.specs.declared.head.Head.{Head}
 use Rattle.ckd_image.specs.declared.track.Cchhr.{Cchhr}
-use Rattle.ckd_image.specs.Address.{IsCchhr}
 use Rattle.free_map.specs.declared.run.Run.{Run}
 use Rattle.free_map.specs.Runs.{HasTrack}
 use Rattle.volume_model.specs.declared.place.Vtoc.{Vtoc}
@@ -18,8 +17,7 @@ AreShort slots run = (track : ℕ) → HasTrack run track → length (slots trac
 abbrev pub OneVtoc : Type 0
 OneVtoc =
     (head : Head) (slots : Slots) (pointer : Cchhr) (sliding : Bool) (a b : Vtoc) → AreShort slots a.run
-    → head.tracks ≤ 65535 → IsCchhr pointer → (one : IsVtoc head slots pointer sliding a) → (other : IsVtoc head slots pointer sliding b)
-    → (a ≡ b) × (one.bytes ≡ other.bytes)
+    → (one : IsVtoc head slots pointer sliding a) → (other : IsVtoc head slots pointer sliding b) → (a ≡ b) × (one.bytes ≡ other.bytes)
 
 -- A unit on which a loader finds a volume is online.
 abbrev pub LoadedIsOnline : Type 0

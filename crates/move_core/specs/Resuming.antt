@@ -1,10 +1,10 @@
 -- What leads into a run and out of it: a journal that was made, a stop, and the next opening.
-use Rattle.std.specs.Prelude.{ℕ, List, false}
+use Rattle.std.specs.Prelude.{◌≡◌, ℕ, ◌<◌, List, false}
 use Rattle.dasd_pool.specs.Disk.{Image, State, IsSynced}
 use Rattle.vol_label.specs.declared.serial.Serial.{Serial}
 use Rattle.redo_core.specs.declared.control.Control.TheVariants.{Idle}
 use Rattle.redo_core.specs.Reading.{Reading}
-use Rattle.redo_core.specs.Faults.{IsBusy, MayFormat, MayOpen}
+use Rattle.redo_core.specs.Faults.{IsAllClosed, MayFormat, MayOpen}
 use Rattle.redo_core.specs.Opening.{IsFormatted}
 use Rattle.volume_model.specs.Unit.{UnitModel}
 use Rattle.move_core.specs.Facts.{Facts}
@@ -25,8 +25,20 @@ abbrev pub SyncedIsSettled : Type 0
 SyncedIsSettled =
     (facts : Facts) (state : State) (units : List UnitModel) → IsSynced state → Stands facts state.contents units → IsSettled facts state units
 
--- Where an image stands for units and nothing is under way, nothing stands against its opening under these names.
+-- An image that has the same blocks, as far as the shape goes, stands for the same units, and no slide or fill is open in it where none was.
+abbrev pub SameBlocksStand : Type 0
+SameBlocksStand =
+    (facts : Facts) (one other : Image) (units : List UnitModel) → ((u b : ℕ) → u < facts.shape.units → b < facts.shape.blocks u → other u b ≡ one u b)
+    → Stands facts one units → Stands facts other units × (IsAllClosed facts.shape one → IsAllClosed facts.shape other)
+
+-- No slide and no fill is open where a journal was made, and none where nothing stood against an opening.
+abbrev pub NoneIsOpen : Type 0
+NoneIsOpen =
+    ((facts : Facts) (old new : State) → IsFormatted facts.shape old facts.names facts.room new → IsAllClosed facts.shape new.contents)
+    × ((facts : Facts) (image : Image) (names : List Serial) → MayOpen facts.shape image names → IsAllClosed facts.shape image)
+
+-- Where an image stands for units, and no slide and no fill is open, nothing stands against its opening under these names.
 abbrev pub StandingMayOpen : Type 0
 StandingMayOpen =
-    (facts : Facts) (image : Image) (units : List UnitModel) → (stands : Stands facts image units) → ¬ IsBusy facts.shape stands.reading
+    (facts : Facts) (image : Image) (units : List UnitModel) → Stands facts image units → IsAllClosed facts.shape image
     → MayOpen facts.shape image facts.names

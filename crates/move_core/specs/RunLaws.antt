@@ -1,14 +1,14 @@
 -- How runs follow one another.
 use Rattle.std.specs.Prelude.{◌≡◌, ℕ, ◌≤◌, List, [], ◌∷◌, ◌++◌, Bool, Option, Some, None}
 use Rattle.dasd_pool.specs.Count.{Rose}
-use Rattle.dasd_pool.specs.Disk.{LeavesOnly, Runs}
+use Rattle.dasd_pool.specs.Disk.{LeavesOnly, Runs, none}
 use Rattle.redo_core.specs.declared.entries.Entry.{Entry}
 use Rattle.redo_core.specs.Phases.{OldOrNew, IsCommitted}
 use Rattle.volume_model.specs.Unit.{UnitModel}
 use Rattle.move_core.specs.declared.steps.Step.{Step}
 use Rattle.move_core.specs.Facts.{Facts, Shown}
 use Rattle.move_core.specs.Stands.{AreUnused, IsSettled}
-use Rattle.move_core.specs.Runs.{IsRun}
+use Rattle.move_core.specs.Runs.{AreCalls, IsRun}
 use Rattle.move_core.specs.Taking.{IsIdle, TakeUnits}
 
 -- One run that ended, and then another, are a run of the steps of both. What was under way in the second is under way.
@@ -17,13 +17,24 @@ RunThen tells old mid new ended later =
     (steps more : List Step) (pending : Option Step) → IsRun tells old mid ended steps None → ended → IsRun tells mid new later more pending
     → IsRun tells old new later (steps ++ more) pending
 
--- Calls that write only blocks on which no meaning rests are a run of no step.
+-- Calls that write nothing are a run of no step.
+abbrev pub RunStill : Type 0 → Shown → Shown → Type 0 → Type 0
+RunStill tells old new ended =
+    new.shape ≡ old.shape → old.faults ≤ new.faults → (¬ ended → Rose old.faults new.faults) → (tells → Runs none old.disk new.disk) → IsRun tells old new ended [] None
+
+-- Calls that write only blocks on which no meaning rests keep the units, without a step.
 abbrev pub RunQuiet : Type 0 → Shown → Shown → Type 0 → Type 0
 RunQuiet tells old new ended =
     (may : ℕ → ℕ → Bool) → new.shape ≡ old.shape → old.faults ≤ new.faults → (¬ ended → Rose old.faults new.faults)
     → (tells → (facts : Facts) (units : List UnitModel) → facts.shape ≡ old.shape → (settled : IsSettled facts old.disk.state units)
     → AreUnused may facts.shape settled.stands.reading settled.stands.means.found)
-    → (tells → Runs may old.disk new.disk) → IsRun tells old new ended [] None
+    → (tells → Runs may old.disk new.disk) → AreCalls tells old new ended [] None
+
+-- With a run behind them that did a step, or has one under way, they are a run of its steps.
+abbrev pub RunBehind : Type 0 → Shown → Shown → Shown → Type 0 → Type 0 → Type 0
+RunBehind tells old mid new ended later =
+    (steps : List Step) (pending : Option Step) → AreCalls tells old mid ended [] None → ended → IsRun tells mid new later steps pending
+    → (steps ≡ [] → pending ≡ None → ⊥) → IsRun tells old new later steps pending
 
 -- The last step of a run that ended turns out to be under way: the pool failed behind it.
 abbrev pub RunDemoted : Type 0 → Shown → Shown → Type 0 → Type 0 → Type 0

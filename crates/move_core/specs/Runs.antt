@@ -1,7 +1,10 @@
 -- What a run leaves of the units that a pool stood for.
-use Rattle.std.specs.Prelude.{◌≡◌, ℕ, ◌≤◌, List, [], ◌∷◌, ◌++◌, length, take, Option, Some, None, Result, Ok, Err}
+use Rattle.std.specs.Prelude.{◌≡◌, ℕ, ◌≤◌, false, List, [], ◌∷◌, ◌++◌, length, take, Option, Some, None, Result, Ok, Err}
 use Rattle.dasd_pool.specs.Count.{Rose}
-use Rattle.dasd_pool.specs.Disk.{Image, Disk, MayLeave, LeavesOnly}
+use Rattle.dasd_pool.specs.Disk.{Image, Disk, MayLeave, LeavesOnly, Runs, none}
+use Rattle.redo_core.specs.Format.{is_open}
+use Rattle.redo_core.specs.Reading.{journal_of}
+use Rattle.redo_core.specs.Faults.{IsAllClosed}
 use Rattle.volume_model.specs.Unit.{UnitModel}
 use Rattle.move_core.specs.declared.steps.Step.{Step}
 use Rattle.move_core.specs.Facts.{Facts, Shown}
@@ -36,24 +39,34 @@ pub record EndsSettled (facts : Facts) (new : Disk) (first : List UnitModel) (st
   pub settled : IsSettled facts new.state units
 
 -- A run that began on a settled pool. Whatever moment it is stopped at, what is left stands for the first units after a prefix of its
--- moves; once it has returned, after all the steps that it did. Where it ended, nothing is under way, and the pool is settled.
+-- moves; once it has returned, after all the steps that it did. Where it ended, nothing is under way, and the pool is settled. Where no slide
+-- and no fill was open, none is in what is left.
 pub record KeepsUnits (facts : Facts) (old new : Disk) (ended : Type 0) (first : List UnitModel) (steps : List Step) (pending : Option Step) : Type 0 where
   pub any_moment : LeavesOnly old new (StandsAfterSome facts first (moves_of steps pending))
   pub returned : (image : Image) → MayLeave new.state image → StandsAfterMost facts first (moves_of steps pending) (length steps) image
   pub settled : ended → EndsSettled facts new first steps pending
+  pub closed : IsAllClosed facts.shape old.state.contents → LeavesOnly old new (IsAllClosed facts.shape)
 
 -- so for each units that the pool may have stood for
 abbrev pub KeepsEach : Facts → Disk → Disk → Type 0 → List Step → Option Step → Type 0
 KeepsEach facts old new ended steps pending =
     (units : List UnitModel) → IsSettled facts old.state units → KeepsUnits facts old new ended units steps pending
 
--- What a function of a run does to a pool that it was given: the shape stays, the count of faults doesn't fall and rises where the
--- function doesn't end, and, where the pool tells, it keeps the units that the pool stood for, but for the steps that it did.
+-- What calls do to a pool that they were given: the shape stays, the count of faults doesn't fall and rises where they don't end, and, where
+-- the pool tells, they keep the units that the pool stood for, but for the steps that they did.
+pub record AreCalls (tells : Type 0) (old new : Shown) (ended : Type 0) (steps : List Step) (pending : Option Step) : Type 0 where
+  pub shape : new.shape ≡ old.shape
+  pub later : old.faults ≤ new.faults
+  pub cause : ¬ ended → Rose old.faults new.faults
+  pub keeps : tells → (facts : Facts) → facts.shape ≡ old.shape → KeepsEach facts old.disk new.disk ended steps pending
+
+-- What a function of a run does: the same, and where it did no step, none is under way, and the gate was closed before, it wrote nothing.
 pub record IsRun (tells : Type 0) (old new : Shown) (ended : Type 0) (steps : List Step) (pending : Option Step) : Type 0 where
   pub shape : new.shape ≡ old.shape
   pub later : old.faults ≤ new.faults
   pub cause : ¬ ended → Rose old.faults new.faults
   pub keeps : tells → (facts : Facts) → facts.shape ≡ old.shape → KeepsEach facts old.disk new.disk ended steps pending
+  pub still : tells → is_open (old.disk.state.contents (journal_of old.shape) 1) ≡ false → steps ≡ [] → pending ≡ None → Runs none old.disk new.disk
 
 -- a call has ended where it answered Ok
 abbrev pub Ended : {T E : Type 0} → Result T E → Type 0

@@ -3,9 +3,9 @@
 ghost use Rattle.move_core.specs.Facts.{shown};
 ghost use Rattle.move_core.specs.Laws.{KeepsMeaning, EachImageStands, OpeningStands, OpenedIsSettled, CommitStands, CommittedIsSettled, OneMeaning};
 ghost use Rattle.move_core.specs.Loaded.{OneVtoc, LoadedIsOnline};
-ghost use Rattle.move_core.specs.Resuming.{FormattedIsSettled, SyncedIsSettled, StandingMayOpen};
+ghost use Rattle.move_core.specs.Resuming.{FormattedIsSettled, SyncedIsSettled, SameBlocksStand, NoneIsOpen, StandingMayOpen};
 ghost use Rattle.move_core.specs.Runs.{Ended};
-ghost use Rattle.move_core.specs.RunLaws.{RunThen, RunQuiet, RunDemoted, RunSwitched};
+ghost use Rattle.move_core.specs.RunLaws.{RunThen, RunStill, RunQuiet, RunBehind, RunDemoted, RunSwitched};
 
 use dasd_pool::{Pool, PoolFault};
 
@@ -24,6 +24,8 @@ pub fn standing_laws()
 pub fn resuming_laws()
     ensures formatted { FormattedIsSettled }
     ensures synced { SyncedIsSettled }
+    ensures blocks { SameBlocksStand }
+    ensures closed { NoneIsOpen }
     ensures opens { StandingMayOpen }
 {}
 
@@ -42,7 +44,9 @@ pub fn running_laws<P: Pool>(
     second: &Result<(), PoolFault>,
 )
     ensures then { RunThen P.tells (shown P.Pool old.now) (shown P.Pool mid.now) (shown P.Pool new.now) (Ended first.now) (Ended second.now) }
+    ensures still { RunStill P.tells (shown P.Pool old.now) (shown P.Pool mid.now) (Ended first.now) }
     ensures quiet { RunQuiet P.tells (shown P.Pool old.now) (shown P.Pool mid.now) (Ended first.now) }
+    ensures behind { RunBehind P.tells (shown P.Pool old.now) (shown P.Pool mid.now) (shown P.Pool new.now) (Ended first.now) (Ended second.now) }
     ensures demoted { RunDemoted P.tells (shown P.Pool old.now) (shown P.Pool mid.now) (Ended first.now) (Ended second.now) }
     ensures switched { RunSwitched P.tells (shown P.Pool old.now) (shown P.Pool mid.now) (Ended first.now) }
 {}

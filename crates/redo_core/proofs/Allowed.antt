@@ -9,6 +9,7 @@ use Rattle.redo_core.specs.declared.fault.JournalRule.{JournalRule}
 use Rattle.redo_core.specs.declared.fault.JournalRule.TheVariants as rules
 use Rattle.redo_core.specs.Reading.{Reading, Obeys, HasBody}
 use Rattle.redo_core.specs.Faults.{zeroed, IsFirstBroken, IsBusy, IsOpenFault, MayOpen}
+use Rattle.redo_core.proofs.Closed.{same_busy}
 
 -- two readings of one image
 module _ (shape : Shape) (image : Image) (one other : Reading) (is : Obeys shape image one) (also : Obeys shape image other) where
@@ -17,11 +18,6 @@ module _ (shape : Shape) (image : Image) (one other : Reading) (is : Obeys shape
 
   same_names : other.names ≡ one.names
   same_names = also.registration.names_are ∙ sym is.registration.names_are
-
-  same_busy : IsBusy shape other → IsBusy shape one
-  same_busy = ⊎_elim
-      (λ slide. inl (λ idle. slide (also.control_is ∙ sym is.control_is ∙ idle)))
-      (λ fill. inr (fill.0, fill.1, is.fills_are fill.0 fill.1 ∙ sym (also.fills_are fill.0 fill.1) ∙ fill.2))
 
 -- no rule is broken
 no_rule : (shape : Shape) (image : Image) (reading : Reading) → Obeys shape image reading → ¬ IsBusy shape reading → (rule : JournalRule) → ¬ IsFirstBroken shape image rule
@@ -33,7 +29,7 @@ no_rule shape image reading is idle rules.Body broken =
 no_rule shape image reading is idle rules.Control broken = broken.3 is.control
 no_rule shape image reading is idle rules.Slide broken = broken
 no_rule shape image reading is idle rules.InUse broken = broken
-no_rule shape image reading is idle rules.Busy broken = idle (same_busy shape image reading broken.0 is broken.1 broken.2)
+no_rule shape image reading is idle rules.Busy broken = idle (same_busy shape image image reading broken.0 refl is broken.1 broken.2)
 
 -- the two serials are one
 no_others : (found kept : Serial) → Some found ≡ Some kept → found ≡ kept

@@ -3,12 +3,15 @@ pub mod Transitions
 mod Written
 pub mod Directory
 pub mod CommitMoments
+pub mod Controls
 pub mod Readings
+pub mod ControlTexts
 pub mod Redoing
 mod Surveying
 mod Faulting
 pub mod Heads
 pub mod Openings
+pub mod Closed
 mod Refusals
 mod Samples
 mod Formatting

@@ -1,21 +1,22 @@
 -- From what the blocks hold to what they read as.
-use Rattle.std.proofs.Common.{◌≡◌, ⊎_elim, inl, inr, sym, ℕ, ◌<◌, ◌≤◌, ◌+◌, List, [], ◌∷◌, length, Bool, true, false, refl, ◌∙◌, ap, subst, arith}
-use Rattle.std.specs.Prelude.{◌==◌, ◌||◌, nat_lt, ◌≢◌, All, AllPairs}
-use Rattle.std.specs.List.{AllByRecursion}
+use Rattle.std.proofs.Common.{◌≡◌, ⊎_elim, inl, inr, sym, ℕ, ◌<◌, ◌≤◌, ◌+◌, List, length, Bool, true, false, refl, ◌∙◌, ap, subst, arith}
+use Rattle.std.specs.Prelude.{◌==◌, nat_lt, ◌≢◌, All, AllPairs}
 use Rattle.std.proofs.lemmas.Bool.{both_ways, lt-ltb, eq-eqb, or_left, or_right, and_from}
-use Rattle.std.proofs.lemmas.List.Elements.{recursion_from_All, All-weaker, All-map}
+use Rattle.std.proofs.lemmas.List.Elements.{All-weaker, All-map}
 use Rattle.dasd_pool.specs.Disk.{Image, Shape, State, Disk, LeavesOnly, Touches, Runs, is_at}
 use Rattle.dasd_pool.proofs.Moments.{weaken}
 use Rattle.redo_core.specs.declared.control.Control.{Control}
 use Rattle.redo_core.specs.declared.entries.Entry.{Entry}
 use Rattle.redo_core.specs.declared.target.Target.{Target}
 use Rattle.redo_core.specs.Format.{is_open, control_in, is_filling, room_in, directory_in}
-use Rattle.redo_core.specs.Reading.{journal_of, is_place, among, placed, overlay, control_block, fills_of, Reading, Reads, IsRegistration, IsControl, IsTarget, IsDirectory}
-use Rattle.redo_core.specs.Phases.{targets, of_commit, IsEntry, ReadsOld, ReadsNew, OldOrNew, IsCommitted, IsAtRest}
+use Rattle.redo_core.specs.Reading.{journal_of, is_place, placed, overlay, control_block, fills_of, Reading, Reads, IsRegistration, IsControl, IsTarget, IsDirectory}
+use Rattle.redo_core.specs.Phases.{targets, of_commit, IsEntry, ReadsNew, OldOrNew, IsCommitted, IsAtRest, IsStatusAfter}
+use Rattle.redo_core.specs.Opening.{IsSure, ReadsSame}
 use Rattle.redo_core.specs.Steps.{HoldsOld, HoldsNew, HoldsEither, IsShut, IsDone, IsMove}
-use Rattle.redo_core.proofs.Crash.{closed_overlay, placed_agree, placed_other, other_unit}
+use Rattle.redo_core.proofs.Crash.{closed_overlay, placed_agree, other_unit}
 use Rattle.redo_core.proofs.Transitions.{length-targets}
 use Rattle.redo_core.proofs.CommitMoments.{each_image}
+use Rattle.redo_core.proofs.Controls.{control_placed, fills_placed, lawful_placed}
 
 module _ (shape : Shape) where
   abbrev journal : ℕ
@@ -28,20 +29,12 @@ module _ (shape : Shape) where
   place_control = or_right (nat_lt journal journal) (is_at journal 2 journal 2) (and_from (journal == journal) (2 == 2) (eq-eqb journal journal refl) refl)
 
   pub moves : (entries : List Entry) → All (IsEntry shape) entries → All (IsMove shape (journal_of shape)) entries
-  moves entries each = All-weaker (IsEntry shape) (IsMove shape journal) (λ entry is. record { place = place_volume entry.unit entry.block is.volume; there = is.there; slot = is.slot }) entries each
+  moves entries each = All-weaker (IsEntry shape) (IsMove shape journal) (λ entry is. record { place = is.place; there = is.there; slot = is.slot }) entries each
 
   targets_there : (entries : List Entry) → All (IsEntry shape) entries → All (IsTarget shape journal) (targets entries)
   targets_there entries each =
       All-map (IsTarget shape journal) (λ entry. record { unit = entry.unit; block = entry.block }) entries
-      (All-weaker (IsEntry shape) (λ entry. IsTarget shape journal (record { unit = entry.unit; block = entry.block })) (λ entry is. record { place = place_volume entry.unit entry.block is.volume; there = is.there }) entries each)
-
-  no_control_by : (entries : List Entry) → AllByRecursion (IsEntry shape) entries → among (targets entries) journal 2 ≡ false
-  no_control_by [] each = refl
-  no_control_by (entry ∷ entries) each =
-      ap (λ (t : Bool). t || among (targets entries) journal 2) (other_unit entry.unit entry.block journal 2 (λ same. omega (arith, each.0.volume))) ∙ no_control_by entries each.1
-
-  no_control : (entries : List Entry) → All (IsEntry shape) entries → among (targets entries) journal 2 ≡ false
-  no_control entries each = no_control_by entries (recursion_from_All (IsEntry shape) entries each)
+      (All-weaker (IsEntry shape) (λ entry. IsTarget shape journal (record { unit = entry.unit; block = entry.block })) (λ entry is. record { place = is.place; there = is.there }) entries each)
 
   -- an image with the same registration and control, and a lawful body where the gate is open
   pub reads_as : (old image : Image) (before : Reading) (volumes : Image) → Reads shape old before → image (journal_of shape) 0 ≡ old (journal_of shape) 0
@@ -65,29 +58,45 @@ module _ (shape : Shape) where
     shown : (u b : ℕ) → overlay shape.block_size journal old.contents u b ≡ old.contents u b
     shown u b = closed_overlay shape.block_size journal old.contents shut.closed u b
 
-    pub old_reads : (image : Image) → HoldsOld shape.block_size (journal_of shape) old image → ReadsOld shape old image
+    -- behind a closed gate only what was synced is sure
+    sure_synced : (u b : ℕ) → IsSure shape old u b → old.synced u b ≡ true
+    sure_synced u b = ⊎_elim (λ was. was) (λ behind. absurd (both_ways (is_open (old.contents journal 1)) shut.closed behind.0))
+
+    pub old_reads : (image : Image) → HoldsOld shape.block_size (journal_of shape) old image → ReadsSame shape old image
     old_reads image holds before reads = (
       overlay shape.block_size journal image,
       reads_as old.contents image before (overlay shape.block_size journal image) reads holds.registration
           (λ opened. absurd (both_ways (is_open (image journal 1)) holds.closed opened))
           (holds.places journal 2 place_control (shut.synced 2) ∙ sym (shown journal 2))
           (λ u b less. refl),
-      λ u b less was. holds.places u b (place_volume u b less) was ∙ sym (shown u b) ∙ sym (reads.volumes_are u b less),
+      λ u b less sure. holds.places u b (place_volume u b less) (sure_synced u b sure) ∙ sym (shown u b) ∙ sym (reads.volumes_are u b less),
     )
 
     module _ (entries : List Entry) (each : All (IsEntry shape) entries) (apart : AllPairs (λ one other. one ≢ other) (targets entries)) (few : length entries ≤ room_in (old.contents (journal_of shape) 0)) where
       pub new_reads : (image : Image) → HoldsNew shape.block_size (journal_of shape) old entries image → ReadsNew shape old entries image
       new_reads image holds before reads =
+          let block : control_block shape image ≡ placed old.contents entries journal 2 = holds.places journal 2 place_control in
           let room : room_in (old.contents journal 0) ≡ before.room = reads.obeys.registration.room_is in
-          reads_as old.contents image before (placed before.volumes entries) reads holds.registration
-          (λ opened.
-          let body = holds.body opened in
-          subst (λ (list : List Target). IsDirectory shape journal before.room list) (sym body.0)
-          (record { some = omega (arith, body.1, length-targets entries); few = omega (arith, few, room, length-targets entries); there = targets_there entries each; apart = apart }))
-          (holds.places journal 2 place_control ∙ placed_other entries old.contents journal 2 (no_control entries each) ∙ sym (shown journal 2))
-          (λ u b less.
-          placed_agree entries before.volumes old.contents u b (λ none. reads.volumes_are u b less ∙ shown u b)
-          ∙ sym (holds.places u b (place_volume u b less)))
+          record {
+            obeys = record {
+              head = reads.obeys.head;
+              registration = subst (λ (first : List ℕ). IsRegistration journal first before.names before.room) (sym holds.registration) reads.obeys.registration;
+              body = λ opened.
+                  let body = holds.body opened in
+                  subst (λ (list : List Target). IsDirectory shape journal before.room list) (sym body.0)
+                  (record { some = omega (arith, body.1, length-targets entries); few = omega (arith, few, room, length-targets entries); there = targets_there entries each; apart = apart });
+              control = subst (λ (b : List ℕ). IsControl shape b) (sym block)
+                  (lawful_placed shape entries old.contents each (subst (λ (b : List ℕ). IsControl shape b) (shown journal 2) reads.obeys.control));
+              control_is = control_placed journal entries old.contents before.control (reads.obeys.control_is ∙ ap control_in (shown journal 2)) ∙ ap control_in (sym block);
+              fills_are = λ u less.
+                  fills_placed journal entries old.contents before.fills u (reads.obeys.fills_are u less ∙ ap (λ (b : List ℕ). is_filling b u) (shown journal 2))
+                  ∙ ap (λ (b : List ℕ). is_filling b u) (sym block);
+            };
+            long = reads.long;
+            volumes_are = λ u b less.
+                placed_agree entries before.volumes old.contents u b (λ none. reads.volumes_are u b less ∙ shown u b)
+                ∙ sym (holds.places u b (place_volume u b less));
+          }
 
       pub either_read : (image : Image) → HoldsEither shape.block_size (journal_of shape) old entries image → OldOrNew shape old entries image
       either_read image = ⊎_elim (λ before. inl (old_reads image before)) (λ after. inr (new_reads image after))
@@ -102,8 +111,9 @@ module _ (shape : Shape) where
       pub is_committed : (new : State) → IsDone (journal_of shape) old entries new → IsCommitted shape old entries new
       is_committed new done = record { all = done.all; reads = new_reads new.contents (done_holds new done) }
 
-      pub at_rest : (room : ℕ) (control : Control) (fills : List Bool) (new : State) → IsDone (journal_of shape) old entries new → IsAtRest shape old room control fills → IsAtRest shape new room control fills
-      at_rest room control fills new done rest =
+      pub at_rest : (room : ℕ) (control after : Control) (fills later : List Bool) (new : State) → IsDone (journal_of shape) old entries new → IsAtRest shape old room control fills
+          → IsStatusAfter shape entries control fills after later → IsAtRest shape new room after later
+      at_rest room control after fills later new done rest status =
           let reads = new_reads new.contents (done_holds new done) (record { volumes = old.contents; names = rest.names; room = room; control = control; fills = fills_of fills }) rest.reads in
           record {
             closed = done.closed;
@@ -115,8 +125,8 @@ module _ (shape : Shape) where
                 registration = reads.obeys.registration;
                 body = reads.obeys.body;
                 control = reads.obeys.control;
-                control_is = reads.obeys.control_is;
-                fills_are = reads.obeys.fills_are;
+                control_is = status.control_is ∙ reads.obeys.control_is;
+                fills_are = λ u less. status.fills_are u less ∙ reads.obeys.fills_are u less;
               };
               long = reads.long;
               volumes_are = λ u b less. sym (closed_overlay shape.block_size journal new.contents done.closed u b);
@@ -165,10 +175,11 @@ module _ (shape : Shape) (unit : ℕ) (last : unit + 1 ≡ shape.units) (entries
   committed_at old new = subst (λ (j : ℕ). IsShut j old → length entries ≤ room_in (old.contents j 0) → IsDone j old entries new → IsCommitted shape old entries new) last_unit
       (λ shut few. is_committed shape old shut entries each apart few new)
 
-  pub rest_at : (old new : State) → IsShut unit old → length entries ≤ room_in (old.contents unit 0) → IsDone unit old entries new → (room : ℕ) (control : Control) (fills : List Bool)
-      → IsAtRest shape old room control fills → IsAtRest shape new room control fills
-  rest_at old new = subst (λ (j : ℕ). IsShut j old → length entries ≤ room_in (old.contents j 0) → IsDone j old entries new → (room : ℕ) (control : Control) (fills : List Bool) → IsAtRest shape old room control fills → IsAtRest shape new room control fills) last_unit
-      (λ shut few done room control fills. at_rest shape old shut entries each apart few room control fills new done)
+  pub rest_at : (old new : State) → IsShut unit old → length entries ≤ room_in (old.contents unit 0) → IsDone unit old entries new → (room : ℕ) (control after : Control) (fills later : List Bool)
+      → IsAtRest shape old room control fills → IsStatusAfter shape entries control fills after later → IsAtRest shape new room after later
+  rest_at old new = subst (λ (j : ℕ). IsShut j old → length entries ≤ room_in (old.contents j 0) → IsDone j old entries new → (room : ℕ) (control after : Control) (fills later : List Bool)
+      → IsAtRest shape old room control fills → IsStatusAfter shape entries control fills after later → IsAtRest shape new room after later) last_unit
+      (λ shut few done room control after fills later. at_rest shape old shut entries each apart few room control after fills later new done)
 
   pub runs_at : (old new : Disk) → Runs (of_commit unit entries) old new → Runs (of_commit (journal_of shape) entries) old new
   runs_at old new = subst (λ (j : ℕ). Runs (of_commit j entries) old new) (sym last_unit)

@@ -16,7 +16,7 @@ use Rattle.redo_core.specs.declared.fault.JournalFault.TheVariants.{Pool, BadJou
 use Rattle.redo_core.specs.declared.fault.JournalRule.{JournalRule}
 use Rattle.redo_core.specs.declared.fault.JournalRule.TheVariants as rules
 use Rattle.redo_core.specs.Format.{registration_magic, is_open, is_filling}
-use Rattle.redo_core.specs.Reading.{journal_of, overlay, control_block, Reading, HasHead, IsRegistration, HasBody, IsControl, Obeys}
+use Rattle.redo_core.specs.Reading.{journal_of, overlay, control_block, Reading, HasHead, IsRegistration, HasBody, IsControl, Obeys, Reads}
 
 -- the number of a rule in a refusal
 abbrev pub number_of : JournalRule → ℕ
@@ -52,6 +52,10 @@ pub record IsRegistered (shape : Shape) (image : Image) (room : ℕ) : Type 0 wh
 -- a slide or a fill is open
 abbrev pub IsBusy : Shape → Reading → Type 0
 IsBusy shape reading = (reading.control ≢ Idle) ⊎ ((u : ℕ) × (u < journal_of shape) × (reading.fills u ≡ true))
+
+-- in whatever an image reads as, no slide and no fill is open
+abbrev pub IsAllClosed : Shape → Image → Type 0
+IsAllClosed shape image = (reading : Reading) → Reads shape image reading → ¬ IsBusy shape reading
 
 -- the rules before this one hold, and this one doesn't
 abbrev pub IsFirstBroken : Shape → Image → JournalRule → Type 0

@@ -46,6 +46,12 @@ abbrev pub control_in : List ℕ → Control
 control_in block =
     if slice_index block 0 == 1 then Slide (number_at 4 block) (number_at 8 block) (number_at 12 block) (number_at 16 block) (number_at 20 block) else Idle
 
+-- the front of a control block that says this
+abbrev pub control_text : Control → List ℕ
+control_text Idle = replicate 24 0
+control_text (Slide unit from to len done) =
+    1 ∷ replicate 3 0 ++ (big_bytes 4 unit ++ (big_bytes 4 from ++ (big_bytes 4 to ++ (big_bytes 4 len ++ big_bytes 4 done))))
+
 -- and byte 64 + u says whether a fill of volume u is
 abbrev pub is_filling : List ℕ → ℕ → Bool
 is_filling block u = slice_index block (64 + u) == 1

@@ -1,6 +1,7 @@
 pub mod Format
 pub mod Reading
 pub mod Phases
+pub mod Statuses
 pub mod Steps
 pub mod Opening
 pub mod Faults

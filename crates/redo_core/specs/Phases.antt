@@ -1,30 +1,26 @@
 -- What a commit leaves, at any moment and at its end.
 use Rattle.std.specs.Prelude.{◌<◌, ◌≡◌, ◌⊎◌, ℕ, List, length, map, Bool, true, false, ◌==◌, ◌||◌}
-use Rattle.dasd_pool.specs.Disk.{Image, Shape, State, IsSynced}
+use Rattle.dasd_pool.specs.Disk.{Image, Shape, State, IsSynced, is_at}
 use Rattle.vol_label.specs.declared.serial.Serial.{Serial}
 use Rattle.redo_core.specs.declared.control.Control.{Control}
 use Rattle.redo_core.specs.declared.entries.Entry.{Entry}
 use Rattle.redo_core.specs.declared.target.Target.{Target}
 use Rattle.redo_core.specs.Format.{is_open}
-use Rattle.redo_core.specs.Reading.{journal_of, among, placed, fills_of, Reading, Reads}
+use Rattle.redo_core.specs.Reading.{journal_of, is_place, among, control_after, fills_after, with_entries, fills_of, Reading, Reads, IsControl}
+use Rattle.redo_core.specs.Opening.{ReadsSame}
 
 -- the targets of entries
 abbrev pub targets : List Entry → List Target
 targets entries = map (λ entry. record { unit = entry.unit; block = entry.block }) entries
 
--- The image reads as before, but for blocks of volumes that were not synced then.
-abbrev pub ReadsOld : Shape → State → Image → Type 0
-ReadsOld shape old image = (before : Reading) → Reads shape old.contents before
-    → (volumes : Image) × Reads shape image (record before { volumes = volumes })
-    × ((u b : ℕ) → u < journal_of shape → old.synced u b ≡ true → volumes u b ≡ before.volumes u b)
-
 -- The image reads as before with all entries in place.
 abbrev pub ReadsNew : Shape → State → List Entry → Image → Type 0
 ReadsNew shape old entries image = (before : Reading) → Reads shape old.contents before
-    → Reads shape image (record before { volumes = placed before.volumes entries })
+    → Reads shape image (with_entries shape before entries)
 
+-- It reads as before, but for blocks of volumes that were not synced, or as before with all entries in place.
 abbrev pub OldOrNew : Shape → State → List Entry → Image → Type 0
-OldOrNew shape old entries image = ReadsOld shape old image ⊎ ReadsNew shape old entries image
+OldOrNew shape old entries image = ReadsSame shape old image ⊎ ReadsNew shape old entries image
 
 -- After a commit all is synced, and reads with all entries in place.
 pub record IsCommitted (shape : Shape) (old : State) (entries : List Entry) (new : State) : Type 0 where
@@ -35,9 +31,10 @@ pub record IsCommitted (shape : Shape) (old : State) (entries : List Entry) (new
 abbrev pub of_commit : ℕ → List Entry → ℕ → ℕ → Bool
 of_commit journal entries u b = (u == journal) || among (targets entries) u b
 
--- an entry for a block of a volume that is there
+-- an entry for a block of a volume that is there, or for the control block, which says what it may
 pub record IsEntry (shape : Shape) (entry : Entry) : Type 0 where
-  pub volume : entry.unit < journal_of shape
+  pub place : is_place (journal_of shape) entry.unit entry.block ≡ true
+  pub control : is_at (journal_of shape) 2 entry.unit entry.block ≡ true → IsControl shape entry.slot
   pub there : entry.block < shape.blocks entry.unit
   pub slot : length entry.slot ≡ shape.block_size entry.unit
 
@@ -47,3 +44,8 @@ pub record IsAtRest (shape : Shape) (state : State) (room : ℕ) (control : Cont
   pub synced : (b : ℕ) → state.synced (journal_of shape) b ≡ true
   pub names : List Serial
   pub reads : Reads shape state.contents (record { volumes = state.contents; names = names; room = room; control = control; fills = fills_of fills })
+
+-- the control, and of each volume whether a fill is open, once these entries are in place
+pub record IsStatusAfter (shape : Shape) (entries : List Entry) (control : Control) (fills : List Bool) (after : Control) (later : List Bool) : Type 0 where
+  pub control_is : after ≡ control_after (journal_of shape) entries control
+  pub fills_are : (u : ℕ) → u < journal_of shape → fills_of later u ≡ fills_after (journal_of shape) entries (fills_of fills) u

@@ -53,6 +53,23 @@ pub record Reading : Type 0 where
   pub control : Control
   pub fills : ℕ → Bool
 
+-- what the control says once these entries are in place: what the last that goes there says, or what it said
+abbrev pub control_after : ℕ → List Entry → Control → Control
+control_after journal [] control = control
+control_after journal (entry ∷ entries) control = control_after journal entries (if is_at journal 2 entry.unit entry.block then control_in entry.slot else control)
+
+abbrev pub fills_after : ℕ → List Entry → (ℕ → Bool) → ℕ → Bool
+fills_after journal [] fills = fills
+fills_after journal (entry ∷ entries) fills = fills_after journal entries (if is_at journal 2 entry.unit entry.block then is_filling entry.slot else fills)
+
+-- a reading with these entries in place
+abbrev pub with_entries : Shape → Reading → List Entry → Reading
+with_entries shape reading entries = record reading {
+  volumes = placed reading.volumes entries;
+  control = control_after (journal_of shape) entries reading.control;
+  fills = fills_after (journal_of shape) entries reading.fills;
+}
+
 -- the fills that a list of tests says
 abbrev pub fills_of : List Bool → ℕ → Bool
 fills_of fills u = slice_index_or fills u false

@@ -6,7 +6,7 @@ ghost use Rattle.dasd_pool.specs.Disk.{Image, IsSynced, LeavesOnly, Runs};
 ghost use Rattle.redo_core.specs.declared.control.Control.{Control};
 ghost use Rattle.redo_core.specs.Format.{wide, room_in};
 ghost use Rattle.redo_core.specs.Reading.{journal_of, among, placed, body_for};
-ghost use Rattle.redo_core.specs.Phases.{targets, of_commit, IsEntry, IsAtRest, OldOrNew, IsCommitted};
+ghost use Rattle.redo_core.specs.Phases.{targets, of_commit, IsEntry, IsAtRest, IsStatusAfter, OldOrNew, IsCommitted};
 ghost use Rattle.redo_core.specs.Steps.{of_body, IsJournal, IsMove, IsShut, HasEntries, HoldsEither, IsDone};
 
 use crate::blocks::{put_block, put_directory, set_gate};
@@ -146,8 +146,8 @@ pub fn apply<P: Pool>(
     ensures each_image { P.tells → (image : Image) → (P.disk pool.new).left_since (P.disk pool.old).moment image
         → OldOrNew (P.shape pool.old) (P.disk pool.old).state entries.now image }
     ensures runs { P.tells → Runs (of_commit (journal_of (P.shape pool.old)) entries.now) (P.disk pool.old) (P.disk pool.new) }
-    ensures at_rest { P.tells → OnOk result ((room : ℕ) (control : Control) (fills : List Bool) → IsAtRest (P.shape pool.old) (P.disk pool.old).state room control fills
-        → IsAtRest (P.shape pool.old) (P.disk pool.new).state room control fills) }
+    ensures at_rest { P.tells → OnOk result ((room : ℕ) (control after : Control) (fills later : List Bool) → IsAtRest (P.shape pool.old) (P.disk pool.old).state room control fills
+        → IsStatusAfter (P.shape pool.old) entries.now control fills after later → IsAtRest (P.shape pool.old) (P.disk pool.new).state room after later) }
     ensures committed { P.tells → OnOk result (IsCommitted (P.shape pool.old) (P.disk pool.old).state entries.now (P.disk pool.new).state) }
     ensures cause { HasCause (P.faults pool.old) (P.faults pool.new) result }
 {

@@ -1,7 +1,9 @@
 //! What is to be written.
 
 ghost use Rattle.std.specs.Prelude.{◌≡◌, [], ◌∷◌, ◌++◌, IfOk, OnOk, OnErr, length};
+ghost use Rattle.redo_core.specs.Statuses.{IsSlideOf, AreVolumes, AddsControl};
 
+use crate::control::{Control, control_block};
 use ckd_image::{Bytes, Listed, NoMemory};
 use std::alloc::Global;
 use std::marker::Model;
@@ -53,6 +55,28 @@ impl Entries {
     {
         let slot = Bytes::from_slice(alloc, slot)?;
         self.list.push(Entry { unit, block, slot })?;
+        Ok(())
+    }
+
+    /// Adds a control block that says this: bit u of `filling`, that a fill of volume u is open. On `Err` nothing is added.
+    pub fn push_control(
+        &mut self,
+        alloc: Global,
+        journal: u32,
+        control: Control,
+        filling: u64,
+    ) -> Result<(), NoMemory>
+        requires control { IsSlideOf journal control }
+        requires filling { AreVolumes journal filling }
+        ensures ok { OnOk result (AddsControl journal control filling self.old self.new) }
+        ensures err { OnErr result (self.new ≡ self.old) }
+    {
+        let slot = control_block(alloc, control, filling)?;
+        self.list.push(Entry {
+            unit: journal,
+            block: 2,
+            slot,
+        })?;
         Ok(())
     }
 

@@ -6,7 +6,8 @@ ghost use Rattle.dasd_pool.specs.Count.{Rose, HasCause};
 ghost use Rattle.dasd_pool.specs.Disk.{Image, LeavesOnly, Runs, IsSynced, none, is_at};
 ghost use Rattle.redo_core.specs.declared.control.Control.TheVariants.{Idle};
 ghost use Rattle.redo_core.specs.Reading.{journal_of, fills_of};
-ghost use Rattle.redo_core.specs.Phases.{targets, of_commit, IsAtRest, IsEntry, OldOrNew, IsCommitted};
+ghost use Rattle.redo_core.specs.Steps.{IsJournal};
+ghost use Rattle.redo_core.specs.Phases.{targets, of_commit, IsAtRest, IsEntry, IsStatusAfter, OldOrNew, IsCommitted};
 ghost use Rattle.redo_core.specs.Opening.{AreNames, IsFormatted, IsJournalSynced, IsOpened, ReadsSame, SparesVolumes, of_opening};
 ghost use Rattle.redo_core.specs.Faults.{IsFormatFault, IsOpenFault, MayFormat, MayOpen};
 ghost use Rattle.redo_core.specs.Stops.{pool_after, pool_of, IsStatusOf};
@@ -17,6 +18,7 @@ use crate::entries::Entries;
 use crate::fault::JournalFault;
 use crate::format::format_on;
 use crate::opening::open_on;
+use crate::status::{Status, status_after};
 use dasd_pool::{Pool, PoolFault};
 use std::alloc::{AllocError, Global};
 use std::marker::Model;
@@ -167,6 +169,7 @@ impl<P: Pool> Journal<P> {
     pub fn room(&self) -> u32
         ensures value { result ≡ self.now.room }
         ensures least { 3 ≤ result }
+        ensures fits { IsJournal (P.shape self.now.pool) (journal_of (P.shape self.now.pool)) self.now.room }
     {
         self.room
     }
@@ -264,7 +267,7 @@ impl<P: Pool> Journal<P> {
         pool
     }
 
-    /// Puts the entries in place, all or none of them. Each is for a block of a volume.
+    /// Puts the entries in place, all or none of them. Each is for a block of a volume or for the control block.
     pub fn commit(self, entries: Entries) -> Result<Journal<P>, JournalStop<P>>
         requires room { length entries ≤ self.room }
         requires each { All (IsEntry (P.shape self.pool)) entries }
@@ -278,7 +281,8 @@ impl<P: Pool> Journal<P> {
         ensures runs { P.tells → Runs (of_commit (journal_of (P.shape self.pool)) entries) (P.disk self.pool) (P.disk (pool_after result)) }
         ensures rest { P.tells → IfOk result (λ journal. IsAtRest (P.shape self.pool) (P.disk journal.pool).state journal.room journal.control journal.fills) }
         ensures committed { P.tells → IfOk result (λ journal. IsCommitted (P.shape self.pool) (P.disk self.pool).state entries (P.disk journal.pool).state) }
-        ensures same { IfOk result (λ journal. (journal.room ≡ self.room) × (journal.control ≡ self.control) × (journal.fills ≡ self.fills)) }
+        ensures same { IfOk result (λ journal. journal.room ≡ self.room) }
+        ensures status { IfOk result (λ journal. IsStatusAfter (P.shape self.pool) entries self.control self.fills journal.control journal.fills) }
         ensures faults { P.faults self.pool ≤ P.faults (pool_after result) }
         ensures cause { IfErr result (λ stop. (stop.cause ≡ JournalFault.Pool) × Rose (P.faults self.pool) (P.faults stop.pool)) }
     {
@@ -290,15 +294,22 @@ impl<P: Pool> Journal<P> {
             fills,
             mut buffer,
         } = self;
-        match apply(&mut pool, unit, &mut buffer, entries.as_slice()) {
-            Ok(()) => Ok(Journal {
-                pool,
-                unit,
-                room,
-                control,
-                fills,
-                buffer,
-            }),
+        let before = Status { control, fills };
+        let list = entries.as_slice();
+        let after = status_after(&pool, unit, list, before);
+        match apply(&mut pool, unit, &mut buffer, list) {
+            Ok(()) => {
+                let control = after.control;
+                let fills = after.fills;
+                Ok(Journal {
+                    pool,
+                    unit,
+                    room,
+                    control,
+                    fills,
+                    buffer,
+                })
+            }
             Err(_) => Err(JournalStop {
                 pool,
                 cause: JournalFault::Pool,

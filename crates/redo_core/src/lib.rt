@@ -13,6 +13,7 @@ mod labels;
 mod laws;
 mod opening;
 mod redo;
+mod status;
 mod survey;
 mod target;
 

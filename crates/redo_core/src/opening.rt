@@ -18,6 +18,7 @@ use crate::fault::{JournalFault, JournalRule, broken};
 use crate::head::has_head;
 use crate::labels::check_labels;
 use crate::redo::finish;
+use crate::status::Status;
 use crate::survey::{Registration, body_of, control_of, fills_in, read_or_zeros, registration_of};
 use crate::target::Target;
 use ckd_image::text::same;
@@ -109,13 +110,6 @@ fn find_body<P: Pool>(
     }
     read_or_zeros(pool, journal, 3, buffer)?;
     body_of(alloc, pool, journal, buffer, room)
-}
-
-/// What is under way.
-#[derive(Drop)]
-pub(crate) struct Status {
-    pub control: Control,
-    pub fills: [bool; 64],
 }
 
 /// Rule 4, with an open body in place.

@@ -10,7 +10,7 @@ use Rattle.volume_model.specs.Dscbs.{format_of}
 use Rattle.volume_model.specs.Directory.{same_place}
 use Rattle.volume_model.specs.Check.{records_of}
 use Rattle.vtoc_check.specs.Sized.{IsSized}
-use Rattle.vtoc_layout.specs.Layout.{SetRecords, Layout, IsLayoutOf, AreSetRecords, AreLinkedFives, records_in_set, used_records}
+use Rattle.vtoc_layout.specs.Layout.{SetRecords, Layout, IsLayoutOf, AreSetRecords, AreLinkedFives, records_in_set, records_used}
 use Rattle.vtoc_layout.proofs.Apart.{all_from, flat_same}
 use Rattle.vtoc_layout.proofs.Distinct.{first_or_later, at_first, in_later, in_none, in_front, in_back, from_map, in_flat}
 use Rattle.vtoc_layout.proofs.FiveChains.{one_place, itself}
@@ -148,7 +148,7 @@ module _ (vtoc : Vtoc) (layout : Layout) (marked : Placed) (sized : IsSized vtoc
   rest_after : (placed : Placed) → Contains (map edited records) placed → ¬ Contains (marked ∷ others) placed → format_of placed.bytes ≡ Free
   rest_after placed c unused = let old = from_map edited records placed c in by old.0 old.1 old.2 (stays_or_four old.0 old.1)
     where
-      stood : (old : Placed) → old ≡ placed → Contains (used_records layout) old → edit_of edits old.place ≡ None → ⊥
+      stood : (old : Placed) → old ≡ placed → Contains (records_used layout) old → edit_of edits old.place ≡ None → ⊥
       stood old same was stays = cases (first_or_later layout.four old others was)
         where
           named : layout.four ≡ old → edit_of edits old.place ≡ Some marked

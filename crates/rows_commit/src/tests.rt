@@ -218,6 +218,38 @@ fn three_entries(rt: &HostRuntime) -> Result<Entries, Fail> {
     Ok(entries)
 }
 
+/// A control block for a slide of volume 1, with a fill of the same volume open.
+fn slide_of_two(alloc: Global) -> Result<Entries, NoMemory> {
+    let slide = Control::Slide {
+        unit: 1,
+        from: 300,
+        to: 20,
+        len: 5,
+        done: 3,
+    };
+    let mut entries = Entries::new(alloc, 3)?;
+    entries.push_control(alloc, 2, slide, 2)?;
+    Ok(entries)
+}
+
+// Bytes 0, 4 to 23 and 65 of block 2 of the journal, which is the third unit.
+#[test]
+fn an_entry_says_what_is_under_way(rt: HostRuntime) -> Result<(), Fail> {
+    let mut want = vec![in rt.alloc(); 0u8; 65_536]?;
+    let front = [
+        1, 0, 0, 0, 0, 0, 0, 1, 0, 0, 1, 44, 0, 0, 0, 20, 0, 0, 0, 5, 0, 0, 0, 3,
+    ];
+    put_over(&mut want, 0, &front);
+    put_over(&mut want, 65, &[1]);
+    let entries = slide_of_two(rt.alloc())?;
+    for entry in entries.as_slice() {
+        assert_eq!(rt; (entry.unit, entry.block), (2, 2));
+        assert!(rt; entry.slot.as_slice() == want.as_slice());
+    }
+    assert_eq!(rt; entries.as_slice().len(), 1);
+    Ok(())
+}
+
 #[test]
 fn a_commit_is_whole_wherever_it_stops(rt: HostRuntime) -> Result<(), Fail> {
     let entries = three_entries(&rt)?;

@@ -1,5 +1,4 @@
 mod Forms
-mod Frames
 mod Looking
 mod Settling
 mod Stopping

@@ -5,6 +5,8 @@ use Rattle.std.specs.List.{AllByRecursion}
 use Rattle.std.proofs.lemmas.List.Elements.{recursion_from_All}
 use Rattle.std.proofs.lemmas.Option.{slice_get_within}
 use Rattle.ckd_image.specs.Device.{heads_of}
+use Rattle.ckd_image.specs.declared.device.Device.{Device}
+use Rattle.ckd_image.specs.declared.device.Device.TheVariants.{D3390, D3380}
 use Rattle.dasd_pool.specs.Disk.{Image, Shape, State}
 use Rattle.free_map.specs.Runs.{InRuns}
 use Rattle.redo_core.specs.declared.control.Control.TheVariants.{Idle}
@@ -21,10 +23,13 @@ use Rattle.move_core.specs.Facts.{Facts}
 use Rattle.move_core.specs.Resuming.{new_reading}
 use Rattle.move_core.specs.Stands.{is_sliding, place_in, Means}
 use Rattle.move_core.proofs.Below.{IsRunBelow, RowHasRuns, run_below, sound_rows}
-use Rattle.move_core.proofs.OneVtoc.{heads_15}
 use Rattle.move_core.proofs.Resuming.{formatted_settled}
 use Rattle.rows_headline.specs.Made.{IsSettledVolume, AreTold, IsMade, HasVolume, StaysSettled}
 use Rattle.volume_model.proofs.Numbers.{tracks_all}
+
+heads_15 : (device : Device) → heads_of device ≡ 15
+heads_15 D3390 = refl
+heads_15 D3380 = refl
 
 -- ---- its data sets
 

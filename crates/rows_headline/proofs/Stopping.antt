@@ -13,13 +13,14 @@ use Rattle.dasd_pool.proofs.Tearing.{torn_left, torn_may_leave}
 use Rattle.volume_model.specs.Unit.{UnitModel}
 use Rattle.move_core.specs.declared.steps.Step.{Step}
 use Rattle.move_core.specs.Facts.{Facts}
+use Rattle.redo_core.specs.Faults.{IsAllClosed, MayOpen}
 use Rattle.move_core.specs.Runs.{IsRun, KeepsUnits, moves_of, StandsAfterMost}
-use Rattle.move_core.proofs.Running.{run_stops}
+use Rattle.move_core.proofs.Running.{run_stops, run_closed}
 use Rattle.move_core.specs.Stands.{Stands, IsSettled}
-use Rattle.move_core.proofs.Resuming.{synced_settled}
+use Rattle.move_core.proofs.Resuming.{synced_settled, standing_may_open}
+use Rattle.move_core.proofs.SameBlocks.{stands_there, closed_there}
 use Rattle.rows_headline.specs.Stopped.{StopStands}
 use Rattle.rows_headline.specs.Again.{shown_of, IsReady, EachStopIsReady, RunsOn}
-use Rattle.rows_headline.proofs.Frames.{stands_there}
 
 -- ---- a pool that keeps calls tells all of them
 
@@ -83,6 +84,15 @@ module _ (old new : MemoryView) (ended : Type 0) (steps : List Step) (pending : 
         (may_there new.keep (now_of new) (kept_of new) (torn_image tear new.units new.calls) some_kept (torn_may_leave tear new.units new.calls)));
   }
 
+  -- no slide and no fill is open in what it leaves
+  pub stop_closed : (calls : ℕ) (tear : Tear) → length old.calls ≤ calls → IsAllClosed facts.shape (state_of old).contents
+      → IsAllClosed facts.shape (torn_image tear new.units (take calls new.calls))
+  stop_closed calls tear from closed =
+      let image : Image = torn_image tear new.units (take calls new.calls) in
+      let within : (disk_of old).moment ≤ min calls (length new.calls) = omega (arith, old_moment, from, later) in
+      run_closed run tt facts same units settled closed image
+      (left_there new.keep (now_of new) (kept_of new) (disk_of old).moment image some_kept (torn_left tear new.units new.calls calls (disk_of old).moment within))
+
 -- ---- what a stop left, handed in again
 
 module _ (tear : Tear) (units : List UnitText) (calls : List Call) (left : MemoryView) (torn : IsTornFrom tear units calls left.units)
@@ -96,11 +106,21 @@ module _ (tear : Tear) (units : List UnitText) (calls : List Call) (left : Memor
   left_synced : (u b : ℕ) → (state_of left).synced u b ≡ true
   left_synced u b = ap (λ (s : State). s.synced u b) state
 
+  left_same : (facts : Facts) → facts.shape ≡ shape_of units → (u b : ℕ) → u < facts.shape.units → b < facts.shape.blocks u → (state_of left).contents u b ≡ torn_image tear units calls u b
+  left_same facts same u b less within =
+      left_contents u b (subst (λ (s : Shape). u < s.units) same less) (subst (λ (s : Shape). b < s.blocks u) same within)
+
+  pub left_opens : (facts : Facts) (found : List UnitModel) → facts.shape ≡ shape_of units → Stands facts (torn_image tear units calls) found
+      → IsAllClosed facts.shape (torn_image tear units calls) → MayOpen facts.shape (state_of left).contents facts.names
+  left_opens facts found same stands closed =
+      standing_may_open facts (state_of left).contents found
+      (stands_there facts (torn_image tear units calls) (state_of left).contents found stands (left_same facts same))
+      (closed_there facts (torn_image tear units calls) (state_of left).contents found stands (left_same facts same) closed)
+
   pub left_settled : (facts : Facts) (found : List UnitModel) → facts.shape ≡ shape_of units → Stands facts (torn_image tear units calls) found → IsSettled facts (state_of left) found
   left_settled facts found same stands =
       synced_settled facts (state_of left) found left_synced
-      (stands_there facts (torn_image tear units calls) (state_of left).contents found stands
-      (λ u b less within. left_contents u b (subst (λ (s : Shape). u < s.units) same less) (subst (λ (s : Shape). b < s.blocks u) same within)))
+      (stands_there facts (torn_image tear units calls) (state_of left).contents found stands (left_same facts same))
 
 module _ (old new left : MemoryView) (ended : Type 0) (steps : List Step) (pending : Option Step) (run : IsRun (Unit {0}) (shown_of old) (shown_of new) ended steps pending)
     (calls : ℕ) (tear : Tear) (torn : IsTornFrom tear new.units (take calls new.calls) left.units) (whole : left ≡ fresh left.units [] new.keep)
@@ -119,12 +139,15 @@ module _ (old new left : MemoryView) (ended : Type 0) (steps : List Step) (pendi
         units = after.2.units;
         reached = after.2.reached;
         settled = left_settled tear new.units (take calls new.calls) left torn shape state facts after.2.units there after.2.stands;
+        opens = λ closed.
+            left_opens tear new.units (take calls new.calls) left torn shape state facts after.2.units there after.2.stands
+            (stop_closed old new ended steps pending run some facts units same settled calls tear from closed);
       }
 
 -- a run on it
 pub runs_on : (left new : MemoryView) (ended : Type 0) (steps : List Step) (pending : Option Step) → IsRun (Unit {0}) (shown_of left) (shown_of new) ended steps pending
-    → (facts : Facts) (first : List UnitModel) (moves : List Step) → IsReady facts first moves left → RunsOn facts first moves new ended steps pending
-runs_on left new ended steps pending run facts first moves ready =
+    → (facts : Facts) (first : List UnitModel) (moves : List Step) (before : Image) → IsReady facts first moves before left → RunsOn facts first moves new ended steps pending
+runs_on left new ended steps pending run facts first moves before ready =
     let start : (disk_of left).moment ≡ 0 =
     moment_there left.keep (disk_now (marked_state left.units left.texts left.marks)) (disk_after (first_state left.units) left.calls) ready.keeps
     ∙ ap length ready.uncalled in

@@ -197,6 +197,14 @@ fn slots_of(rt: &HostRuntime, device: Device, tracks: &[&[Dscb]]) -> Result<Vec<
     Ok(slots)
 }
 
+/// The head of a volume of so many cylinders.
+fn head_of(device: Device, cylinders: u8) -> Head {
+    Head {
+        device,
+        tracks: 15 * u32::from(cylinders),
+    }
+}
+
 /// One change of a VTOC on a volume of so many cylinders.
 fn change_of(
     rt: &HostRuntime,
@@ -205,12 +213,14 @@ fn change_of(
     tracks: &[&[Dscb]],
     change: &Change,
 ) -> Result<Result<Rendered, RowFault>, Fail> {
-    let head = Head {
-        device,
-        tracks: 15 * u32::from(cylinders),
-    };
     let slots = slots_of(rt, device, tracks)?;
-    Ok(changed(rt.alloc(), head, &LABEL, &slots, change))
+    Ok(changed(
+        rt.alloc(),
+        head_of(device, cylinders),
+        &LABEL,
+        &slots,
+        change,
+    ))
 }
 
 /// The tracks that are written are these, each with its records.
@@ -486,6 +496,24 @@ fn a_mark_is_one_bit(rt: HostRuntime) -> Result<(), Fail> {
     let before = [four((9, 9), 9, 0x10, 1, 1), stated, a, FREE];
     let after = [four((9, 9), 9, 0x14, 1, 1), stated, a, FREE];
     expect(&rt, 1, &[&before], &Change::Mark, &[(1, &after)], (1, 1))
+}
+
+// What an older track left behind the end mark gives place to zeros.
+#[test]
+fn a_track_ends_with_its_mark(rt: HostRuntime) -> Result<(), Fail> {
+    let a = one(A, 1, &[(2, 3)], (0, 0));
+    let stated = five(&ELEVEN, (0, 0));
+    let before = [four((9, 9), 9, 0, 1, 1), stated, a, FREE];
+    let after = [four((9, 9), 9, 0x04, 1, 1), stated, a, FREE];
+    let mut slots = slots_of(&rt, Device::D3390, &[&before])?;
+    if let Some(last) = slots.last_mut() {
+        *last = 0x55;
+    }
+    let head = head_of(Device::D3390, 1);
+    match changed(rt.alloc(), head, &LABEL, &slots, &Change::Mark) {
+        Ok(rendered) => writes(&rt, Device::D3390, &rendered, &[(1, &after)]),
+        Err(fault) => Err(Fail::new(fault)),
+    }
 }
 
 // On a 3380: B comes where A leaves tracks free.

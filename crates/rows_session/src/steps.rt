@@ -343,16 +343,12 @@ fn a_chain_is_after_a_prefix_of_its_steps_wherever_it_stops(rt: HostRuntime) -> 
     Ok(())
 }
 
-/// The step that is under way where a call of the chain fails: none while texts are copied, and then the step of the commit.
-fn pending_at(call: u64) -> Option<Wanted> {
-    let place = call.saturating_sub(BEGINNING);
-    if place % STEP == 0 {
-        return None;
-    }
-    match place / STEP {
-        0 => Some(Wanted::Shrink),
-        1 => Some(Wanted::Repair),
-        _ => Some(Wanted::Delete),
+/// The step that is under way where a call of the chain fails: one of its copies, or of its commit.
+fn pending_at(call: u64) -> Wanted {
+    match call.saturating_sub(BEGINNING) / STEP {
+        0 => Wanted::Shrink,
+        1 => Wanted::Repair,
+        _ => Wanted::Delete,
     }
 }
 
@@ -360,7 +356,7 @@ fn pending_at(call: u64) -> Option<Wanted> {
 fn a_failure_names_the_step_under_way(rt: HostRuntime) -> Result<(), Fail> {
     for call in BEGINNING..BEGINNING + 3 * STEP {
         let pending = match run_chain(rt.alloc(), &[call])? {
-            Carried::Cut(pending) => Some(pending),
+            Carried::Cut(pending) => pending,
             _ => None,
         };
         assert_eq!(rt; pending, Some(pending_at(call)), "call {call}");

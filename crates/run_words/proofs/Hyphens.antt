@@ -2,6 +2,7 @@
 use Rattle.std.proofs.Common.{◌≡◌, ◌≢◌, ℕ, zero, suc, ◌==◌, Bool, true, false, List, [], ◌∷◌, ◌++◌, Option, Some, None, sym, ap, ◌∙◌, ◌⊎◌, inl, inr, refl, arith, eqb-true, ne_eqb, codes}
 use Rattle.std.specs.Prelude.{if◌then◌else◌, option_and_then}
 use Rattle.std.specs.Str.{bytes_eq}
+use Rattle.std.proofs.lemmas.Option.{same_Some}
 use Rattle.clap.specs.Lexer.{long_of, long_of_rest, name_and_value, short_of, short_of_rest, strip_byte}
 use Rattle.clap.proofs.CutLemmas.{Lacks}
 use Rattle.clap.proofs.LexerLemmas.{name_and_value-at, name_and_value-without}
@@ -18,9 +19,6 @@ signed name (Some value) = name ++ 61 ∷ value
 
 -- ---- from a word
 
-some_is : {X : Type 0} (x y : X) → Some x ≡ Some y → x ≡ y
-some_is x y e = cc
-
 not_none : {X : Type 0} (x : X) → None ≡ Some x → ⊥
 not_none x e = cc
 
@@ -29,7 +27,7 @@ stripped [] rest e = absurd (not_none rest e)
 stripped (x ∷ xs) rest e = go (x == 45) refl e
   where
     go : (b : Bool) → (x == 45) ≡ b → (if b then Some xs else None) ≡ Some rest → x ∷ xs ≡ 45 ∷ rest
-    go true is e = (λ i. eqb-true x 45 is i ∷ some_is xs rest e i)
+    go true is e = (λ i. eqb-true x 45 is i ∷ same_Some xs rest e i)
     go false is e = absurd (not_none rest e)
 
 parted : (text : List ℕ) → Lacks 61 text ⊎ ((name : List ℕ) × (value : List ℕ) × (text ≡ name ++ 61 ∷ value) × Lacks 61 name)
@@ -58,7 +56,7 @@ long_word word p e = first (strip_byte 45 word) refl e
   where
     third : (rest : List ℕ) → long_of_rest rest ≡ Some p → rest ≡ signed p.0 p.1
     third [] e = absurd (not_none p e)
-    third (x ∷ xs) e = sym (cut_whole (x ∷ xs)) ∙ ap (λ (q : List ℕ × Option (List ℕ)). signed q.0 q.1) (some_is (name_and_value (x ∷ xs)) p e)
+    third (x ∷ xs) e = sym (cut_whole (x ∷ xs)) ∙ ap (λ (q : List ℕ × Option (List ℕ)). signed q.0 q.1) (same_Some (name_and_value (x ∷ xs)) p e)
 
     second : (front : List ℕ) (o : Option (List ℕ)) → strip_byte 45 front ≡ o → option_and_then long_of_rest o ≡ Some p → front ≡ 45 ∷ signed p.0 p.1
     second front None is e = absurd (not_none p e)
@@ -74,7 +72,7 @@ some_flag word e = go (strip_byte 45 word) e
   where
     third : (x : ℕ) (xs : List ℕ) (b : Bool) → (if b then None else Some (x ∷ xs)) ≡ Some [] → ⊥
     third x xs true e = not_none [] e
-    third x xs false e = let f : x ∷ xs ≡ [] = some_is (x ∷ xs) [] e in cc
+    third x xs false e = let f : x ∷ xs ≡ [] = same_Some (x ∷ xs) [] e in cc
 
     second : (rest : List ℕ) → short_of_rest rest ≡ Some [] → ⊥
     second [] e = not_none [] e

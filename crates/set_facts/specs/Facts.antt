@@ -6,6 +6,7 @@ use Rattle.by_rules.specs.declared.row.AllocKind.TheVariants as kinds
 use Rattle.by_rules.specs.declared.row.RowFacts.{RowFacts}
 use Rattle.by_rules.specs.Day.{IsEarlier}
 use Rattle.volume_model.specs.Dscbs.{number_at}
+use Rattle.volume_model.specs.Pinned.{organization_in, sequence_in}
 use Rattle.volume_model.specs.Unit.{DataSet, tracks_of}
 
 -- ---- dates
@@ -37,7 +38,7 @@ kind_of_bits bits = if bits == 0 then kinds.Absolute else if bits == 1 then kind
 -- the facts of a data set with so many extents and tracks, by the fields of its format 1
 abbrev pub facts_from : List ℕ → ℕ → ℕ → RowFacts
 facts_from fields extents tracks = record {
-  dsorg = number_at fields 82;
+  dsorg = organization_in fields;
   created = day_at fields 53;
   expires = expiry_in fields;
   referred = day_at fields 75;
@@ -45,7 +46,7 @@ facts_from fields extents tracks = record {
   tracks = tracks;
   changed = not (bit_and (slice_index fields 93) 0x02 == 0);
   alloc_kind = kind_of_bits (slice_index fields 94 / 64);
-  sequence = number_at fields 51;
+  sequence = sequence_in fields;
 }
 
 abbrev pub facts_of : DataSet → RowFacts

@@ -21,7 +21,7 @@ use Rattle.volume_model.specs.Space.{end_of, overlap, is_run, run_of, track_at}
 use Rattle.volume_model.specs.Unit.{Extent, DataSet, OnlineVolume}
 use Rattle.vtoc_check.proofs.Overlapping.{run_facts}
 use Rattle.vtoc_check.proofs.Readings.{are_short}
-use Rattle.vtoc_layout.specs.Layout.{IsLayoutOf, AreApart, AreExtentsApart, extents_in_set, extents_by, records_in_set, used_records, fives_in_order, set_of, sets_of, layout_of}
+use Rattle.vtoc_layout.specs.Layout.{IsLayoutOf, AreApart, AreExtentsApart, extents_in_set, extents_by, records_in_set, records_used, fives_in_order, set_of, sets_of, layout_of}
 use Rattle.vtoc_layout.proofs.Distinct.{in_later, in_back, distinct_back}
 use Rattle.layout_found.proofs.Extents.{extents_apart}
 use Rattle.layout_found.proofs.Uses.{layout_right}
@@ -155,7 +155,7 @@ module _ (sliding : Bool) (place : ℕ → ℕ) (head : List ℕ) (blocks : ℕ)
       let in_sets : List Placed = flat_map records_in_set (sets_of vtoc) in
       extents_apart vtoc (layout_of vtoc four) on.stands.sound (distinct_back fives in_sets laid_out.once.1)
       (λ placed c.
-      All-contains (Contains (records_of vtoc)) (used_records (layout_of vtoc four)) placed laid_out.there (in_later four placed (fives ++ in_sets) (in_back fives in_sets placed c)))
+      All-contains (Contains (records_of vtoc)) (records_used (layout_of vtoc four)) placed laid_out.there (in_later four placed (fives ++ in_sets) (in_back fives in_sets placed c)))
 
   heads_are : heads_of on.found.device ≡ vtoc.heads
   heads_are = ap heads_of on.stands.device_is ∙ sym is.heads_are

@@ -1,7 +1,8 @@
 -- What an image stands for is one list of units, whether or not a slide is open.
-use Rattle.std.proofs.Common.{◌≡◌, ℕ, ◌<◌, ◌≤◌, List, [], ◌∷◌, ◌++◌, length, Some, refl, sym, ap, subst, ◌∙◌, arith, length-append}
+use Rattle.std.proofs.Common.{◌≡◌, ℕ, ◌<◌, ◌≤◌, List, ◌∷◌, ◌++◌, length, Some, refl, sym, ap, subst, ◌∙◌, arith, length-append}
 use Rattle.std.specs.Prelude.{slice_get}
 use Rattle.dasd_pool.specs.Disk.{Image}
+use Rattle.dasd_pool.proofs.Slices.{get_there}
 use Rattle.redo_core.specs.declared.control.Control.{Control}
 use Rattle.redo_core.specs.declared.control.Control.TheVariants.{Idle, Slide}
 use Rattle.redo_core.specs.Reading.{journal_of}
@@ -13,10 +14,6 @@ use Rattle.slide_laws.specs.OneList.{OneList}
 use Rattle.slide_laws.proofs.Splits.{split_there}
 use Rattle.slide_laws.proofs.ExtentsOnce.{sets_once}
 use Rattle.slide_laws.proofs.OneSlide.{slides_same}
-
-get_there : (front back : List UnitModel) (x : UnitModel) → slice_get (front ++ (x ∷ back)) (length front) ≡ Some x
-get_there [] back x = refl
-get_there (y ∷ front) back x = get_there front back x
 
 abbrev volume_of : OnlineVolume → UnitModel → OnlineVolume
 volume_of other (online volume) = volume

@@ -3,6 +3,7 @@ use Rattle.std.proofs.Common.{◌≡◌, ◌≢◌, ◌⊎◌, inl, inr, ℕ, Li
 use Rattle.std.proofs.lemmas.List.{same_from_push}
 use Rattle.sysin_text.specs.declared.token.Token.{Token}
 use Rattle.sysin_text.specs.declared.token.Token.TheVariants.{Comma, Open, Close, Word}
+use Rattle.sysin_text.proofs.OneMore.{one_more}
 use Rattle.sysin_words.specs.declared.keyword.Keyword.TheVariants as keywords
 use Rattle.sysin_words.specs.declared.lead.Verb.{Verb}
 use Rattle.sysin_words.specs.Keyword.{keyword_of}
@@ -31,20 +32,17 @@ use Rattle.sysin_commands.specs.Operand.{IsOperand}
 use Rattle.sysin_commands.specs.AnyOperand.{StartsDataset, AnyGoes, AnyStops, AnyGives, AnyReads, AnyIsRead}
 use Rattle.sysin_commands.proofs.FirstWord.{IsOther, plain_is_other, read_is_other, other_more, only_plain, behind_dataset, inside_dataset, goes_out, goes_in, none_behind, one}
 
-put : (text known : List Token) (token sign : Token) → text ≡ known → token ≡ sign → text ++ token ∷ [] ≡ known ++ sign ∷ []
-put text known token sign e f = ap (λ (t : List Token). t ++ token ∷ []) e ∙ ap (λ (s : Token). known ++ s ∷ []) f
-
 pub goes : (verb : Verb) (old new : AnyPlace) (text : List Token) (token : Token) → AnyReads verb old text → AnyGoes verb old token new → AnyReads verb new (text ++ token ∷ [])
 goes verb (places.Plain place) new text token r (inl ((start, (word, sign, k)), is)) =
     let none : text ≡ [] = subst (λ (p : OperandPlace). OperandReads verb p text) start r in
-    subst (λ (p : AnyPlace). AnyReads verb p (text ++ token ∷ [])) (sym is) (word, put text [] token (Word word) none sign, k)
+    subst (λ (p : AnyPlace). AnyReads verb p (text ++ token ∷ [])) (sym is) (word, one_more text [] token (Word word) none sign, k)
 goes verb (places.Plain place) new text token r (inr (next', g, is)) =
     subst (λ (p : AnyPlace). AnyReads verb p (text ++ token ∷ [])) (sym is) ((plain.exact verb).goes place next' text token r g)
 goes verb places.Named new text token (word, e, k) (sign, is) =
-    subst (λ (p : AnyPlace). AnyReads verb p (text ++ token ∷ [])) (sym is) (word, [], put text (Word word ∷ []) token Open e sign, k, (filters.exact verb).begins)
+    subst (λ (p : AnyPlace). AnyReads verb p (text ++ token ∷ [])) (sym is) (word, [], one_more text (Word word ∷ []) token Open e sign, k, (filters.exact verb).begins)
 goes verb (places.Inside filter) new text token (word, front, e, k, r) (inl (whole, sign, gives, is)) =
     subst (λ (p : AnyPlace). AnyReads verb p (text ++ token ∷ [])) (sym is)
-    (record { word = word; content = front; tokens = put text (Word word ∷ Open ∷ front) token Close e sign; spelled = k; inside = (filters.exact verb).spelled filter front whole r gives })
+    (record { word = word; content = front; tokens = one_more text (Word word ∷ Open ∷ front) token Close e sign; spelled = k; inside = (filters.exact verb).spelled filter front whole r gives })
 goes verb (places.Inside filter) new text token (word, front, e, k, r) (inr (more, open', g, is)) =
     subst (λ (p : AnyPlace). AnyReads verb p (text ++ token ∷ [])) (sym is)
     (word, front ++ token ∷ [], ap (λ (t : List Token). t ++ token ∷ []) e, k, (filters.exact verb).goes filter more front token r g)

@@ -1,8 +1,9 @@
 -- Commands are read exactly.
-use Rattle.std.proofs.Common.{◌≡◌, ◌≢◌, inl, inr, List, [], ◌∷◌, ◌++◌, refl, sym, ap, subst, ◌∙◌, Bool, true, false, append_assoc, append-nil}
+use Rattle.std.proofs.Common.{◌≡◌, inl, inr, List, [], ◌∷◌, ◌++◌, refl, sym, ap, subst, ◌∙◌, Bool, true, false, append_assoc, append-nil}
 use Rattle.std.proofs.lemmas.List.{same_from_push}
 use Rattle.sysin_text.specs.declared.token.Token.{Token}
 use Rattle.sysin_text.specs.declared.token.Token.TheVariants.{Comma, Word}
+use Rattle.sysin_text.proofs.OneMore.{more_behind}
 use Rattle.sysin_words.specs.declared.lead.Verb.{Verb}
 use Rattle.sysin_lang.specs.declared.command.Command.{Command}
 use Rattle.sysin_forms.specs.declared.form.Form.{Form}
@@ -80,9 +81,6 @@ are_more verb list operand text w = (
 
 -- ---- one token more
 
-put : (text front rest : List Token) (token : Token) → text ≡ front ++ rest → text ++ token ∷ [] ≡ front ++ (rest ++ token ∷ [])
-put text front rest token e = ap (λ (t : List Token). t ++ token ∷ []) e ∙ append_assoc front rest (token ∷ [])
-
 ended : (old : CommandReading) (operand : Operand) (text front rest : List Token) → text ≡ front ++ rest → ComeBefore old.verb old.operands front → IsBegun old.verb old.operands rest
     → IsOperand old.verb true operand rest → CommandReads (record { verb = old.verb; operands = old.operands ++ operand ∷ []; place = places.Behind }) text
 ended old operand text front rest e come b s =
@@ -117,7 +115,7 @@ goes_at places.Behind old new text token (some, list) (inr (sign, room, is)) =
 goes_at places.Comma old new text token (some, room, (front, e, list)) s = started old new text token (inr (some, inr (front, e, list))) s
 goes_at (places.Inside place) old new text token (front, rest, e, come, r, b, part) (next', g, is) =
     subst (λ (r : CommandReading). CommandReads r (text ++ token ∷ [])) (sym is)
-    (behind old next' (text ++ token ∷ []) front (rest ++ token ∷ []) (put text front rest token e) come ((operands.exact old.verb).goes place next' rest token r g)
+    (behind old next' (text ++ token ∷ []) front (rest ++ token ∷ []) (more_behind text front rest token e) come ((operands.exact old.verb).goes place next' rest token r g)
     (begun_more old.verb old.operands rest (token ∷ []) b))
 
 behind_verb : (old : CommandReading) (place : AnyPlace) → (Behind old place).verb ≡ old.verb

@@ -4,6 +4,7 @@ use Rattle.std.specs.Prelude.{◌||◌}
 use Rattle.std.proofs.lemmas.List.{same_from_push}
 use Rattle.sysin_text.specs.declared.token.Token.{Token}
 use Rattle.sysin_text.specs.declared.token.Token.TheVariants.{Comma, Open, Close, Word}
+use Rattle.sysin_text.proofs.OneMore.{more_behind}
 use Rattle.sysin_words.specs.declared.keyword.Keyword.{Keyword}
 use Rattle.sysin_words.specs.declared.keyword.Keyword.TheVariants as keywords
 use Rattle.sysin_words.specs.declared.lead.Verb.{Verb}
@@ -56,9 +57,6 @@ with_part limited parts part front text come s stands = (
 
 -- ---- one token more
 
-put : (text front rest : List Token) (token : Token) → text ≡ front ++ rest → text ++ token ∷ [] ≡ front ++ (rest ++ token ∷ [])
-put text front rest token e = ap (λ (t : List Token). t ++ token ∷ []) e ∙ append_assoc front rest (token ∷ [])
-
 started : (old new : FilterReading) (text : List Token) (token : Token) → ComeBefore old.parts text → StartsPart old token new → FilterReads new (text ++ token ∷ [])
 started old new text token come s =
     let word = s.word in
@@ -106,10 +104,10 @@ went_on old place next' text front rest token e come r m g = by_place (stays old
     r' = (operands.exact old.verb).goes place next' rest token r g
 
     by_place : MayStandAt old.parts next' ⊎ ((part : Operand) × (next' ≡ operand_places.Ended part)) → FilterReads (Behind old next') (text ++ token ∷ [])
-    by_place (inl n) = behind_stays old next' (text ++ token ∷ []) front (rest ++ token ∷ []) (put text front rest token e) come r' n
+    by_place (inl n) = behind_stays old next' (text ++ token ∷ []) front (rest ++ token ∷ []) (more_behind text front rest token e) come r' n
     by_place (inr (part, is)) =
         subst (λ (p : OperandPlace). FilterReads (Behind old p) (text ++ token ∷ [])) (sym is)
-        (behind_ended old part (text ++ token ∷ []) front rest (token ∷ []) (put text front rest token e) come (begun old.verb old.parts place rest r m)
+        (behind_ended old part (text ++ token ∷ []) front rest (token ∷ []) (more_behind text front rest token e) come (begun old.verb old.parts place rest r m)
         (subst (λ (p : OperandPlace). OperandReads old.verb p (rest ++ token ∷ [])) is r'))
 
 goes_at : (place : FilterPlace) (old new : FilterReading) (text : List Token) (token : Token) → ReadsAt place old text → GoesFrom place old token new → FilterReads new (text ++ token ∷ [])

@@ -4,6 +4,7 @@ use Rattle.std.specs.Prelude.{codes}
 use Rattle.by_rules.specs.declared.criterion.Op.TheVariants as ops
 use Rattle.sysin_text.specs.declared.token.Token.{Token}
 use Rattle.sysin_text.specs.declared.token.Token.TheVariants.{Word, Equal}
+use Rattle.sysin_text.proofs.OneMore.{one_more, with_rest}
 use Rattle.sysin_words.specs.declared.code.Which.TheVariants as whiches
 use Rattle.sysin_words.specs.Code.{op_of}
 use Rattle.sysin_values.specs.declared.fault.ValueFault.{ValueFault}
@@ -17,35 +18,29 @@ use Rattle.sysin_heads.specs.declared.head.HeadPlace.TheVariants as places
 use Rattle.sysin_heads.specs.Head.{IsHead}
 use Rattle.sysin_heads.specs.Reading.{Goes, Stops, Gives, Reads}
 
-put : (text known : List Token) (token sign : Token) → text ≡ known → token ≡ sign → text ++ token ∷ [] ≡ known ++ sign ∷ []
-put text known token sign e f = ap (λ (t : List Token). t ++ token ∷ []) e ∙ ap (λ (s : Token). known ++ s ∷ []) f
-
-behind : (text known rest : List Token) → text ≡ known → text ++ rest ≡ known ++ rest
-behind text known rest e = ap (λ (t : List Token). t ++ rest) e
-
 abbrev After : List Token → HeadPlace → Type 0
 After text place = Reads place text
 
 -- one more token
 goes : (old new : HeadPlace) (text : List Token) (token : Token) → Reads old text → Goes old token new → Reads new (text ++ token ∷ [])
 goes places.Start new text token r (inl ((word, e, says), is)) =
-    subst (After (text ++ token ∷ [])) (sym is) (word, put text [] token (Word word) r e, says)
+    subst (After (text ++ token ∷ [])) (sym is) (word, one_more text [] token (Word word) r e, says)
 goes places.Start new text token r (inr ((word, e, says), is)) =
-    subst (After (text ++ token ∷ [])) (sym is) (word, put text [] token (Word word) r e, says)
+    subst (After (text ++ token ∷ [])) (sym is) (word, one_more text [] token (Word word) r e, says)
 goes places.Set new text token (set, t, l) (which, (word, e, says), is) =
-    subst (After (text ++ token ∷ [])) (sym is) (set, word, put text (Word set ∷ []) token (Word word) t e, l, says)
+    subst (After (text ++ token ∷ [])) (sym is) (set, word, one_more text (Word set ∷ []) token (Word word) t e, l, says)
 goes (places.SetName which) new text token (set, name, t, l, n) (e, is) =
-    subst (After (text ++ token ∷ [])) (sym is) (set, name, put text (Word set ∷ Word name ∷ []) token Equal t e, l, n)
+    subst (After (text ++ token ∷ [])) (sym is) (set, name, one_more text (Word set ∷ Word name ∷ []) token Equal t e, l, n)
 goes (places.SetSign which) new text token (set, name, t, l, n) (code, (word, e, says), is) =
-    subst (After (text ++ token ∷ [])) (sym is) (set, name, word, put text (Word set ∷ Word name ∷ Equal ∷ []) token (Word word) t e, l, n, says)
+    subst (After (text ++ token ∷ [])) (sym is) (set, name, word, one_more text (Word set ∷ Word name ∷ Equal ∷ []) token (Word word) t e, l, n, says)
 goes places.If new text token (set, t, l) (which, (word, e, says), is) =
-    subst (After (text ++ token ∷ [])) (sym is) (set, word, put text (Word set ∷ []) token (Word word) t e, l, says)
+    subst (After (text ++ token ∷ [])) (sym is) (set, word, one_more text (Word set ∷ []) token (Word word) t e, l, says)
 goes (places.IfName which) new text token (set, name, t, l, n) (op, says, is) =
-    subst (After (text ++ token ∷ [])) (sym is) (set, name, token, put text (Word set ∷ Word name ∷ []) token token t refl, l, n, says)
+    subst (After (text ++ token ∷ [])) (sym is) (set, name, token, one_more text (Word set ∷ Word name ∷ []) token token t refl, l, n, says)
 goes (places.IfOp which op) new text token (set, name, compared, t, l, n, o) (code, (word, e, says), is) =
-    subst (After (text ++ token ∷ [])) (sym is) (set, name, compared, word, put text (Word set ∷ Word name ∷ compared ∷ []) token (Word word) t e, l, n, o, says)
+    subst (After (text ++ token ∷ [])) (sym is) (set, name, compared, word, one_more text (Word set ∷ Word name ∷ compared ∷ []) token (Word word) t e, l, n, o, says)
 goes (places.IfCode which op code) new text token (set, name, compared, value, t, l, n, o, v) ((word, e, says), is) =
-    subst (After (text ++ token ∷ [])) (sym is) (set, name, compared, value, word, put text (Word set ∷ Word name ∷ compared ∷ Word value ∷ []) token (Word word) t e, l, n, o, v, says)
+    subst (After (text ++ token ∷ [])) (sym is) (set, name, compared, value, word, one_more text (Word set ∷ Word name ∷ compared ∷ Word value ∷ []) token (Word word) t e, l, n, o, v, says)
 goes (places.Ended head) new text token r g = absurd g
 
 -- what can still come
@@ -61,28 +56,28 @@ then_word = codes "THEN"
 right : (place : HeadPlace) (text : List Token) → Reads place text → CanGoOn IsHead true text
 right places.Start text r =
     let rest : List Token = Word (codes "SET") ∷ Word maxcc ∷ Equal ∷ Word nought ∷ [] in
-    (rest, heads.Set whiches.Max 0, (codes "SET", maxcc, nought, behind text [] rest r, refl, refl, refl))
+    (rest, heads.Set whiches.Max 0, (codes "SET", maxcc, nought, with_rest text [] rest r, refl, refl, refl))
 right places.Set text (set, t, l) =
     let rest : List Token = Word maxcc ∷ Equal ∷ Word nought ∷ [] in
-    (rest, heads.Set whiches.Max 0, (set, maxcc, nought, behind text (Word set ∷ []) rest t, l, refl, refl))
+    (rest, heads.Set whiches.Max 0, (set, maxcc, nought, with_rest text (Word set ∷ []) rest t, l, refl, refl))
 right (places.SetName which) text (set, name, t, l, n) =
     let rest : List Token = Equal ∷ Word nought ∷ [] in
-    (rest, heads.Set which 0, (set, name, nought, behind text (Word set ∷ Word name ∷ []) rest t, l, n, refl))
+    (rest, heads.Set which 0, (set, name, nought, with_rest text (Word set ∷ Word name ∷ []) rest t, l, n, refl))
 right (places.SetSign which) text (set, name, t, l, n) =
     let rest : List Token = Word nought ∷ [] in
-    (rest, heads.Set which 0, (set, name, nought, behind text (Word set ∷ Word name ∷ Equal ∷ []) rest t, l, n, refl))
+    (rest, heads.Set which 0, (set, name, nought, with_rest text (Word set ∷ Word name ∷ Equal ∷ []) rest t, l, n, refl))
 right places.If text (set, t, l) =
     let rest : List Token = Word maxcc ∷ Equal ∷ Word nought ∷ Word then_word ∷ [] in
-    (rest, heads.If whiches.Max ops.Equal 0, (set, maxcc, Equal, nought, then_word, behind text (Word set ∷ []) rest t, l, refl, refl, refl, refl))
+    (rest, heads.If whiches.Max ops.Equal 0, (set, maxcc, Equal, nought, then_word, with_rest text (Word set ∷ []) rest t, l, refl, refl, refl, refl))
 right (places.IfName which) text (set, name, t, l, n) =
     let rest : List Token = Equal ∷ Word nought ∷ Word then_word ∷ [] in
-    (rest, heads.If which ops.Equal 0, (set, name, Equal, nought, then_word, behind text (Word set ∷ Word name ∷ []) rest t, l, n, refl, refl, refl))
+    (rest, heads.If which ops.Equal 0, (set, name, Equal, nought, then_word, with_rest text (Word set ∷ Word name ∷ []) rest t, l, n, refl, refl, refl))
 right (places.IfOp which op) text (set, name, compared, t, l, n, o) =
     let rest : List Token = Word nought ∷ Word then_word ∷ [] in
-    (rest, heads.If which op 0, (set, name, compared, nought, then_word, behind text (Word set ∷ Word name ∷ compared ∷ []) rest t, l, n, o, refl, refl))
+    (rest, heads.If which op 0, (set, name, compared, nought, then_word, with_rest text (Word set ∷ Word name ∷ compared ∷ []) rest t, l, n, o, refl, refl))
 right (places.IfCode which op code) text (set, name, compared, value, t, l, n, o, v) =
     let rest : List Token = Word then_word ∷ [] in
-    (rest, heads.If which op code, (set, name, compared, value, then_word, behind text (Word set ∷ Word name ∷ compared ∷ Word value ∷ []) rest t, l, n, o, v, refl))
+    (rest, heads.If which op code, (set, name, compared, value, then_word, with_rest text (Word set ∷ Word name ∷ compared ∷ Word value ∷ []) rest t, l, n, o, v, refl))
 right (places.Ended head) text r = ([], head, subst (λ (t : List Token). IsHead true head t) (sym (append-nil text)) r)
 
 -- a token with which the tokens can go on is one that is read

@@ -1,9 +1,10 @@
 -- Operands are read exactly.
-use Rattle.std.proofs.Common.{◌≡◌, ◌⊎◌, inl, inr, List, [], ◌∷◌, ◌++◌, refl, sym, ap, subst, ◌∙◌, Bool, true, false, None, append-nil}
+use Rattle.std.proofs.Common.{◌≡◌, ◌⊎◌, inl, inr, List, [], ◌∷◌, ◌++◌, refl, sym, ap, subst, Bool, true, false, None, append-nil}
 use Rattle.std.specs.Prelude.{codes}
 use Rattle.std.proofs.lemmas.List.{same_from_push}
 use Rattle.sysin_text.specs.declared.token.Token.{Token}
 use Rattle.sysin_text.specs.declared.token.Token.TheVariants.{Comma, Open, Close, Word}
+use Rattle.sysin_text.proofs.OneMore.{one_more}
 use Rattle.sysin_words.specs.declared.keyword.Keyword.{Keyword}
 use Rattle.sysin_words.specs.declared.keyword.Keyword.TheVariants as keywords
 use Rattle.sysin_words.specs.declared.lead.Verb.{Verb}
@@ -25,16 +26,13 @@ use Rattle.sysin_operands.proofs.Contents as inner
 use Rattle.sysin_operands.proofs.Unlimited as unlimited
 use Rattle.sysin_operands.proofs.Bracketed.{one, none_behind, next_opens, inside_of, goes_in, goes_out}
 
-put : (text known : List Token) (token sign : Token) → text ≡ known → token ≡ sign → text ++ token ∷ [] ≡ known ++ sign ∷ []
-put text known token sign e f = ap (λ (t : List Token). t ++ token ∷ []) e ∙ ap (λ (s : Token). known ++ s ∷ []) f
-
 goes : (verb : Verb) (old new : OperandPlace) (text : List Token) (token : Token) → OperandReads verb old text → OperandGoes verb old token new → OperandReads verb new (text ++ token ∷ [])
 goes verb places.Start new text token r (keyword, (word, sign, k), inl (operand, a, is)) =
-    subst (λ (p : OperandPlace). OperandReads verb p (text ++ token ∷ [])) (sym is) (inl (keyword, a, (word, put text [] token (Word word) r sign, k)))
+    subst (λ (p : OperandPlace). OperandReads verb p (text ++ token ∷ [])) (sym is) (inl (keyword, a, (word, one_more text [] token (Word word) r sign, k)))
 goes verb places.Start new text token r (keyword, (word, sign, k), inr (bracket, b, is)) =
-    subst (λ (p : OperandPlace). OperandReads verb p (text ++ token ∷ [])) (sym is) (word, keyword, put text [] token (Word word) r sign, k, b)
+    subst (λ (p : OperandPlace). OperandReads verb p (text ++ token ∷ [])) (sym is) (word, keyword, one_more text [] token (Word word) r sign, k, b)
 goes verb (places.Named bracket) new text token (word, keyword, e, k, b) (sign, is) =
-    subst (λ (p : OperandPlace). OperandReads verb p (text ++ token ∷ [])) (sym is) (word, keyword, [], put text (Word word ∷ []) token Open e sign, k, b, (inner.exact bracket).begins)
+    subst (λ (p : OperandPlace). OperandReads verb p (text ++ token ∷ [])) (sym is) (word, keyword, [], one_more text (Word word ∷ []) token Open e sign, k, b, (inner.exact bracket).begins)
 goes verb (places.Inside bracket content) new text token (word, keyword, front, e, k, b, r) (inl (operand, sign, ended, gives, is)) =
     subst (λ (p : OperandPlace). OperandReads verb p (text ++ token ∷ [])) (sym is) (inr (
       keyword,
@@ -43,7 +41,7 @@ goes verb (places.Inside bracket content) new text token (word, keyword, front, 
       record {
         word = word;
         content = front;
-        tokens = put text (Word word ∷ Open ∷ front) token Close e sign;
+        tokens = one_more text (Word word ∷ Open ∷ front) token Close e sign;
         spelled = k;
         inside = (inner.exact bracket).spelled content front operand r gives;
       },

@@ -1,5 +1,6 @@
 -- Tokens are read in one way, and what is wrong behind them is so for one reason.
 use Rattle.std.proofs.Common.{◌≡◌, ◌⊎◌, inl, inr, ℕ, ◌+◌, List, [], ◌∷◌, refl, sym, ap, subst, ◌∙◌, Bool, true, false, Some}
+use Rattle.std.proofs.lemmas.Option.{same_Some}
 use Rattle.by_rules.specs.declared.criterion.Op.{Op}
 use Rattle.sysin_text.specs.declared.token.Token.{Token}
 use Rattle.sysin_text.specs.declared.token.Placed.{Placed}
@@ -121,9 +122,6 @@ one_ended o p placed a b same (inr (inr x)) (inr (inr y)) = one_next o p placed 
 says_one : {X : Type 0} (says : List ℕ → X) (a b : X) (token : Token) → IsWordFor says a token → IsWordFor says b token → a ≡ b
 says_one {X} says a b token (v, e, s) (w, f, t) = sym s ∙ ap says (one_word token v w e f) ∙ t
 
-some_one : {X : Type 0} (a b : X) → Some a ≡ Some b → a ≡ b
-some_one {X} a b e = cc
-
 set_is_not_if : (token : Token) → IsWordFor lead_of (Some leads.Set) token → IsWordFor lead_of (Some leads.If) token → ⊥
 set_is_not_if token x y = let both : Some leads.Set ≡ Some leads.If = says_one lead_of (Some leads.Set) (Some leads.If) token x y in cc
 
@@ -132,14 +130,14 @@ one_head head_places.Start a b token (inl (s, x)) (inl (t, y)) = x ∙ sym y
 one_head head_places.Start a b token (inl (s, x)) (inr (t, y)) = absurd (set_is_not_if token s t)
 one_head head_places.Start a b token (inr (s, x)) (inl (t, y)) = absurd (set_is_not_if token t s)
 one_head head_places.Start a b token (inr (s, x)) (inr (t, y)) = x ∙ sym y
-one_head head_places.Set a b token (m, s, x) (n, t, y) = x ∙ ap head_places.SetName (some_one m n (says_one which_of (Some m) (Some n) token s t)) ∙ sym y
+one_head head_places.Set a b token (m, s, x) (n, t, y) = x ∙ ap head_places.SetName (same_Some m n (says_one which_of (Some m) (Some n) token s t)) ∙ sym y
 one_head (head_places.SetName which) a b token (s, x) (t, y) = x ∙ sym y
 one_head (head_places.SetSign which) a b token (m, s, x) (n, t, y) =
-    x ∙ ap (λ (c : ℕ). head_places.Ended (heads.Set which c)) (some_one m n (says_one code_of (Some m) (Some n) token s t)) ∙ sym y
-one_head head_places.If a b token (m, s, x) (n, t, y) = x ∙ ap head_places.IfName (some_one m n (says_one which_of (Some m) (Some n) token s t)) ∙ sym y
-one_head (head_places.IfName which) a b token (m, s, x) (n, t, y) = x ∙ ap (λ (o : Op). head_places.IfOp which o) (some_one m n (sym s ∙ t)) ∙ sym y
+    x ∙ ap (λ (c : ℕ). head_places.Ended (heads.Set which c)) (same_Some m n (says_one code_of (Some m) (Some n) token s t)) ∙ sym y
+one_head head_places.If a b token (m, s, x) (n, t, y) = x ∙ ap head_places.IfName (same_Some m n (says_one which_of (Some m) (Some n) token s t)) ∙ sym y
+one_head (head_places.IfName which) a b token (m, s, x) (n, t, y) = x ∙ ap (λ (o : Op). head_places.IfOp which o) (same_Some m n (sym s ∙ t)) ∙ sym y
 one_head (head_places.IfOp which op) a b token (m, s, x) (n, t, y) =
-    x ∙ ap (λ (c : ℕ). head_places.IfCode which op c) (some_one m n (says_one code_of (Some m) (Some n) token s t)) ∙ sym y
+    x ∙ ap (λ (c : ℕ). head_places.IfCode which op c) (same_Some m n (says_one code_of (Some m) (Some n) token s t)) ∙ sym y
 one_head (head_places.IfCode which op code) a b token (s, x) (t, y) = x ∙ sym y
 one_head (head_places.Ended head) a b token x y = absurd x
 

@@ -1,6 +1,6 @@
 mod Samples
-mod Bools
 mod Splits
 mod Cleaned
 mod Fronts
 mod Steps
+pub mod OneMore

@@ -5,5 +5,5 @@ mod line;
 mod token;
 mod tokens;
 
-pub use token::{Letters, Placed, Token};
+pub use token::{Letters, Placed, Token, is_word_byte};
 pub use tokens::Tokens;

@@ -99,7 +99,8 @@ pub(crate) fn front_of(bytes: &[u8]) -> Option<Token>
     Some(sign_of(*first, rest))
 }
 
-fn is_word_byte(byte: u8) -> bool
+/// Whether a byte is one of a word: a capital, a digit, or one of `$ # @ . * % -`.
+pub fn is_word_byte(byte: u8) -> bool
     ensures { result ≡ signs.is_word_byte byte }
 {
     match byte {

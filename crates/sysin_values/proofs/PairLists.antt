@@ -9,6 +9,7 @@ use Rattle.dsn_filter.specs.Dsn.{dsn_of}
 use Rattle.dsn_filter.specs.Qualifier.{IsQualifier, IsInner}
 use Rattle.sysin_text.specs.declared.token.Token.{Token}
 use Rattle.sysin_text.specs.declared.token.Token.TheVariants.{Open, Close, Comma, Word}
+use Rattle.sysin_text.proofs.OneMore.{with_rest}
 use Rattle.sysin_values.specs.declared.fault.ValueFault.{ValueFault}
 use Rattle.sysin_values.specs.declared.fault.ValueFault.TheVariants as faults
 use Rattle.sysin_values.specs.declared.place.PairPlace.{PairPlace}
@@ -223,25 +224,22 @@ pub record CanEndPair (begun : List Token) : Type 0 where
   pub pair : Dsn × Dsn
   pub spelled : IsPair pair (begun ++ rest)
 
-joined : (begun known rest : List Token) → begun ≡ known → begun ++ rest ≡ known ++ rest
-joined begun known rest e = ap (λ (u : List Token). u ++ rest) e
-
 can_end : (place : PairPlace) (begun : List Token) → IsBegun place begun → CanEndPair begun
 can_end places.Before begun i =
     let rest : List Token = Open ∷ Word a_word ∷ Comma ∷ Word a_word ∷ Close ∷ [] in
-    record { rest = rest; pair = (dsn_of a_word, dsn_of a_word); spelled = (a_word, a_word, joined begun [] rest i, a_name, a_name) }
+    record { rest = rest; pair = (dsn_of a_word, dsn_of a_word); spelled = (a_word, a_word, with_rest begun [] rest i, a_name, a_name) }
 can_end places.Opened begun i =
     let rest : List Token = Word a_word ∷ Comma ∷ Word a_word ∷ Close ∷ [] in
-    record { rest = rest; pair = (dsn_of a_word, dsn_of a_word); spelled = (a_word, a_word, joined begun (Open ∷ []) rest i, a_name, a_name) }
+    record { rest = rest; pair = (dsn_of a_word, dsn_of a_word); spelled = (a_word, a_word, with_rest begun (Open ∷ []) rest i, a_name, a_name) }
 can_end (places.Old old) begun i =
     let rest : List Token = Comma ∷ Word a_word ∷ Close ∷ [] in
-    record { rest = rest; pair = (old, dsn_of a_word); spelled = (i.0, a_word, joined begun (Open ∷ Word i.0 ∷ []) rest i.1, i.2, a_name) }
+    record { rest = rest; pair = (old, dsn_of a_word); spelled = (i.0, a_word, with_rest begun (Open ∷ Word i.0 ∷ []) rest i.1, i.2, a_name) }
 can_end (places.Middle old) begun i =
     let rest : List Token = Word a_word ∷ Close ∷ [] in
-    record { rest = rest; pair = (old, dsn_of a_word); spelled = (i.0, a_word, joined begun (Open ∷ Word i.0 ∷ Comma ∷ []) rest i.1, i.2, a_name) }
+    record { rest = rest; pair = (old, dsn_of a_word); spelled = (i.0, a_word, with_rest begun (Open ∷ Word i.0 ∷ Comma ∷ []) rest i.1, i.2, a_name) }
 can_end (places.New old name) begun i =
     let rest : List Token = Close ∷ [] in
-    record { rest = rest; pair = (old, name); spelled = (i.0, i.1, joined begun (Open ∷ Word i.0 ∷ Comma ∷ Word i.1 ∷ []) rest i.2, i.3, i.4) }
+    record { rest = rest; pair = (old, name); spelled = (i.0, i.1, with_rest begun (Open ∷ Word i.0 ∷ Comma ∷ Word i.1 ∷ []) rest i.2, i.3, i.4) }
 can_end places.Behind begun i = absurd i
 
 ended_pair : (place : PairPlace) (limited : Bool) (list : List (Dsn × Dsn)) (text : List Token) (p : InPair place list text) → (IsTrue limited → length list < most_entries) → CanGoOn IsPairs limited text

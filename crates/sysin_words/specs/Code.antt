@@ -3,6 +3,7 @@ use Rattle.std.specs.Prelude.{ℕ, if◌then◌else◌, List, Option, Some, None
 use Rattle.std.specs.Str.{bytes_eq}
 use Rattle.by_rules.specs.declared.criterion.Op.{Op}
 use Rattle.by_rules.specs.declared.criterion.Op.TheVariants as ops
+use Rattle.by_rules.specs.Words.{op_of as op_word}
 use Rattle.sysin_text.specs.declared.token.Token.{Token}
 use Rattle.sysin_text.specs.declared.token.Token.TheVariants as tokens
 use Rattle.sysin_words.specs.declared.code.Which.{Which}
@@ -20,16 +21,6 @@ code_of word =
     else (if bytes_eq word (codes "8") then Some 8
     else (if bytes_eq word (codes "12") then Some 12
     else None)))
-
-abbrev pub op_word : List ℕ → Option Op
-op_word word =
-    if bytes_eq word (codes "EQ") then Some ops.Equal
-    else (if bytes_eq word (codes "NE") then Some ops.NotEqual
-    else (if bytes_eq word (codes "GT") then Some ops.Greater
-    else (if bytes_eq word (codes "LT") then Some ops.Less
-    else (if bytes_eq word (codes "GE") then Some ops.GreaterOrEqual
-    else (if bytes_eq word (codes "LE") then Some ops.LessOrEqual
-    else None)))))
 
 -- a comparison is a word or a sign
 abbrev pub op_of : Token → Option Op

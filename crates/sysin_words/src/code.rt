@@ -59,31 +59,7 @@ pub fn op_of(token: &Token) -> Option<Op>
         Token::Less => Some(Op::Less),
         Token::GreaterOrEqual => Some(Op::GreaterOrEqual),
         Token::LessOrEqual => Some(Op::LessOrEqual),
-        Token::Word(word) => op_word(word.as_slice()),
+        Token::Word(word) => by_rules::op_of(word.as_slice()),
         _ => None,
     }
-}
-
-fn op_word(word: &[u8]) -> Option<Op>
-    ensures { result ≡ spec.op_word word.now }
-{
-    if is(word, b"EQ") {
-        return Some(Op::Equal);
-    }
-    if is(word, b"NE") {
-        return Some(Op::NotEqual);
-    }
-    if is(word, b"GT") {
-        return Some(Op::Greater);
-    }
-    if is(word, b"LT") {
-        return Some(Op::Less);
-    }
-    if is(word, b"GE") {
-        return Some(Op::GreaterOrEqual);
-    }
-    if is(word, b"LE") {
-        return Some(Op::LessOrEqual);
-    }
-    None
 }

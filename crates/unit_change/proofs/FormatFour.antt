@@ -1,5 +1,5 @@
 -- The format 4 that a label's pointer names is one of the records of the VTOC.
-use Rattle.std.proofs.Common.{◌≡◌, ◌≢◌, ℕ, ◌+◌, ◌-◌, ◌<◌, ◌≤◌, ◌==◌, List, [], ◌∷◌, ◌++◌, length, find, Bool, true, All, Contains, Option, Some, None, refl, sym, ap, subst, ◌∙◌, arith}
+use Rattle.std.proofs.Common.{◌≡◌, ◌≢◌, ℕ, ◌+◌, ◌-◌, ◌<◌, ◌≤◌, ◌==◌, List, [], ◌++◌, length, find, Bool, true, All, Contains, Option, Some, None, refl, sym, ap, subst, ◌∙◌, arith}
 use Rattle.std.specs.Prelude.{nat_le, nat_lt, slice_index_or}
 use Rattle.std.proofs.lemmas.Bool.{and_parts, leb-true, ltb-true}
 use Rattle.std.proofs.lemmas.List.Elements.{All-get_or}
@@ -20,7 +20,7 @@ use Rattle.volume_model.specs.Space.{end_of, has_track, run_of, track_at}
 use Rattle.volume_model.specs.Sound.{Slots, dscb_of, IsTrackReading, IsFormat4, IsVtoc, limit_of}
 use Rattle.vtoc_check.proofs.Overlapping.{run_facts}
 use Rattle.vtoc_core.proofs.Placed.{numbered_from}
-use Rattle.vtoc_rewrite.proofs.Addresses.{address_fits, one_address, one_text_anywhere}
+use Rattle.volume_model.proofs.Addresses.{address_fits, one_address, one_text_anywhere}
 use Rattle.ckd_image.proofs.Lists.{left_nil}
 use Rattle.ckd_image.proofs.Devices.{is_address}
 use Rattle.vtoc_render.proofs.render_laws.Before.{tracks_are}

@@ -22,7 +22,7 @@ use Rattle.volume_change.specs.declared.change.Change.TheVariants.{Repair, Put, 
 use Rattle.vtoc_render.specs.declared.change.Rendered.{Rendered}
 use Rattle.vtoc_render.specs.Change.{WritesRecords, IsChangeWritten}
 use Rattle.unit_change.proofs.FormatFour.{home_of, KeepsFormat4}
-use Rattle.vtoc_rewrite.proofs.OneVtoc.{one_format_4}
+use Rattle.volume_model.proofs.OneVtoc.{one_format_4}
 
 writes_records : (volume : Volume) (slots : List ℕ) (change : Change) (rendered : Rendered) (vtoc : Vtoc) (four : Placed) → change ≢ Mark → IsChangeWritten volume slots change rendered vtoc four
     → WritesRecords volume slots change rendered vtoc four

@@ -1,7 +1,6 @@
 -- Rows in the order of their names, of which no two are the same, are one list.
 use Rattle.std.proofs.Common.{◌≡◌, ◌⊎◌, inl, inr, ℕ, suc, ◌+◌, List, [], ◌∷◌, ◌++◌, map, take, get_or, Contains, Bool, true, false, refl, sym, ap, subst, ◌∙◌, arith}
 use Rattle.std.specs.List.Sorted.{IsPermutation, IsSortedBy}
-use Rattle.std.specs.Cmp.{IsStrictWeakOrder}
 use Rattle.std.specs.declared.cmp.Ordering.{Ordering}
 use Rattle.std.specs.declared.cmp.Ordering.TheVariants.{Less, Equal, Greater}
 use Rattle.std.specs.Ordering.{is_lt, nat_cmp, ordering_reverse}
@@ -9,9 +8,9 @@ use Rattle.std.specs.Cmp.Lexicographic.{slice_cmp}
 use Rattle.std.specs.FinMap.{nat_cmp-IsAntisymmetric, slice_cmp-IsAntisymmetric}
 use Rattle.std.proofs.lemmas.Bool.{both_ways}
 use Rattle.std.proofs.lemmas.Cmp.{nat_list_cmp_total}
-use Rattle.std.proofs.lemmas.List.MinMax.{ranks_by}
 use Rattle.std.proofs.lemmas.List.Sorted.{sorted_far, Contains-permutation, IsPermutation-sym, IsPermutation-trans, IsPermutation-map, length_permutation}
 use Rattle.volume_model.specs.Directory.{DirectoryRow, name_before, AreInOrder}
+use Rattle.volume_model.proofs.NameOrder.{by_name}
 use Rattle.vtoc_layout.specs.Layout.{AreDistinct}
 use Rattle.vtoc_layout.proofs.Distinct.{Parted, parted, first_or_later, at_first, distinct_others, one_of_map}
 use Rattle.vtoc_render.proofs.PlacedLists.{taken_out}
@@ -36,9 +35,6 @@ distinct_moved {X} (y ∷ ys) xs d moved =
 
 abbrev pub name_in : DirectoryRow → List ℕ
 name_in row = take 44 row.format_1
-
-by_name : IsStrictWeakOrder name_before
-by_name = ranks_by nat_list_cmp_total name_in
 
 never_itself : (row : DirectoryRow) → name_before row row ≡ false
 never_itself row = by (name_before row row) refl

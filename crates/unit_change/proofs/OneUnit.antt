@@ -22,7 +22,7 @@ use Rattle.volume_model.specs.Reads.{IsOnline, IsUnit, HasImage, IsFirstText, Ha
 use Rattle.volume_model.specs.Rules.{number_of}
 use Rattle.volume_model.specs.Sound.{Slots, IsVtoc, IsCheckFault}
 use Rattle.volume_model.specs.Unit.{OnlineVolume, UnitModel, online, offline}
-use Rattle.vtoc_rewrite.proofs.Addresses.{one_text_anywhere}
+use Rattle.volume_model.proofs.Addresses.{one_text_anywhere}
 use Rattle.unit_change.specs.Described.{AreShort, own_place}
 use Rattle.unit_change.proofs.OneVtoc.{none_told, one_check}
 use Rattle.ckd_image.proofs.Devices.{one_device}

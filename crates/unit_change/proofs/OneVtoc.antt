@@ -1,34 +1,18 @@
 -- The slots of a unit read as one VTOC at most, and its check fails in one way.
-use Rattle.std.proofs.Common.{◌≡◌, ◌⊎◌, inl, inr, ℕ, ◌+◌, ◌<◌, ◌≤◌, List, [], length, Bool, ◌==◌, Contains, Option, None, refl, sym, ap, subst, ◌∙◌, arith}
-use Rattle.std.proofs.lemmas.List.{ext_get_or}
+use Rattle.std.proofs.Common.{◌≡◌, ℕ, ◌+◌, ◌<◌, ◌≤◌, List, [], length, Bool, arith}
 use Rattle.ckd_image.specs.declared.head.Head.{Head}
 use Rattle.ckd_image.specs.declared.track.Cchhr.{Cchhr}
-use Rattle.ckd_image.specs.declared.track.Track.{Track}
 use Rattle.ckd_image.specs.Device.{heads_of}
-use Rattle.free_map.specs.declared.run.Run.{Run}
 use Rattle.volume_model.specs.declared.place.Breach.{Breach}
-use Rattle.volume_model.specs.declared.place.Place.{Place}
 use Rattle.volume_model.specs.declared.place.Vtoc.{Vtoc}
-use Rattle.volume_model.specs.declared.rule.VtocRule.{VtocRule}
-use Rattle.volume_model.specs.declared.rule.VtocRule.TheVariants as rules
-use Rattle.volume_model.specs.Check.{breaches_of, IsNotAfter, IsLowestBreach}
-use Rattle.volume_model.specs.Dscbs.{number_at, extent_at}
-use Rattle.volume_model.specs.Rules.{number_of}
-use Rattle.volume_model.specs.Space.{run_of}
-use Rattle.volume_model.specs.Sound.{Slots, IsReading, IsFormat4, HasGeometry, HasVtocExtent, IsFirstRuleBroken, limit_of, is_valid, IsVtoc, IsCheckFault}
+use Rattle.volume_model.specs.Check.{breaches_of}
+use Rattle.volume_model.specs.Sound.{Slots, IsFormat4, IsVtoc, IsCheckFault}
 use Rattle.unit_change.specs.Described.{AreShort}
 use Rattle.unit_change.proofs.FormatFour.{home_of, home_in, run_inside}
-use Rattle.vtoc_rewrite.proofs.OneVtoc.{one_format_4, one_track}
-
--- ---- the tracks
-
-one_reading : (heads : ℕ) (slots : Slots) (run : Run) (a b : List (Option (List (List ℕ)))) → ((k : ℕ) → k < run.len → length (slots (run.first + k)) ≤ 65536)
-    → IsReading heads slots run a → IsReading heads slots run b → a ≡ b
-one_reading heads slots run a b short one other =
-    ext_get_or None a b (one.whole ∙ sym other.whole)
-    (λ k less.
-    let within : k < run.len = omega (arith, less, one.whole) in
-    one_track heads (run.first + k) (slots (run.first + k)) _ _ (short k within) (one.each k within) (other.each k within))
+use Rattle.volume_model.proofs.OneVtoc as vtocs
+use Rattle.volume_model.proofs.OneVtoc.{one_format_4}
+use Rattle.volume_model.proofs.OneCheck as checks
+use Rattle.volume_model.proofs.OneCheck.{AreAlike}
 
 -- ---- the VTOC
 
@@ -41,36 +25,7 @@ module _ (head : Head) (blocks : ℕ) (slots : Slots) (pointer : Cchhr) (sliding
   home_short vtoc is = short (home_of head pointer) (omega (arith, (home_in head slots pointer sliding vtoc is).1, (run_inside head slots pointer sliding vtoc is).1, whole))
 
   pub one_vtoc : (a b : Vtoc) (one : IsVtoc head slots pointer sliding a) (other : IsVtoc head slots pointer sliding b) → (a ≡ b) × (one.bytes ≡ other.bytes)
-  one_vtoc a b one other = (
-    λ i. record { heads = heads i; limit = limit i; format_4 = place i; valid = valid i; alternates = alternates i; run = run i; tracks = tracks i },
-    bytes,
-  )
-    where
-      bytes : one.bytes ≡ other.bytes
-      bytes = one_format_4 (heads_of head.device) slots pointer one.bytes other.bytes (home_short a one) one.format_4 other.format_4
-
-      heads : a.heads ≡ b.heads
-      heads = one.heads_are ∙ sym other.heads_are
-
-      limit : a.limit ≡ b.limit
-      limit = one.limit_is ∙ ap (limit_of head) bytes ∙ sym other.limit_is
-
-      place : a.format_4 ≡ b.format_4
-      place = one.place_is ∙ sym other.place_is
-
-      valid : a.valid ≡ b.valid
-      valid = one.valid_is ∙ ap (is_valid sliding) bytes ∙ sym other.valid_is
-
-      alternates : a.alternates ≡ b.alternates
-      alternates = one.alternates_are ∙ ap (λ (four : List ℕ). number_at four 56) bytes ∙ sym other.alternates_are
-
-      run : a.run ≡ b.run
-      run = one.run_is ∙ ap (λ (four : List ℕ). run_of (heads_of head.device) (extent_at four 105)) bytes ∙ sym other.run_is
-
-      tracks : a.tracks ≡ b.tracks
-      tracks =
-          one_reading (heads_of head.device) slots a.run a.tracks b.tracks (slots_short a one) one.reading
-          (subst (λ (r : Run). IsReading (heads_of head.device) slots r b.tracks) (sym run) other.reading)
+  one_vtoc a b one other = vtocs.one_vtoc head slots pointer sliding a b (home_short a one) (slots_short a one) one other
 
   -- ---- the check
 
@@ -79,82 +34,11 @@ module _ (head : Head) (blocks : ℕ) (slots : Slots) (pointer : Cchhr) (sliding
     four_same : (a b : List ℕ) → IsFormat4 (heads_of head.device) slots pointer a → IsFormat4 (heads_of head.device) slots pointer b → a ≡ b
     four_same a b one other = one_format_4 (heads_of head.device) slots pointer a b (short (home_of head pointer) (omega (arith, inside, whole))) one other
 
-    -- where the rules of all stand, none of the first three fails
-    none_first : (rule : VtocRule) (vtoc : Vtoc) → IsVtoc head slots pointer sliding vtoc → ¬ IsFirstRuleBroken head slots pointer rule
-    none_first rules.NoFormat4 vtoc is broken = broken is.bytes is.format_4
-    none_first rules.Geometry vtoc is broken = broken.2 (subst (HasGeometry (heads_of head.device)) (four_same is.bytes broken.0 is.format_4 broken.1) is.geometry)
-    none_first rules.VtocExtent vtoc is broken = broken.3 (subst (HasVtocExtent head pointer) (four_same is.bytes broken.0 is.format_4 broken.1) is.extent)
-    none_first rules.Track vtoc is broken = broken
-    none_first rules.Dscb vtoc is broken = broken
-    none_first rules.Name vtoc is broken = broken
-    none_first rules.Pointer vtoc is broken = broken
-    none_first rules.Range vtoc is broken = broken
-    none_first rules.Overlap vtoc is broken = broken
-    none_first rules.Free vtoc is broken = broken
+    same_vtoc : (a b : Vtoc) → IsVtoc head slots pointer sliding a → IsVtoc head slots pointer sliding b → a ≡ b
+    same_vtoc a b one other = (one_vtoc a b one other).0
 
-    -- a VTOC that breaks no rule isn't refused
     pub none_told : (vtoc : Vtoc) → IsVtoc head slots pointer sliding vtoc → breaches_of vtoc ≡ [] → (told : Breach) → ¬ IsCheckFault head slots pointer sliding told
-    none_told vtoc is sound told (inl first) = none_first told.rule vtoc is first.0
-    none_told vtoc is sound told (inr other) =
-        let same : vtoc ≡ other.0 = (one_vtoc vtoc other.0 is other.1).0 in
-        let none : Contains [] told = subst (λ (all : List Breach). Contains all told) (ap breaches_of (sym same) ∙ sound) other.2.is_there in
-        absurd (omega (arith, none.1))
-
-    -- which of the three fails
-    abbrev FailsBy : ℕ → Type 0
-    FailsBy number =
-        ((number ≡ 1) × ((bytes : List ℕ) → ¬ IsFormat4 (heads_of head.device) slots pointer bytes))
-        ⊎ ((number ≡ 2) × ((bytes : List ℕ) × IsFormat4 (heads_of head.device) slots pointer bytes × ¬ HasGeometry (heads_of head.device) bytes))
-        ⊎ ((number ≡ 3) × ((bytes : List ℕ) × IsFormat4 (heads_of head.device) slots pointer bytes × HasGeometry (heads_of head.device) bytes × ¬ HasVtocExtent head pointer bytes))
-
-    fails_by : (rule : VtocRule) → IsFirstRuleBroken head slots pointer rule → FailsBy (number_of rule)
-    fails_by rules.NoFormat4 broken = inl (refl, broken)
-    fails_by rules.Geometry broken = inr (inl (refl, broken))
-    fails_by rules.VtocExtent broken = inr (inr (refl, broken))
-    fails_by rules.Track broken = absurd broken
-    fails_by rules.Dscb broken = absurd broken
-    fails_by rules.Name broken = absurd broken
-    fails_by rules.Pointer broken = absurd broken
-    fails_by rules.Range broken = absurd broken
-    fails_by rules.Overlap broken = absurd broken
-    fails_by rules.Free broken = absurd broken
-
-    one_failing : (a b : ℕ) → FailsBy a → FailsBy b → a ≡ b
-    one_failing a b (inl p) (inl q) = p.0 ∙ sym q.0
-    one_failing a b (inl p) (inr (inl q)) = absurd (p.1 q.1.0 q.1.1)
-    one_failing a b (inl p) (inr (inr q)) = absurd (p.1 q.1.0 q.1.1)
-    one_failing a b (inr (inl p)) (inl q) = absurd (q.1 p.1.0 p.1.1)
-    one_failing a b (inr (inl p)) (inr (inl q)) = p.0 ∙ sym q.0
-    one_failing a b (inr (inl p)) (inr (inr q)) = absurd (p.1.2 (subst (HasGeometry (heads_of head.device)) (four_same q.1.0 p.1.0 q.1.1 p.1.1) q.1.2))
-    one_failing a b (inr (inr p)) (inl q) = absurd (q.1 p.1.0 p.1.1)
-    one_failing a b (inr (inr p)) (inr (inl q)) = absurd (q.1.2 (subst (HasGeometry (heads_of head.device)) (four_same p.1.0 q.1.0 p.1.1 q.1.1) p.1.2))
-    one_failing a b (inr (inr p)) (inr (inr q)) = p.0 ∙ sym q.0
-
-    -- the same place, and the same rule by its number
-    abbrev pub AreAlike : Breach → Breach → Type 0
-    AreAlike a b = (a.place.track ≡ b.place.track) × (a.place.record_number ≡ b.place.record_number) × (number_of a.rule ≡ number_of b.rule)
-
-    lowest_alike : (a b : Breach) → IsNotAfter a b → IsNotAfter b a → AreAlike a b
-    lowest_alike a b (inl p) (inl q) = absurd (omega (arith, p, q))
-    lowest_alike a b (inl p) (inr (inl q)) = absurd (omega (arith, p, q.0))
-    lowest_alike a b (inl p) (inr (inr q)) = absurd (omega (arith, p, q.0))
-    lowest_alike a b (inr (inl p)) (inl q) = absurd (omega (arith, p.0, q))
-    lowest_alike a b (inr (inl p)) (inr (inl q)) = absurd (omega (arith, p.1, q.1))
-    lowest_alike a b (inr (inl p)) (inr (inr q)) = absurd (omega (arith, p.1, q.1))
-    lowest_alike a b (inr (inr p)) (inl q) = absurd (omega (arith, p.0, q))
-    lowest_alike a b (inr (inr p)) (inr (inl q)) = absurd (omega (arith, p.1, q.1))
-    lowest_alike a b (inr (inr p)) (inr (inr q)) = (p.0, p.1, omega (arith, p.2, q.2))
-
-    lowest_of : (vtoc : Vtoc) (a b : Breach) → IsLowestBreach vtoc a → Contains (breaches_of vtoc) b → IsNotAfter a b
-    lowest_of vtoc a b lowest there = subst (IsNotAfter a) there.2 (lowest.lowest there.0 b there.1)
+    none_told = checks.none_told head slots pointer sliding four_same same_vtoc
 
     pub one_check : (a b : Breach) → IsCheckFault head slots pointer sliding a → IsCheckFault head slots pointer sliding b → AreAlike a b
-    one_check a b (inl p) (inl q) =
-        let place = p.1 ∙ sym q.1 in
-        (ap (λ (at : Place). at.track) place, ap (λ (at : Place). at.record_number) place, one_failing (number_of a.rule) (number_of b.rule) (fails_by a.rule p.0) (fails_by b.rule q.0))
-    one_check a b (inl p) (inr q) = absurd (none_first a.rule q.0 q.1 p.0)
-    one_check a b (inr p) (inl q) = absurd (none_first b.rule p.0 p.1 q.0)
-    one_check a b (inr p) (inr q) =
-        let same : p.0 ≡ q.0 = (one_vtoc p.0 q.0 p.1 q.1).0 in
-        let other : IsLowestBreach p.0 b = subst (λ (v : Vtoc). IsLowestBreach v b) (sym same) q.2 in
-        lowest_alike a b (lowest_of p.0 a b p.2 other.is_there) (lowest_of p.0 b a other p.2.is_there)
+    one_check = checks.one_check head slots pointer sliding four_same same_vtoc

@@ -59,9 +59,8 @@ module _ (head : List ℕ) (blocks : ℕ) (image : Head) (label : Label) (run : 
   run_is =
       let stands = loaded.stands.stands in
       let front : IsFront image (slot_in run (slot_of image.device) slots) label.vtoc stands.bytes = record { format_4 = stands.format_4; geometry = stands.geometry; extent = stands.extent } in
-      let at : IsAddress label.vtoc.at = address_in image.device label.vtoc.at image.tracks inside.0 inside.1 (few_tracks head blocks image has) in
       let bytes : is.bytes ≡ stands.bytes =
-      same_run image (slot_in run (slot_of image.device) slots) label.vtoc run stands.bytes at
+      same_run image (slot_in run (slot_of image.device) slots) label.vtoc run stands.bytes
       (slot_short image.device run slots (track_at (heads_of image.device) label.vtoc.at)) is front in
       loaded.volume.vtoc_is ∙ (stands.run_is ∙ (ap (λ (four : List ℕ). run_of (heads_of image.device) (extent_at four 105)) (sym bytes) ∙ sym is.run_is))
 

@@ -1,11 +1,13 @@
 -- One unit more that is loaded, and the slots that are kept of it.
 use Rattle.std.proofs.Common.{◌≡◌, ℕ, ◌<◌, Bool, zero, suc, List, [], ◌∷◌, ◌++◌, length, Option, Some, sym, ap, subst, ◌∙◌, arith}
-use Rattle.std.specs.Prelude.{slice_get}
+use Rattle.std.specs.Prelude.{slice_get, All}
 use Rattle.std.proofs.lemmas.Option.{same_Some, none-some}
 use Rattle.dasd_pool.specs.Disk.{Image, Shape, State}
 use Rattle.redo_core.specs.declared.control.Control.{Control}
-use Rattle.redo_core.specs.Phases.{IsAtRest}
+use Rattle.redo_core.specs.declared.entries.Entry.{Entry}
+use Rattle.redo_core.specs.Phases.{IsAtRest, IsStatusAfter}
 use Rattle.redo_core.specs.Reading.{journal_of, fills_of}
+use Rattle.redo_core.proofs.Controls.{no_control}
 use Rattle.unit_steps.specs.unit_change.Described.{AreShort}
 use Rattle.unit_load.specs.declared.state.UnitState.{UnitState}
 use Rattle.unit_load.specs.Kept.{IsKept, AreKeptOf}
@@ -90,6 +92,18 @@ still_free {shape} {now} {control} {later} {fills} {others} same still alike fre
   closed = λ u less.
       ap (λ (l : List Bool). fills_of l u) alike ∙ free.closed u (subst (λ (s : Shape). u < journal_of s) same less);
 }
+
+-- what is under way stays behind a commit of entries of volumes alone
+pub free_after : {shape now : Shape} {entries : List Entry} {control later : Control} {fills others : List Bool} → now ≡ shape → All (λ entry. entry.unit < journal_of shape) entries
+    → IsStatusAfter shape entries control fills later others → HasNothingOpen shape control fills → HasNothingOpen now later others
+free_after {shape} {now} {entries} {control} {later} {fills} {others} same below status free =
+    let kept = no_control shape entries below control (fills_of fills) in
+    record {
+      idle = status.control_is ∙ kept.0 ∙ free.idle;
+      closed = λ u less.
+          let within : u < journal_of shape = subst (λ (s : Shape). u < journal_of s) same less in
+          status.fills_are u within ∙ ap (λ (f : ℕ → Bool). f u) kept.1 ∙ free.closed u within;
+    }
 
 pub still_rest : {shape now : Shape} {old new : State} {room : ℕ} {control : Control} {fills : List Bool} → now ≡ shape → new ≡ old
     → IsAtRest shape old room control fills → IsAtRest now new room control fills

@@ -24,7 +24,7 @@ use Rattle.volume_model.specs.declared.why.Why.TheVariants as whys
 use Rattle.volume_model.specs.Reads.{IsUnit, IsOnline, HasImage, IsFirstText, HasBadLabel, HasLabelOf}
 use Rattle.volume_model.specs.Sound.{Slots}
 use Rattle.volume_model.specs.Unit.{OnlineVolume, UnitModel, online, offline}
-use Rattle.vtoc_rewrite.proofs.Addresses.{one_text_anywhere}
+use Rattle.volume_model.proofs.Addresses.{one_text_anywhere}
 use Rattle.move_core.specs.Facts.{Facts}
 use Rattle.move_core.specs.Stands.{IsAfterSlide, Means, IsSettled}
 use Rattle.move_core.proofs.OneFault.{one_head_fault, one_label_fault}

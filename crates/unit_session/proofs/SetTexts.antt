@@ -21,6 +21,7 @@ use Rattle.volume_model.specs.Pinned.{IsNameOf}
 use Rattle.volume_model.specs.Reads.{IsTextAt, AreTexts}
 use Rattle.volume_model.specs.Sound.{Slots}
 use Rattle.volume_model.specs.Unit.{Text, good, bad, DataSet, OnlineVolume, UnitModel, online}
+use Rattle.volume_model.proofs.Units.{same_online}
 use Rattle.vtoc_core.specs.declared.volume.Row.{Row}
 use Rattle.vtoc_core.specs.declared.volume.Volume.{Volume}
 use Rattle.volume_change.proofs.Names.{one_text}
@@ -85,9 +86,6 @@ module _ (heads : ℕ) (slots : Slots) where
       (all_texts tracks texts are.1 (All-tail IsGood text texts each))
 
 -- ---- a data set
-
-same_online : (a b : OnlineVolume) → online a ≡ online b → a ≡ b
-same_online a b same = cc
 
 same_first : (a b : DataSet) → a ∷ [] ≡ b ∷ [] → a ≡ b
 same_first a b same = cc

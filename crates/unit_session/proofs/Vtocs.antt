@@ -10,7 +10,7 @@ use Rattle.unit_steps.specs.vtoc_render.declared.change.Rendered.{Rendered}
 use Rattle.unit_load.specs.declared.state.UnitState.{UnitState}
 use Rattle.unit_steps.specs.Plans.{IsLoadedAt}
 use Rattle.unit_steps.specs.Rendering.{AreOfUnits, ArePatched, VtocsAfter}
-use Rattle.unit_steps.proofs.Lists.{get_set_other}
+use Rattle.dasd_pool.proofs.Slices.{get_set_other}
 use Rattle.unit_steps.proofs.Readying.{pairs_rest}
 use Rattle.unit_session.specs.Planned.{BlocksAreOf, MayPatchUnit, MayPatch}
 use Rattle.unit_steps.proofs.OneChange.{same_volume}

@@ -87,7 +87,7 @@ abbrev pub IsLong : ℕ → List UnitState → List (ℕ × Change) → Type 0
 IsLong room units changes = Any (λ change. (volume : Volume) × IsLoadedAt units change.0 volume × ((room - 1) / 2 < volume.vtoc.len)) changes
 
 -- for one of the changes the VTOC has no room: it needs so many records more, and so many are free
-pub record IsFullFor (units : List UnitState) (changes : List (ℕ × Change)) (need free : ℕ) : Type 0 where
+pub record LacksRecordsFor (units : List UnitState) (changes : List (ℕ × Change)) (need free : ℕ) : Type 0 where
   pub front : List (ℕ × Change)
   pub unit : ℕ
   pub change : Change
@@ -117,7 +117,7 @@ IsRenderFault units unit change _ = ⊥
 
 -- the first of changes that was not
 abbrev pub AreRenderFault : List UnitState → List (ℕ × Change) → PlanFault → Type 0
-AreRenderFault units changes (faults.Full need free) = IsFullFor units changes need free
+AreRenderFault units changes (faults.Full need free) = LacksRecordsFor units changes need free
 AreRenderFault units changes faults.Indexed = IsIndexed units changes
 AreRenderFault units changes faults.NoMemory = Unit {0}
 AreRenderFault units changes _ = ⊥
@@ -130,7 +130,7 @@ IsPlanFault pools session plan new (faults.Bad unit track) =
     MayBegin session.room session.units plan.changes
     × ((copies : Copies) × AreCopiesOf session.units plan.tracks plan.changes (Some copies)
     × (pools.tells → IsFirstBad (pools.disk session.pool).state.contents copies unit track))
-IsPlanFault pools session plan new (faults.Full need free) = MayBegin session.room session.units plan.changes × IsFullFor session.units plan.changes need free
+IsPlanFault pools session plan new (faults.Full need free) = MayBegin session.room session.units plan.changes × LacksRecordsFor session.units plan.changes need free
 IsPlanFault pools session plan new faults.Pool = Rose (pools.faults session.pool) (pools.faults new)
 IsPlanFault pools session plan new faults.NoMemory = Unit {0}
 

@@ -5,7 +5,7 @@ ghost use Rattle.ckd_image.specs.Device.{slot_of};
 ghost use Rattle.dasd_pool.specs.Count.{Rose};
 ghost use Rattle.dasd_pool.specs.Disk.{IsSynced, LeavesOnly, Runs, none};
 ghost use Rattle.move_core.specs.Facts.{shown};
-ghost use Rattle.move_core.specs.Runs.{IsRun, Ended};
+ghost use Rattle.move_core.specs.Runs.{AreCalls, IsRun, Ended};
 ghost use Rattle.redo_core.specs.Phases.{of_commit};
 ghost use Rattle.redo_core.specs.Reading.{journal_of};
 ghost use Rattle.unit_load.specs.Reads.{OnlyReads};
@@ -258,9 +258,10 @@ fn make_copies<P: Pool>(
 }
 
 impl<P: Pool> Planned<P> {
-    /// Copies texts to the new tracks, past the journal, and makes them durable with one sync, also where there are none.
+    /// Copies texts to the new tracks, past the journal, and makes them durable with one sync, also where there are none. Where that fails, the step is
+    /// under way: some of its tracks may be written.
     pub fn copy(self) -> Result<Copied<P>, Broken<P>>
-        ensures run { IsRun P.tells (shown P.Pool self.session.pool) (shown P.Pool (pool_copied result)) (Ended result) [] None }
+        ensures run { AreCalls P.tells (shown P.Pool self.session.pool) (shown P.Pool (pool_copied result)) (Ended result) [] (pending_by self.plan.step result) }
         ensures writes { P.tells → Runs (may_write_for self.copies) (P.disk self.session.pool) (P.disk (pool_copied result)) }
         ensures plan { IfOk result (λ next. next.plan ≡ self.plan) }
         ensures rendered { IfOk result (λ next. next.rendered ≡ self.rendered) }
@@ -271,7 +272,7 @@ impl<P: Pool> Planned<P> {
         // Each text stands on its new track, the others are empty, all else is as it was, and a stop leaves it so.
         ensures copied { P.tells → IfOk result (λ next. CopiesLeave (P.disk self.session.pool).state.contents (P.disk next.session.pool).state.contents self.copies) }
         ensures synced { P.tells → IfOk result (λ next. IsSynced (P.disk next.session.pool).state) }
-        ensures pending { IfErr result (λ broken. broken.pending ≡ None) }
+        ensures pending { IfErr result (λ broken. broken.pending ≡ Some self.plan.step) }
     {
         let Planned {
             session,
@@ -307,7 +308,7 @@ impl<P: Pool> Planned<P> {
             }),
             Err(_) => Err(Broken {
                 pool: journal.into_pool(),
-                pending: None,
+                pending: Some(plan.step),
             }),
         }
     }

@@ -1,11 +1,12 @@
 //! Volumes over an open journal.
 
-ghost use Rattle.std.specs.Prelude.{◌≡◌, ◌≤◌, ◌<◌, ℕ, [], None, Some, List, length, slice_get, IfOk, IfErr, OnOk, IsErr};
+ghost use Rattle.std.specs.Prelude.{◌≡◌, ◌≤◌, ◌<◌, ℕ, false, [], None, Some, List, length, slice_get, IfOk, IfErr, OnOk, IsErr};
 ghost use Rattle.ckd_image.specs.Head.{IsHead, IsHeadFault};
 ghost use Rattle.dasd_pool.specs.Calls.{size_in};
 ghost use Rattle.dasd_pool.specs.Count.{Rose};
 ghost use Rattle.dasd_pool.specs.Disk.{Runs, none};
 ghost use Rattle.redo_core.specs.Faults.{IsOpenFault, MayOpen};
+ghost use Rattle.redo_core.specs.Format.{is_open};
 ghost use Rattle.redo_core.specs.Opening.{AreNames, of_opening};
 ghost use Rattle.redo_core.specs.Reading.{journal_of};
 ghost use Rattle.volume_model.specs.Unit.{UnitModel};
@@ -120,6 +121,9 @@ impl<P: Pool> Session<P> {
         // What never changes of the pool is what its registration says.
         ensures facts { P.tells → IfOk result (λ session. (facts : Facts) (models : List UnitModel) → facts.shape ≡ P.shape session.pool
             → IsSettled facts (P.disk session.pool).state models → facts ≡ record { shape = P.shape session.pool; names = session.names; room = session.room }) }
+
+        // The gate is closed behind it.
+        ensures closed { P.tells → IfOk result (λ session. is_open ((P.disk session.pool).state.contents (journal_of (P.shape session.pool)) 1) ≡ false) }
 
         // A refusal names the first cause that stands against the opening, and at no moment was anything written.
         ensures allowed { P.tells → OnOk result (MayOpen (P.shape pool) (P.disk pool).state.contents names.now) }

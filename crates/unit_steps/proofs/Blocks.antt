@@ -23,7 +23,7 @@ use Rattle.vtoc_write.specs.declared.blocks.Block.{Block}
 use Rattle.vtoc_write.specs.Edited.{rec_after, text_after}
 use Rattle.vtoc_write.specs.Written.{slot_at, block_of, IsRewritten, IsBlockFor, AreAscending, AreRewritten}
 use Rattle.vtoc_write.proofs.Texts.{front_within, long_after}
-use Rattle.vtoc_rewrite.proofs.Addresses.{one_text_anywhere}
+use Rattle.volume_model.proofs.Addresses.{one_text_anywhere}
 use Rattle.layout_edit.specs.Change.{edits_of}
 use Rattle.unit_change.specs.render_laws.Rendered.{WasLoaded}
 use Rattle.unit_change.proofs.render_laws.Before.{tracks_stand}

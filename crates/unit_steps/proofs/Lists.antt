@@ -1,21 +1,9 @@
 -- Lists by their places, and lists of which no element stands twice.
-use Rattle.std.proofs.Common.{◌≡◌, ◌≢◌, ◌⊎◌, inl, inr, ℕ, zero, suc, List, [], ◌∷◌, Some, refl, sym, ap, subst, ◌∙◌}
+use Rattle.std.proofs.Common.{◌≡◌, ◌≢◌, inl, inr, ℕ, List, Some, sym, ap, subst, ◌∙◌}
 use Rattle.std.specs.Prelude.{slice_get, slice_set}
 use Rattle.std.proofs.lemmas.Bool.{cases_eq}
-use Rattle.std.proofs.lemmas.Option.{none-some, same_Some}
-
-module _ {X : Type 0} where
-  get_set : (xs : List X) (i : ℕ) (x y : X) → slice_get xs i ≡ Some y → slice_get (slice_set xs i x) i ≡ Some x
-  get_set [] i x y at = absurd (none-some y at)
-  get_set (z ∷ xs) zero x y at = refl
-  get_set (z ∷ xs) (suc i) x y at = get_set xs i x y at
-
-  pub get_set_other : (xs : List X) (i j : ℕ) (x : X) → j ≢ i → slice_get (slice_set xs i x) j ≡ slice_get xs j
-  get_set_other [] i j x apart = refl
-  get_set_other (z ∷ xs) zero zero x apart = absurd (apart refl)
-  get_set_other (z ∷ xs) zero (suc j) x apart = refl
-  get_set_other (z ∷ xs) (suc i) zero x apart = refl
-  get_set_other (z ∷ xs) (suc i) (suc j) x apart = get_set_other xs i j x (λ same. apart (ap (λ (n : ℕ). suc n) same))
+use Rattle.std.proofs.lemmas.Option.{same_Some}
+use Rattle.dasd_pool.proofs.Slices.{get_set, get_set_other}
 
 -- what holds of each element, once another stands at one place
 pub each_set : {X : Type 0} (xs : List X) (i : ℕ) (x y : X) (P : ℕ → X → Type 0) → slice_get xs i ≡ Some y → P i x → ((u : ℕ) (z : X) → u ≢ i → slice_get xs u ≡ Some z → P u z)

@@ -12,6 +12,7 @@ use Rattle.redo_core.specs.declared.entries.Entry.{Entry}
 use Rattle.redo_core.specs.declared.target.Target.{Target}
 use Rattle.redo_core.specs.Reading.{journal_of}
 use Rattle.redo_core.specs.Phases.{targets, IsEntry}
+use Rattle.redo_core.proofs.Controls.{volume_entry}
 use Rattle.vtoc_core.specs.declared.volume.Volume.{Volume}
 use Rattle.vtoc_write.specs.declared.blocks.Block.{Block}
 use Rattle.vtoc_write.specs.Written.{AreAscending}
@@ -103,13 +104,11 @@ module _ (shape : Shape) (sized : AreSized shape) (units : List UnitState) (vtoc
         omega (arith, end, (run_inside from.image from.unit from.label.vtoc false is.vtoc is.stands.stands).1, from.image_is.tracks_are)
 
     is_entry : (block : Block) → Contains rendered.blocks block → IsEntry shape (entry_for unit block)
-    is_entry block there = record {
-      volume = within;
-      there =
-          let run = was.volume.vtoc in
-          omega (arith, All-contains (λ (b : Block). b.track < run.first + run.len) rendered.blocks block blocks_are.below there, ends);
-      slot = All-contains (λ (b : Block). length b.slot ≡ slot_of was.volume.device) rendered.blocks block blocks_are.whole there ∙ sym size;
-    }
+    is_entry block there =
+        let run = was.volume.vtoc in
+        volume_entry shape (entry_for unit block) within
+        (omega (arith, All-contains (λ (b : Block). b.track < run.first + run.len) rendered.blocks block blocks_are.below there, ends))
+        (All-contains (λ (b : Block). length b.slot ≡ slot_of was.volume.device) rendered.blocks block blocks_are.whole there ∙ sym size)
 
     entries_here : All (IsEntry shape) (map (entry_for unit) rendered.blocks)
     entries_here =

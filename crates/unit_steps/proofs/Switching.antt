@@ -34,7 +34,8 @@ use Rattle.unit_steps.specs.Laws.{PatchedVtocsAreKept, SwitchedUnitsLoad}
 use Rattle.unit_steps.specs.Loaded.{HaveStates, AreLoaded, KeepVtocs, AreVtocsOf}
 use Rattle.unit_steps.specs.Plans.{IsLoadedAt}
 use Rattle.unit_steps.specs.Rendering.{WasRendered, WereRendered, entry_for, entries_of, AreOfUnits, units_after, ArePatched, VtocsAfter}
-use Rattle.unit_steps.proofs.Lists.{get_set_other, each_set, both_set}
+use Rattle.dasd_pool.proofs.Slices.{get_set_other}
+use Rattle.unit_steps.proofs.Lists.{each_set, both_set}
 use Rattle.unit_steps.proofs.Blocks.{AreBlocksOf, few, home_short, from_slots, rendered_blocks}
 use Rattle.unit_steps.proofs.Placing.{slots_with, after_blocks, placed_here, placed_there, placed_both}
 use Rattle.unit_steps.proofs.Readying.{pairs_first, pairs_rest}

@@ -1,14 +1,15 @@
 -- The entries of a plan take the units by its step.
 use Rattle.std.proofs.Common.{◌≡◌, ℕ, ◌<◌, ◌≤◌, Bool, List, [], ◌∷◌, map, All, false, refl, sym, ap, subst, ◌∙◌, arith}
 use Rattle.std.specs.Prelude.{if◌then◌else◌}
-use Rattle.std.proofs.lemmas.List.Elements.{All-head, All-tail, All-weaker}
+use Rattle.std.proofs.lemmas.List.Elements.{All-nil, All-cons, All-append, All-head, All-map, All-tail, All-weaker}
 use Rattle.std.proofs.lemmas.Option.{slice_get_within}
 use Rattle.dasd_pool.specs.Disk.{Image, Shape, State}
 use Rattle.free_map.specs.declared.run.Run.{Run}
 use Rattle.redo_core.specs.declared.control.Control.{Control}
 use Rattle.redo_core.specs.declared.entries.Entry.{Entry}
-use Rattle.redo_core.specs.Faults.{HasSerial}
-use Rattle.redo_core.specs.Reading.{journal_of, placed, set_block, Reading}
+use Rattle.redo_core.specs.Faults.{HasSerial, IsBusy}
+use Rattle.redo_core.specs.Reading.{journal_of, placed, with_entries, set_block, Reading}
+use Rattle.redo_core.proofs.Controls.{with_volumes}
 use Rattle.redo_core.proofs.Crash.{other_block, placed_agree}
 use Rattle.volume_model.specs.Reads.{IsUnit}
 use Rattle.volume_model.specs.Sound.{Slots}
@@ -76,6 +77,28 @@ module _ (shape : Shape) (units : List UnitState) (vtocs : List (List ℕ)) (kee
       ∙ firsts_stay changes more (placed image (map (entry_for change.0) one.blocks)) u were.1
       ∙ block_stays change.0 one.blocks image u (first_track change.0 change.1 one were.0)
 
+-- ---- entries of volumes alone
+
+abbrev pub IsBelow : ℕ → Entry → Type 0
+IsBelow journal entry = entry.unit < journal
+
+blocks_below : (journal unit : ℕ) → unit < journal → (blocks : List Block) → All (λ block. IsBelow journal (entry_for unit block)) blocks
+blocks_below journal unit below [] = All-nil (λ (block : Block). IsBelow journal (entry_for unit block))
+blocks_below journal unit below (block ∷ blocks) =
+    All-cons (λ (block : Block). IsBelow journal (entry_for unit block)) block blocks below (blocks_below journal unit below blocks)
+
+-- the entries of rendered changes are
+pub entries_below : (shape : Shape) (units : List UnitState) (vtocs : List (List ℕ)) → HaveStates shape units → (changes : List (ℕ × Change)) (rendered : List Rendered)
+    → WereRendered units vtocs changes rendered → All (IsBelow (journal_of shape)) (entries_of changes rendered)
+entries_below shape units vtocs have [] [] were = All-nil (IsBelow (journal_of shape))
+entries_below shape units vtocs have [] (one ∷ more) were = absurd were
+entries_below shape units vtocs have (change ∷ changes) [] were = absurd were
+entries_below shape units vtocs have (change ∷ changes) (one ∷ more) were =
+    let below : change.0 < journal_of shape = omega (arith, slice_get_within units change.0 (Online were.0.volume) were.0.loaded, have) in
+    All-append (IsBelow (journal_of shape)) (map (entry_for change.0) one.blocks) (entries_of changes more)
+    (All-map (IsBelow (journal_of shape)) (entry_for change.0) one.blocks (blocks_below (journal_of shape) change.0 below one.blocks))
+    (entries_below shape units vtocs have changes more were.1)
+
 -- ---- an idle pool
 
 module _ (facts : Facts) (state : State) (units : List UnitModel) (room : ℕ) (idle : IsIdle facts.shape state room) (settled : IsSettled facts state units) where
@@ -93,7 +116,7 @@ module _ (facts : Facts) (state : State) (units : List UnitModel) (room : ℕ) (
       })
 
   module _ (contents : Image) (same : AreSame facts.shape state.contents contents) (entries : List Entry) (after : List UnitModel) (alone : AreAlone facts.shape (placed contents entries) after)
-      (firsts : (u : ℕ) → placed settled.stands.reading.volumes entries u 0 ≡ settled.stands.reading.volumes u 0) where
+      (below : All (IsBelow (journal_of facts.shape)) entries) (firsts : (u : ℕ) → placed settled.stands.reading.volumes entries u 0 ≡ settled.stands.reading.volumes u 0) where
     abbrev later : Image
     later = placed reading.volumes entries
 
@@ -124,6 +147,10 @@ module _ (facts : Facts) (state : State) (units : List UnitModel) (room : ℕ) (
       after = subst (λ (control : Control). IsAfterSlide reading.room control after after) (sym (control_idle facts state units room idle settled)) refl;
     }
 
+    -- they leave the control as it is
+    only_volumes : with_entries facts.shape reading entries ≡ record reading { volumes = later }
+    only_volumes = with_volumes facts.shape entries below reading
+
     will_stand : WillStand facts settled.stands.reading entries after
     will_stand = record {
       labels = λ u serial within label.
@@ -132,18 +159,20 @@ module _ (facts : Facts) (state : State) (units : List UnitModel) (room : ℕ) (
             head = label.head;
             label = subst (λ (bytes : List ℕ). HasSerial (record { device = label.device; tracks = facts.shape.blocks u }) bytes serial) (firsts u) label.label;
           });
-      means = means;
+      means = subst (λ (r : Reading). Means facts.shape r after) (sym only_volumes) means;
+      opens_none = λ closed. subst (λ (r : Reading). ¬ IsBusy facts.shape r) (sym only_volumes) closed;
     }
 
 -- models that are taken are units that are taken
 take_units : (shape : Shape) (room : ℕ) (contents : Image) (step : Step) (entries : List Entry) → TakesModels shape contents step entries
-    → ((image : Image) (u : ℕ) → placed image entries u 0 ≡ image u 0) → TakeUnits shape room contents step entries
-take_units shape room contents step entries takes firsts facts state units same_shape same idle settled =
+    → All (IsBelow (journal_of shape)) entries → ((image : Image) (u : ℕ) → placed image entries u 0 ≡ image u 0) → TakeUnits shape room contents step entries
+take_units shape room contents step entries takes below firsts facts state units same_shape same idle settled =
     let own_takes : TakesModels facts.shape contents step entries = subst (λ (s : Shape). TakesModels s contents step entries) (sym same_shape) takes in
     let own_same : AreSame facts.shape state.contents contents = subst (λ (s : Shape). AreSame s state.contents contents) (sym same_shape) same in
+    let own_below : All (IsBelow (journal_of facts.shape)) entries = subst (λ (s : Shape). All (IsBelow (journal_of s)) entries) (sym same_shape) below in
     let own_idle : IsIdle facts.shape state room = subst (λ (s : Shape). IsIdle s state room) (sym same_shape) idle in
     let made = own_takes facts units (models_alone facts state units room own_idle settled contents own_same) in
-    (made.0, made.1, will_stand facts state units room own_idle settled contents own_same entries made.0 made.2 (firsts settled.stands.reading.volumes))
+    (made.0, made.1, will_stand facts state units room own_idle settled contents own_same entries made.0 made.2 own_below (firsts settled.stands.reading.volumes))
 
 -- ---- plans
 
@@ -176,4 +205,5 @@ plans_take shape room old new units vtocs plan rendered have are keep kept is we
     let now = copied_load shape old new units vtocs have are kept differ short in
     take_units shape room new plan.step (entries_of plan.changes rendered)
     (planned_taken shape units vtocs old new have now.0 keep now.1 differ plan.changes rendered were plan.step plan.tracks is held)
+    (entries_below shape units vtocs have plan.changes rendered were)
     (λ image u. firsts_stay shape units vtocs keep plan.changes rendered image u were)

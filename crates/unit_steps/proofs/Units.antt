@@ -38,7 +38,8 @@ use Rattle.unit_load.specs.State.{IsStateOf}
 use Rattle.move_core.specs.Steps.{Replaces}
 use Rattle.move_core.proofs.Replacing.{split_at}
 use Rattle.unit_steps.specs.Rendering.{WasRendered, entry_for}
-use Rattle.unit_steps.proofs.Lists.{get_set_other, each_set}
+use Rattle.dasd_pool.proofs.Slices.{get_set_other}
+use Rattle.unit_steps.proofs.Lists.{each_set}
 use Rattle.unit_steps.proofs.Blocks.{AreBlocksOf}
 use Rattle.unit_steps.proofs.Placing.{slots_with, after_blocks, placed_here, placed_there}
 use Rattle.unit_steps.proofs.Switching.{blocks_are, short_after}

@@ -3,6 +3,7 @@ use Rattle.std.proofs.Common.{◌≡◌, ℕ, ◌+◌, ◌<◌, ◌≤◌, List,
 use Rattle.std.proofs.lemmas.Bool.{cases_lt}
 use Rattle.std.proofs.lemmas.Bool.Decides.{nat_tests}
 use Rattle.std.proofs.lemmas.Grind.{same_number_lists}
+use Rattle.std.proofs.lemmas.Option.{same_Some}
 use Rattle.ckd_image.specs.declared.track.Rec.{Rec}
 use Rattle.ckd_image.specs.declared.head.Head.{Head}
 use Rattle.vol_label.specs.declared.label.Label.{Label}
@@ -129,12 +130,9 @@ one_spelling name a b p q = same_number_lists a b (p.six ∙ sym q.six) (λ k lt
 same_parts : (a b : Label) → a.serial.text ≡ b.serial.text → a.vtoc ≡ b.vtoc → a ≡ b
 same_parts a b text vtoc = (λ i. record { serial = record { text = text i }; vtoc = vtoc i })
 
-same_rec : (a b : Rec) → Some a ≡ Some b → a ≡ b
-same_rec a b e = cc
-
 pub one_label : (head : Head) (recs : List Rec) (a b : Label) → IsLabel head recs a → IsLabel head recs b → a ≡ b
 one_label head recs a b p q =
-    let rec : p.rec ≡ q.rec = same_rec p.rec q.rec (sym p.numbered ∙ q.numbered) in
+    let rec : p.rec ≡ q.rec = same_Some p.rec q.rec (sym p.numbered ∙ q.numbered) in
     let t = q.text in
     let P : Rec → Type 0 = λ r. IsLabelText head r.body a in
     let same : IsSame a b.serial.text b.vtoc = same_label head q.rec.body b.serial.text t.security b.vtoc t.rest a t.spelled t.serial.1.six t.numbers (subst P rec p.text) in
@@ -145,10 +143,10 @@ pub no_label : (head : Head) (recs : List Rec) (fault : LabelFault) → IsLabelF
 no_label head recs (BadLabel why) (rules.NoRecord, number, none) label h = none h.rec h.numbered
 no_label head recs (BadLabel why) (rules.Key, number, f) label h =
     let P : Rec → Type 0 = λ r. r.key ≡ 0xE5 ∷ 0xD6 ∷ 0xD3 ∷ 0xF1 ∷ [] in
-    f.2 (subst P (same_rec h.rec f.0 (sym h.numbered ∙ f.1)) h.key)
+    f.2 (subst P (same_Some h.rec f.0 (sym h.numbered ∙ f.1)) h.key)
 no_label head recs (BadLabel why) (rules.Length, number, f) label h =
     let P : Rec → Type 0 = λ r. length r.body ≡ 80 in
-    f.3 (subst P (same_rec h.rec f.0 (sym h.numbered ∙ f.1)) h.long)
+    f.3 (subst P (same_Some h.rec f.0 (sym h.numbered ∙ f.1)) h.long)
 no_label head recs (BadLabel why) (rules.Serial, number, f) label h =
     let P : Rec → Type 0 = λ r. IsLabelText head r.body label in
-    f.4 label (subst P (same_rec h.rec f.0 (sym h.numbered ∙ f.1)) h.text)
+    f.4 label (subst P (same_Some h.rec f.0 (sym h.numbered ∙ f.1)) h.text)

@@ -6,7 +6,7 @@ use Rattle.std.proofs.lemmas.List.{get_or-map}
 use Rattle.std.proofs.Math.Seq.{drop-append_seam}
 use Rattle.std.proofs.lemmas.List.Folds.{find_at, find-set}
 use Rattle.std.proofs.lemmas.List.Sums.{passes_at_first}
-use Rattle.std.proofs.lemmas.Option.{slice_get_within, get_or_from_slice_get}
+use Rattle.std.proofs.lemmas.Option.{same_Some, slice_get_within, get_or_from_slice_get}
 use Rattle.ckd_image.specs.declared.head.Head.{Head}
 use Rattle.ckd_image.specs.declared.track.Rec.{Rec}
 use Rattle.ckd_image.specs.declared.track.Track.{Track}
@@ -46,13 +46,10 @@ other_body serial body six rest spelled long longer =
     ∙ ap (λ (n : ℕ). label_key ++ (serial.text ++ drop (4 + n) (label_key ++ (six ++ rest)))) longer
     ∙ ap (λ (tail : List ℕ). label_key ++ (serial.text ++ tail)) (behind_six six rest long)
 
-same_rec : (a b : Rec) → Some a ≡ Some b → a ≡ b
-same_rec a b e = cc
-
 pub keeps_label : (serial : Serial) (old new : Track) → IsSerialPut serial old new → KeepsLabel serial old new
 keeps_label serial old new put head label l lawful =
     let there = stands_at head old.recs label l in
-    let same : put.rec ≡ l.rec = same_rec put.rec l.rec (sym put.there ∙ there) in
+    let same : put.rec ≡ l.rec = same_Some put.rec l.rec (sym put.there ∙ there) in
     let within = slice_get_within old.recs (place_in old.recs) l.rec there in
     let changed : Rec = record { r = put.rec.r; key = put.rec.key; body = over 4 serial.text put.rec.body } in
     let numbered : (put.rec.r == 3) ≡ true =

@@ -5,3 +5,8 @@ pub mod Formats
 pub mod Filters
 mod Samples
 pub mod Numbers
+pub mod Addresses
+pub mod OneVtoc
+pub mod OneCheck
+pub mod NameOrder
+pub mod Units

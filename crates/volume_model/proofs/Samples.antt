@@ -1,21 +1,39 @@
 -- The definitions on small volumes, worked by hand.
-use Rattle.std.specs.Prelude.{◌≡◌, ℕ, true, false, List, [], ◌∷◌, ◌++◌, Option, Some, None, replicate, filter, map}
-use Rattle.std.proofs.Common.{refl}
+use Rattle.std.specs.Prelude.{◌≡◌, ◌==◌, ℕ, true, false, Bool, if◌then◌else◌, List, [], ◌∷◌, ◌++◌, length, take, drop, Option, Some, None, replicate, filter, map}
+use Rattle.std.proofs.Common.{find, refl, sym, ap, ◌∙◌, arith}
+use Rattle.std.proofs.lemmas.Option.{same_Some}
+use Rattle.std.proofs.lemmas.List.Elements.{All-nil, All-cons}
+use Rattle.ckd_image.specs.declared.device.Device.TheVariants.{D3390}
+use Rattle.ckd_image.specs.declared.head.Head.{Head}
+use Rattle.ckd_image.specs.declared.track.Cchhr.{Cchhr}
+use Rattle.ckd_image.specs.declared.track.Rec.{Rec}
+use Rattle.ckd_image.specs.declared.track.Track.{Track}
+use Rattle.ckd_image.specs.Track.{track_text, IsRecord, IsTrackText}
+use Rattle.volume_model.specs.declared.format.Format.TheVariants.{F4}
 use Rattle.volume_model.specs.declared.rule.VtocRule.{VtocRule}
 use Rattle.volume_model.specs.declared.rule.VtocRule.TheVariants as rules
-use Rattle.volume_model.specs.Dscbs.{numbers_below}
-use Rattle.volume_model.specs.Directory.{rows_of}
-use Rattle.volume_model.specs.Space.{is_free, track_at, usable_of}
+use Rattle.volume_model.specs.Rules.{number_of, rule_of}
+use Rattle.volume_model.specs.Dscbs.{numbers_below, format_of, number_at, extent_at}
+use Rattle.volume_model.specs.Directory.{named_place, rows_of}
+use Rattle.volume_model.specs.Space.{is_free, track_at, run_of, usable_of}
 use Rattle.free_map.specs.Free.{index_of}
 use Rattle.volume_model.specs.declared.place.Breach.{Breach}
 use Rattle.volume_model.specs.declared.place.Vtoc.{Vtoc}
 use Rattle.volume_model.specs.Check.{breaches_of, records_of, usable_in, extents_in}
-use Rattle.volume_model.specs.Pinned.{whole_tracks}
-use Rattle.volume_model.specs.Sound.{is_valid}
+use Rattle.volume_model.specs.Unit.{Extent, DataSet, OnlineVolume, fives_for}
+use Rattle.volume_model.specs.Pinned.{whole_tracks, kept_tracks}
+use Rattle.volume_model.specs.Changed.{threes_for, used_records, free_records}
+use Rattle.volume_model.specs.Sound.{Slots, IsFormat4, HasGeometry, HasVtocExtent, limit_of, IsFirstRuleBroken, dscb_of, is_valid}
+use Rattle.volume_model.proofs.Addresses.{one_text_anywhere}
+
+-- a format 4 that says cylinders, heads, and a VTOC of this type from a track of cylinder 0 to one of another cylinder
+abbrev pub saying : ℕ → ℕ → ℕ → ℕ → ℕ → ℕ → List ℕ
+saying cylinders heads kind first cylinder last =
+    replicate 44 4 ++ (0xF4 ∷ (replicate 17 0 ++ (0 ∷ cylinders ∷ 0 ∷ heads ∷ (replicate 39 0 ++ (kind ∷ 0 ∷ 0 ∷ 0 ∷ 0 ∷ first ∷ 0 ∷ cylinder ∷ 0 ∷ last ∷ replicate 25 0)))))
 
 -- a VTOC on track 1 of one cylinder of 15 heads
 abbrev pub format_4 : List ℕ
-format_4 = replicate 44 4 ++ (0xF4 ∷ (replicate 17 0 ++ (0 ∷ 1 ∷ 0 ∷ 15 ∷ (replicate 39 0 ++ (1 ∷ 0 ∷ 0 ∷ 0 ∷ 0 ∷ 1 ∷ 0 ∷ 0 ∷ 0 ∷ 1 ∷ replicate 25 0)))))
+format_4 = saying 1 15 1 1 0 1
 
 -- one entry, of no whole cylinder
 abbrev pub format_5 : ℕ → ℕ → List ℕ
@@ -87,6 +105,20 @@ past_the_end = vtoc_of (format_4 ∷ format_5 2 13 ∷ spanning 0xC2 14 1 0 ∷ 
 
 pub range_is_told : breaches_of past_the_end ≡ record { place = record { track = 1; record_number = 3 }; rule = rules.Range } ∷ []
 range_is_told = refl
+
+-- a data set on head 15 of cylinder 0, of which the last is 14
+abbrev pub on_no_head : Vtoc
+on_no_head = vtoc_of (format_4 ∷ format_5 2 13 ∷ data_set 0xC2 15 15 ∷ [])
+
+pub missing_head_is_told : breaches_of on_no_head ≡ record { place = record { track = 1; record_number = 3 }; rule = rules.Range } ∷ []
+missing_head_is_told = refl
+
+-- a data set from track 5 to track 4
+abbrev pub backwards : Vtoc
+backwards = vtoc_of (format_4 ∷ format_5 2 13 ∷ data_set 0xC2 5 4 ∷ [])
+
+pub backward_extent_is_told : breaches_of backwards ≡ record { place = record { track = 1; record_number = 3 }; rule = rules.Range } ∷ []
+backward_extent_is_told = refl
 
 -- A.A on tracks 2 to 5 and A.B on 5 to 8
 abbrev pub overlapping : Vtoc
@@ -262,6 +294,43 @@ on_the_vtoc = on_two_tracks (format_4 ∷ entry_and 3 12 nowhere ∷ data_set 0x
 pub overlaps_with_the_vtoc_are_told : breaches_of on_the_vtoc ≡ broken_at 1 3 rules.Overlap ∷ broken_at 1 4 rules.Overlap ∷ []
 overlaps_with_the_vtoc_are_told = refl
 
+-- an extent from one track of cylinder 0 to another
+abbrev pub tracks_to : ℕ → ℕ → ℕ → List ℕ
+tracks_to number first last = 1 ∷ number ∷ 0 ∷ 0 ∷ 0 ∷ first ∷ 0 ∷ 0 ∷ 0 ∷ last ∷ []
+
+-- a data set A.A whose extents are the tracks 3 to 5 and 5 to 8: track 5 is in both
+abbrev pub twice_within : Vtoc
+twice_within =
+    on_two_tracks
+    (format_4 ∷ entry_and 9 6 nowhere ∷ (0xC1 ∷ 0x4B ∷ 0xC1 ∷ (replicate 41 0x40 ++ (0xF1 ∷ (replicate 60 0 ++ (tracks_to 0 3 5 ++ (tracks_to 1 5 8 ++ replicate 15 0)))))) ∷ [])
+    (Some [])
+
+pub overlap_within_a_record_is_told : breaches_of twice_within ≡ broken_at 1 3 rules.Overlap ∷ []
+overlap_within_a_record_is_told = refl
+
+-- ---- free space that is stated wrongly
+
+-- of the free tracks 3 to 14 the entry states all but 3
+abbrev pub unstated : Vtoc
+unstated = on_two_tracks (format_4 ∷ entry_and 4 11 nowhere ∷ []) (Some [])
+
+pub unstated_track_is_told : breaches_of unstated ≡ broken_at 1 1 rules.Free ∷ []
+unstated_track_is_told = refl
+
+-- 3 to 6 and 6 to 14: track 6 is stated twice
+abbrev pub stated_twice : Vtoc
+stated_twice = on_two_tracks (format_4 ∷ entry_and 3 4 (to 1 3) ∷ entry_and 6 9 nowhere ∷ []) (Some [])
+
+pub track_stated_twice_is_told : breaches_of stated_twice ≡ broken_at 1 1 rules.Free ∷ []
+track_stated_twice_is_told = refl
+
+-- 3 to 15, where 14 is the last track
+abbrev pub stated_beyond : Vtoc
+stated_beyond = on_two_tracks (format_4 ∷ entry_and 3 13 nowhere ∷ []) (Some [])
+
+pub track_stated_beyond_is_told : breaches_of stated_beyond ≡ broken_at 1 1 rules.Free ∷ []
+track_stated_beyond_is_told = refl
+
 -- ---- indicators and alternates
 
 -- format 4s with an indicator on
@@ -296,6 +365,148 @@ used_alternates_are_usable = refl
 pub stated_tracks_are_usable : usable_of true 15 150 16 (record { first = 1; len = 1 }) (record { first = 2; len = 3 } ∷ []) (record { first = 5; len = 7 } ∷ []) ≡ 12
 stated_tracks_are_usable = refl
 
+-- A volume of 10 cylinders with 16 alternate tracks and its VTOC on track 1. Two format 5s, of which none names the other, state the
+-- tracks 3 to 6 and 7 to 14.
+abbrev pub four_of_ten : ℕ → List ℕ
+four_of_ten indicators = replicate 44 4 ++ (0xF4 ∷ (replicate 11 0 ++ (0 ∷ 16 ∷ indicators ∷ 0 ∷ 0 ∷ 0 ∷ 0 ∷ 10 ∷ 0 ∷ 15 ∷ (replicate 39 0 ++ (tracks_to 0 1 1 ++ replicate 25 0)))))
+
+abbrev pub of_ten : Bool → ℕ → Vtoc
+of_ten sliding indicators = record {
+  heads = 15;
+  limit = limit_of (record { device = D3390; tracks = 150 }) (four_of_ten indicators);
+  format_4 = named_place 15 (record { at = record { cylinder = 0; head = 1 }; r = 1 });
+  valid = is_valid sliding (four_of_ten indicators);
+  alternates = number_at (four_of_ten indicators) 56;
+  run = run_of 15 (extent_at (four_of_ten indicators) 105);
+  tracks = Some (four_of_ten indicators ∷ entry_and 3 4 nowhere ∷ entry_and 7 8 nowhere ∷ []) ∷ [];
+}
+
+-- Where format 5 isn't valid nobody looks at the format 5s, and two cylinders hold the alternates: 150 - 30.
+pub invalid_space_breaks_no_rule : breaches_of (of_ten false 0x80) ≡ []
+invalid_space_breaks_no_rule = refl
+
+pub invalid_space_has_120_tracks : usable_in (of_ten false 0x80) ≡ 120
+invalid_space_has_120_tracks = refl
+
+pub interrupted_change_breaks_no_rule : breaches_of (of_ten false 0x04) ≡ []
+interrupted_change_breaks_no_rule = refl
+
+pub interrupted_change_has_120_tracks : usable_in (of_ten false 0x04) ≡ 120
+interrupted_change_has_120_tracks = refl
+
+-- While a slide is open it is valid: the second format 5 is out of the chain, track 2 is free and stated by neither, and 14 is the last
+-- track that is stated.
+pub valid_space_breaks_two_rules : breaches_of (of_ten true 0x04) ≡ broken_at 1 3 rules.Pointer ∷ broken_at 1 1 rules.Free ∷ []
+valid_space_breaks_two_rules = refl
+
+pub valid_space_has_15_tracks : usable_in (of_ten true 0x04) ≡ 15
+valid_space_has_15_tracks = refl
+
+-- ---- the numbers of rules
+
+-- each number is that of one rule
+pub numbers_tell_rules : (rule : VtocRule) → rule_of (number_of rule) ≡ Some rule
+numbers_tell_rules rules.NoFormat4 = refl
+numbers_tell_rules rules.Geometry = refl
+numbers_tell_rules rules.VtocExtent = refl
+numbers_tell_rules rules.Track = refl
+numbers_tell_rules rules.Dscb = refl
+numbers_tell_rules rules.Name = refl
+numbers_tell_rules rules.Pointer = refl
+numbers_tell_rules rules.Range = refl
+numbers_tell_rules rules.Overlap = refl
+numbers_tell_rules rules.Free = refl
+
+pub no_rule_has_number_0 : rule_of 0 ≡ None
+no_rule_has_number_0 = refl
+
+pub no_rule_has_number_11 : rule_of 11 ≡ None
+no_rule_has_number_11 = refl
+
+-- ---- the first three rules
+
+-- a 3390 of one cylinder
+abbrev pub one_cylinder : Head
+one_cylinder = record { device = D3390; tracks = 15 }
+
+-- record 1 of track 1
+abbrev pub pointer : Cchhr
+pointer = record { at = record { cylinder = 0; head = 1 }; r = 1 }
+
+abbrev pub record_with : List ℕ → Rec
+record_with bytes = record { r = 1; key = take 44 bytes; body = drop 44 bytes }
+
+abbrev pub track_with : List ℕ → Track
+track_with bytes = record { flag = 0; r0 = replicate 8 0; recs = record_with bytes ∷ [] }
+
+-- track 1 has a record 1 of these bytes, and the other slots say nothing
+abbrev pub slots_with : List ℕ → Slots
+slots_with bytes track = if track == 1 then track_text pointer.at (track_with bytes) ++ replicate 8 0 else []
+
+-- 44 and 96 bytes stand there as key and body
+text_stands : (bytes : List ℕ) → length (take 44 bytes) ≡ 44 → length (drop 44 bytes) ≡ 96 → IsTrackText pointer.at (slots_with bytes 1) (track_with bytes)
+text_stands bytes key body =
+    let is_record : IsRecord (record_with bytes) = record { numbered = omega arith; number_fits = omega arith; key_fits = omega (arith, key); body_fits = omega (arith, body) } in
+    record { sound = record { zero = refl; records = All-cons IsRecord (record_with bytes) [] is_record (All-nil IsRecord) }; text = (replicate 8 0, refl) }
+
+-- the pointer names them, and they are a format 4
+format_4_stands : (bytes : List ℕ) → length (take 44 bytes) ≡ 44 → length (drop 44 bytes) ≡ 96 → bytes ≡ take 44 bytes ++ drop 44 bytes → format_of bytes ≡ F4
+    → IsFormat4 15 (slots_with bytes) pointer bytes
+format_4_stands bytes key body whole four =
+    record {
+      text = track_with bytes;
+      rec = record_with bytes;
+      stands = text_stands bytes key body;
+      numbered = refl;
+      shaped = (key, body);
+      bytes_are = whole;
+      format = four;
+    }
+
+-- all of them hold for the volumes above
+pub geometry_holds : HasGeometry 15 format_4
+geometry_holds = (refl, λ none. absurd (omega (arith, none)))
+
+pub vtoc_extent_holds : HasVtocExtent one_cylinder pointer format_4
+vtoc_extent_holds = record { there = λ none. absurd (omega (arith, none)); run = refl; not_track_0 = omega arith; holds = refl }
+
+-- an empty slot
+pub no_format_4_is_told : IsFirstRuleBroken one_cylinder (λ track. []) pointer rules.NoFormat4
+no_format_4_is_told bytes is = absurd cc
+
+-- a record that is no format 4: byte 44 says format 5
+pub other_format_is_told : IsFirstRuleBroken one_cylinder (slots_with (format_5 2 13)) pointer rules.NoFormat4
+other_format_is_told bytes is =
+    let slot : List ℕ = slots_with (format_5 2 13) 1 in
+    let own : IsTrackText pointer.at slot (track_with (format_5 2 13)) = text_stands (format_5 2 13) refl refl in
+    let text : is.text ≡ track_with (format_5 2 13) = one_text_anywhere pointer.at slot is.text (track_with (format_5 2 13)) (omega arith) is.stands own in
+    let rec : is.rec ≡ record_with (format_5 2 13) = same_Some is.rec (record_with (format_5 2 13)) (sym is.numbered ∙ ap (λ (t : Track). find (λ x. x.r == 1) t.recs) text) in
+    let format : format_of (format_5 2 13) ≡ F4 = sym (ap (λ (r : Rec). format_of (dscb_of r)) rec) ∙ sym (ap format_of is.bytes_are) ∙ is.format in
+    absurd (cc (format))
+
+-- 14 heads, where a 3390 has 15
+pub other_heads_are_told : IsFirstRuleBroken one_cylinder (slots_with (saying 1 14 1 1 0 1)) pointer rules.Geometry
+other_heads_are_told = (saying 1 14 1 1 0 1, format_4_stands (saying 1 14 1 1 0 1) refl refl refl refl, λ geometry. absurd (omega (arith, geometry.0)))
+
+pub no_cylinder_is_told : IsFirstRuleBroken one_cylinder (slots_with (saying 0 15 1 1 0 1)) pointer rules.Geometry
+no_cylinder_is_told = (saying 0 15 1 1 0 1, format_4_stands (saying 0 15 1 1 0 1) refl refl refl refl, λ geometry. geometry.1 refl)
+
+-- the VTOC's extent of type 0
+pub no_vtoc_extent_is_told : IsFirstRuleBroken one_cylinder (slots_with (saying 1 15 0 1 0 1)) pointer rules.VtocExtent
+no_vtoc_extent_is_told = (saying 1 15 0 1 0 1, format_4_stands (saying 1 15 0 1 0 1) refl refl refl refl, (refl, λ none. absurd (omega (arith, none))), λ extent. extent.there refl)
+
+-- tracks 0 and 1
+pub vtoc_on_track_0_is_told : IsFirstRuleBroken one_cylinder (slots_with (saying 1 15 1 0 0 1)) pointer rules.VtocExtent
+vtoc_on_track_0_is_told = (saying 1 15 1 0 0 1, format_4_stands (saying 1 15 1 0 0 1) refl refl refl refl, (refl, λ none. absurd (omega (arith, none))), λ extent. absurd (omega (arith, extent.not_track_0)))
+
+-- tracks 2 and 3, where the pointer says 1
+pub vtoc_elsewhere_is_told : IsFirstRuleBroken one_cylinder (slots_with (saying 1 15 1 2 0 3)) pointer rules.VtocExtent
+vtoc_elsewhere_is_told = (saying 1 15 1 2 0 3, format_4_stands (saying 1 15 1 2 0 3) refl refl refl refl, (refl, λ none. absurd (omega (arith, none))), λ extent. absurd (cc (extent.holds)))
+
+-- tracks 1 to 15, where 14 is the last
+pub vtoc_past_the_end_is_told : IsFirstRuleBroken one_cylinder (slots_with (saying 1 15 1 1 1 0)) pointer rules.VtocExtent
+vtoc_past_the_end_is_told = (saying 1 15 1 1 1 0, format_4_stands (saying 1 15 1 1 1 0) refl refl refl refl, (refl, λ none. absurd (omega (arith, none))), λ extent. absurd (cc (extent.run)))
+
 -- ---- a release
 
 -- of 45 tracks in whole cylinders, of which 16 are used, two cylinders stay
@@ -306,3 +517,75 @@ whole_cylinders_stay = refl
 pub extents_are_cut :
     whole_tracks 15 6 (record { run = record { first = 3; len = 4 }; kind = 0x01 } ∷ record { run = record { first = 9; len = 4 }; kind = 0x01 } ∷ record { run = record { first = 20; len = 4 }; kind = 0x01 } ∷ []) ≡ 6
 extents_are_cut = refl
+
+-- a data set on these extents whose last block is on this track of its own and has this number there
+abbrev pub filled_to : ℕ → ℕ → List Extent → DataSet
+filled_to track number extents = record {
+  name = replicate 44 0x40;
+  fields = replicate 98 0 ++ (0 ∷ track ∷ number ∷ replicate 4 0);
+  extents = extents;
+  texts = [];
+  threes = threes_for (length extents);
+}
+
+abbrev pub tracks_at : ℕ → ℕ → Extent
+tracks_at first len = record { run = record { first = first; len = len }; kind = 0x01 }
+
+abbrev pub cylinders_at : ℕ → ℕ → Extent
+cylinders_at first len = record { run = record { first = first; len = len }; kind = 0x81 }
+
+-- where there is no last block one track stays, or the cylinder of it
+pub empty_keeps_one_track : kept_tracks 15 (filled_to 0 0 (tracks_at 3 4 ∷ [])) ≡ 1
+empty_keeps_one_track = refl
+
+pub empty_keeps_one_cylinder : kept_tracks 15 (filled_to 0 0 (cylinders_at 15 45 ∷ [])) ≡ 15
+empty_keeps_one_cylinder = refl
+
+-- a last block on the first track, and one on the sixth, which is the second track of the second extent
+pub first_track_is_kept : kept_tracks 15 (filled_to 0 7 (tracks_at 3 4 ∷ [])) ≡ 1
+first_track_is_kept = refl
+
+pub six_tracks_are_kept : kept_tracks 15 (filled_to 5 1 (tracks_at 3 4 ∷ tracks_at 9 4 ∷ [])) ≡ 6
+six_tracks_are_kept = refl
+
+-- ---- records of a VTOC
+
+pub three_extents_need_no_format_3 : threes_for 3 ≡ 0
+three_extents_need_no_format_3 = refl
+
+pub four_extents_need_one : threes_for 4 ≡ 1
+four_extents_need_one = refl
+
+-- one format 5 is always there, and has room for 26 runs
+pub no_run_needs_one_format_5 : fives_for 0 ≡ 1
+no_run_needs_one_format_5 = refl
+
+pub runs_26_need_one_format_5 : fives_for 26 ≡ 1
+runs_26_need_one_format_5 = refl
+
+pub runs_27_need_two : fives_for 27 ≡ 2
+runs_27_need_two = refl
+
+-- two data sets, of one extent and of four
+abbrev pub two_sets : OnlineVolume
+two_sets = record {
+  serial = record { text = replicate 6 0xC1 };
+  device = D3390;
+  usable = 15;
+  vtoc = record { first = 1; len = 1 };
+  first = track_with [];
+  four = [];
+  sets = filled_to 0 0 (tracks_at 2 1 ∷ []) ∷ filled_to 0 0 (tracks_at 4 1 ∷ tracks_at 6 1 ∷ tracks_at 8 1 ∷ tracks_at 10 1 ∷ []) ∷ [];
+  repair = false;
+  indexed = false;
+  dscbs = 50;
+  fives = 1;
+  tail = [];
+}
+
+-- a format 4, a format 5, two format 1s and a format 3
+pub five_records_are_used : used_records two_sets ≡ 5
+five_records_are_used = refl
+
+pub others_are_free : free_records two_sets ≡ 45
+others_are_free = refl

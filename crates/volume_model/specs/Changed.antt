@@ -1,11 +1,15 @@
 -- What a change of a volume's data sets leaves, and whether the VTOC has room for it.
-use Rattle.std.specs.Prelude.{◌≡◌, ℕ, ◌+◌, ◌-◌, ◌<◌, ◌≤◌, false, nat_le, if◌then◌else◌, List, ◌++◌, length, map, sum, All}
+use Rattle.std.specs.Prelude.{◌≡◌, ℕ, ◌+◌, ◌-◌, ◌<◌, ◌≤◌, Bool, false, nat_lt, if◌then◌else◌, List, ◌++◌, length, map, sum, All}
 use Rattle.free_map.specs.declared.run.Run.{Run}
 use Rattle.volume_model.specs.Unit.{DataSet, OnlineVolume, AreFreeRunsOf, fives_for}
 
+-- a data set of four extents or more needs a format 3: its format 1 has room for three
+abbrev pub needs_three : ℕ → Bool
+needs_three extents = nat_lt 3 extents
+
 -- the format 3s that a data set of so many extents uses, once a change has put it
 abbrev pub threes_for : ℕ → ℕ
-threes_for extents = if nat_le 4 extents then 1 else 0
+threes_for extents = if needs_three extents then 1 else 0
 
 -- the format 5s of a volume are those that its free runs need
 pub record HasRightFives (volume : OnlineVolume) : Type 0 where

@@ -3,6 +3,7 @@ pub mod Dscbs
 pub mod Directory
 pub mod Space
 pub mod Check
+pub mod FiveChain
 pub mod Sound
 pub mod Unit
 pub mod Reads

@@ -22,6 +22,10 @@ HasName bytes = (name : Dsn) × IsDsn name × IsNameOf name bytes
 abbrev pub organization_in : List ℕ → ℕ
 organization_in fields = number_at fields 82
 
+-- which of its volumes this is, for a data set of several
+abbrev pub sequence_in : List ℕ → ℕ
+sequence_in fields = number_at fields 51
+
 -- no organization, sequential, direct, or partitioned
 abbrev pub IsMovable : ℕ → Type 0
 IsMovable organization = (organization ≡ 0) ⊎ ((organization ≡ 0x4000) ⊎ ((organization ≡ 0x2000) ⊎ (organization ≡ 0x0200)))
@@ -53,7 +57,7 @@ IsManaged fields = (bit_and (slice_index fields 78) 0x0E ≢ 0) ⊎ (bit_and (sl
 
 -- it goes on from another volume
 abbrev pub GoesOn : List ℕ → Type 0
-GoesOn fields = 1 < number_at fields 51
+GoesOn fields = 1 < sequence_in fields
 
 -- A data set is pinned by its name, its format 1 and its extents, so that no command moves it. What its tracks hold doesn't count.
 abbrev pub IsPinned : ℕ → List ℕ → List ℕ → List Extent → Type 0

@@ -1,5 +1,5 @@
 -- The rules of a VTOC by their numbers and in words.
-use Rattle.std.specs.Prelude.{ℕ, List, codes}
+use Rattle.std.specs.Prelude.{ℕ, ◌==◌, List, [], ◌∷◌, find, Option, codes}
 use Rattle.volume_model.specs.declared.rule.VtocRule.{VtocRule}
 use Rattle.volume_model.specs.declared.rule.VtocRule.TheVariants as rules
 
@@ -14,6 +14,15 @@ number_of rules.Pointer = 7
 number_of rules.Range = 8
 number_of rules.Overlap = 9
 number_of rules.Free = 10
+
+-- all of them in their order
+abbrev pub all_rules : List VtocRule
+all_rules =
+    rules.NoFormat4 ∷ rules.Geometry ∷ rules.VtocExtent ∷ rules.Track ∷ rules.Dscb ∷ rules.Name ∷ rules.Pointer ∷ rules.Range ∷ rules.Overlap ∷ rules.Free ∷ []
+
+-- the rule with a number, where there is one
+abbrev pub rule_of : ℕ → Option VtocRule
+rule_of number = find (λ rule. number_of rule == number) all_rules
 
 abbrev pub words_of : VtocRule → List ℕ
 words_of rules.NoFormat4 = codes "NO FORMAT 4"

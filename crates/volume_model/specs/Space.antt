@@ -1,5 +1,5 @@
 -- The tracks of a volume: which are usable, which are used, and how the free ones lie.
-use Rattle.std.specs.Prelude.{ℕ, ◌+◌, ◌-◌, ◌*◌, ◌/◌, max, Bool, ◌==◌, ◌&&◌, ◌||◌, not, nat_lt, nat_le, if◌then◌else◌, List, ◌∷◌, ◌++◌, map, filter, fold}
+use Rattle.std.specs.Prelude.{ℕ, ◌+◌, ◌-◌, ◌*◌, max, Bool, ◌==◌, ◌&&◌, ◌||◌, not, nat_lt, nat_le, if◌then◌else◌, List, ◌∷◌, ◌++◌, map, filter, fold}
 use Rattle.std.specs.List.{flat_map, list_any}
 use Rattle.ckd_image.specs.declared.track.TrackAt.{TrackAt}
 use Rattle.volume_model.specs.declared.extent.ExtentField.{ExtentField}

@@ -1,7 +1,7 @@
 //! The rules of the VTOC check.
 
 ghost use Rattle.std.specs.Prelude.{◌≡◌};
-ghost use Rattle.volume_model.specs.Rules.{number_of, words_of};
+ghost use Rattle.volume_model.specs.Rules.{number_of, rule_of, words_of};
 
 /// The rules of a VTOC, in their order.
 #[derive(Clone, Copy, Debug, PartialEq, Eq)]
@@ -18,7 +18,28 @@ pub enum VtocRule {
     Free,
 }
 
+/// All of them in their order.
+const RULES: [VtocRule; 10] = [
+    VtocRule::NoFormat4,
+    VtocRule::Geometry,
+    VtocRule::VtocExtent,
+    VtocRule::Track,
+    VtocRule::Dscb,
+    VtocRule::Name,
+    VtocRule::Pointer,
+    VtocRule::Range,
+    VtocRule::Overlap,
+    VtocRule::Free,
+];
+
 impl VtocRule {
+    /// The rule with a number in a refusal, where there is one.
+    pub fn of_number(number: u8) -> Option<VtocRule>
+        ensures { result ≡ rule_of number }
+    {
+        RULES.iter().copied().find(|rule| rule.number() == number)
+    }
+
     /// The number of the rule in a refusal.
     pub fn number(self) -> u8
         ensures { result ≡ number_of self }

@@ -1,5 +1,5 @@
 -- The format 4 of a VTOC, and the refusals of the first three rules.
-use Rattle.std.proofs.Common.{◌≡◌, ℕ, ◌≤◌, ◌==◌, List, length, find, refl, sym, ap, ◌∙◌, subst, Option, Some, None}
+use Rattle.std.proofs.Common.{◌≡◌, ℕ, ◌≤◌, List, length, refl, sym, subst, Option, Some, None}
 use Rattle.std.specs.Prelude.{MatchOption, IfSome, IfNone}
 use Rattle.ckd_image.specs.declared.head.Head.{Head}
 use Rattle.ckd_image.specs.declared.track.Track.{Track}
@@ -14,7 +14,7 @@ use Rattle.volume_model.specs.declared.rule.VtocRule.{VtocRule}
 use Rattle.volume_model.specs.declared.rule.VtocRule.TheVariants as rules
 use Rattle.volume_model.specs.Rules.{number_of}
 use Rattle.volume_model.specs.Space.{track_at}
-use Rattle.volume_model.specs.Sound.{Slots, IsFormat4, IsFirstRuleBroken, dscb_of}
+use Rattle.volume_model.specs.Sound.{Slots, IsFormat4, IsFirstRuleBroken}
 use Rattle.vtoc_check.specs.declared.fault.VtocFault.{VtocFault}
 use Rattle.vtoc_check.specs.declared.fault.VtocFault.TheVariants.{BadVtoc, Indexed, VtocFull, NoMemory}
 use Rattle.vtoc_check.specs.Faults.{IsToldFault}
@@ -50,14 +50,6 @@ format_4_read heads pointer slot text recs (Some bytes) at short stands same f n
 
 pub no_format_4 : (heads : ℕ) (pointer : Cchhr) (slot : List ℕ) → ((text : Track) → ¬ IsTrackText pointer.at slot text) → (bytes : List ℕ) → ¬ IsFormat4 heads (λ _. slot) pointer bytes
 no_format_4 heads pointer slot none bytes h = none h.text h.stands
-
--- one slot says one format 4
-pub one_format_4 : (heads : ℕ) (slots : Slots) (pointer : Cchhr) (a b : List ℕ) → IsAddress pointer.at → length (slots (track_at heads pointer.at)) ≤ 65536 → IsFormat4 heads slots pointer a → IsFormat4 heads slots pointer b → a ≡ b
-one_format_4 heads slots pointer a b at short p q =
-    let one : p.text ≡ q.text = one_text pointer.at (slots (track_at heads pointer.at)) p.text q.text at short p.stands q.stands in
-    let numbered : Some p.rec ≡ Some q.rec = sym p.numbered ∙ ap (λ (t : Track). find (λ rec. rec.r == pointer.r) t.recs) one ∙ q.numbered in
-    let same : p.rec ≡ q.rec = cc in
-    p.bytes_are ∙ ap dscb_of same ∙ sym q.bytes_are
 
 -- ---- by the slot of its track alone
 

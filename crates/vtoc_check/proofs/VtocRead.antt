@@ -7,7 +7,6 @@ use Rattle.ckd_image.specs.declared.device.Device.{Device}
 use Rattle.ckd_image.specs.declared.device.Device.TheVariants as devices
 use Rattle.ckd_image.specs.declared.head.Head.{Head}
 use Rattle.ckd_image.specs.declared.track.Cchhr.{Cchhr}
-use Rattle.ckd_image.specs.Address.{IsAddress}
 use Rattle.ckd_image.specs.Device.{heads_of, slot_of}
 use Rattle.free_map.specs.declared.run.Run.{Run}
 use Rattle.volume_model.specs.declared.place.Breach.{Breach}
@@ -20,7 +19,8 @@ use Rattle.vtoc_check.specs.Front.{IsFront, IsFrontBreach, IsVtocRun}
 use Rattle.vtoc_check.specs.Sized.{IsVtocWith}
 use Rattle.vtoc_check.specs.Slots.{slot_in, AreSlotsOf}
 use Rattle.vtoc_check.specs.Tracks.{HasTracks}
-use Rattle.vtoc_check.proofs.FrontRules.{one_format_4, same_format_4, same_breach}
+use Rattle.volume_model.proofs.OneVtoc.{one_format_4}
+use Rattle.vtoc_check.proofs.FrontRules.{same_format_4, same_breach}
 use Rattle.vtoc_check.proofs.Overlapping.{run_facts}
 use Rattle.ckd_image.proofs.Devices.{short_slot}
 
@@ -59,9 +59,9 @@ holds_pointer head slots pointer run h = ap (has_track (track_at (heads_of head.
 
 -- ---- the run is the one that the format 4 says
 
-pub same_run : (head : Head) (slots : Slots) (pointer : Cchhr) (run : Run) (bytes : List ℕ) → IsAddress pointer.at → length (slots (track_at (heads_of head.device) pointer.at)) ≤ 65536
+pub same_run : (head : Head) (slots : Slots) (pointer : Cchhr) (run : Run) (bytes : List ℕ) → length (slots (track_at (heads_of head.device) pointer.at)) ≤ 65536
     → (h : IsVtocRun head slots pointer run) → IsFront head slots pointer bytes → h.bytes ≡ bytes
-same_run head slots pointer run bytes at short h front = one_format_4 (heads_of head.device) slots pointer h.bytes bytes at short h.front.format_4 front.format_4
+same_run head slots pointer run bytes short h front = one_format_4 (heads_of head.device) slots pointer h.bytes bytes short h.front.format_4 front.format_4
 
 -- ---- the slots of a unit
 

@@ -1,7 +1,6 @@
 //! The format 4, and the first three rules, which are on it.
 
-ghost use Rattle.std.specs.Prelude.{◌≡◌, ◌≢◌, ◌≤◌, ◌<◌, ◌==◌, ◌↔◌, ℕ, List, IsTrue, IfOk, IfErr, IfSome, IfNone, MatchOption, length, find, min, Some, true};
-ghost use Rattle.std.specs.Option.{option_copied};
+ghost use Rattle.std.specs.Prelude.{◌≡◌, ◌≢◌, ◌≤◌, ◌<◌, ◌↔◌, ℕ, List, IsTrue, IfOk, IfErr, IfSome, IfNone, MatchOption, length, Some};
 ghost use Rattle.ckd_image.specs.Device.{heads_of};
 ghost use Rattle.vol_label.specs.Label.{IsInside};
 ghost use Rattle.volume_model.specs.Dscbs.{format_of, number_at as number_in, extent_at as extent_in};
@@ -15,18 +14,11 @@ use crate::directory::place_at;
 use crate::dscb::{extent_at, is_run, number_at, run_of, track_number};
 use crate::fault::{VtocFault, told_as};
 use crate::read::{dscb_bytes, text_at};
-use ckd_image::{Cchhr, Head, NoMemory, Rec};
+use ckd_image::{Cchhr, Head, NoMemory, Track, first_numbered};
 use free_map::Run;
 use std::alloc::Global;
 use vol_label::Label;
 use volume_model::{Breach, Format, VtocRule};
-
-/// The first record with a number.
-fn first_numbered(recs: &[Rec], r: u8) -> Option<&Rec>
-    ensures { option_copied result ≡ find (λ rec. rec.r == r) recs.now }
-{
-    recs.iter().find(|rec| rec.r == r)
-}
 
 fn is_format_4(bytes: &[u8; 140]) -> bool
     ensures { IsTrue result ↔ (format_of bytes.now ≡ Format.F4) }
@@ -35,11 +27,11 @@ fn is_format_4(bytes: &[u8; 140]) -> bool
 }
 
 /// The 140 bytes of the first record with a number, where it is a format 4.
-fn format_4_among(recs: &[Rec], r: u8) -> Option<[u8; 140]>
-    ensures found { IfSome result (IsFormat4Among recs.now r) }
-    ensures none { IfNone result ((bytes : List ℕ) → ¬ IsFormat4Among recs.now r bytes) }
+fn format_4_among(track: &Track, r: u8) -> Option<[u8; 140]>
+    ensures found { IfSome result (IsFormat4Among track.now.recs r) }
+    ensures none { IfNone result ((bytes : List ℕ) → ¬ IsFormat4Among track.now.recs r bytes) }
 {
-    let rec = first_numbered(recs, r)?;
+    let rec = first_numbered(track, r)?;
     let bytes = dscb_bytes(rec)?;
     if !is_format_4(&bytes) {
         return None;
@@ -61,7 +53,7 @@ fn format_4(
     let Some(text) = text_at(alloc, head.device, pointer.at, slot)? else {
         return Ok(None);
     };
-    Ok(format_4_among(text.recs.as_slice(), pointer.r))
+    Ok(format_4_among(&text, pointer.r))
 }
 
 /// Whether a format 4 says the heads of the device, and some cylinders.

@@ -12,7 +12,7 @@ use Rattle.volume_model.specs.declared.place.Vtoc.{Vtoc}
 use Rattle.volume_model.specs.Dscbs.{format_of, is_f5, pointer_in}
 use Rattle.volume_model.specs.Directory.{named_place, named_record, record_at, same_place}
 use Rattle.volume_model.specs.Check.{FiveChain, five_chain, chain_from, goes_on, linked, points as points_in, named_by, records_of, fives_of, is_among, first_of, or_else, first_five, same_target}
-use Rattle.vtoc_layout.specs.FiveChain.{Names, EndsAt, IsFiveChain, walk_of}
+use Rattle.volume_model.specs.FiveChain.{Names, EndsAt, IsFiveChain, walk_of}
 use Rattle.volume_model.proofs.Filters.{filter_skip, filter_keep}
 
 -- ---- places

@@ -13,7 +13,7 @@ use Rattle.volume_model.specs.Check.{breach, records_of, fives_of, named_by, sam
 use Rattle.vtoc_check.specs.Sized.{IsSized}
 use Rattle.vtoc_check.proofs.Marks.{any_passes, passes_any}
 use Rattle.volume_model.proofs.Filters.{filter_skip, filter_keep}
-use Rattle.vtoc_layout.specs.FiveChain.{Names, EndsAt, IsFiveChain, walk_of}
+use Rattle.volume_model.specs.FiveChain.{Names, EndsAt, IsFiveChain, walk_of}
 use Rattle.vtoc_layout.specs.Layout.{AreDistinct, IsLinked, AreLinkedFives, Layout, IsLayoutOf}
 use Rattle.vtoc_layout.proofs.Distinct.{first_or_later, at_first, in_later, in_none, in_front, in_middle, not_both, filter_nothing}
 use Rattle.vtoc_layout.proofs.FiveChains.{one_chain}

@@ -9,3 +9,4 @@ pub mod Apart
 pub mod ExtentRules
 pub mod FreeRules
 pub mod Layouts
+pub mod Finds

@@ -16,7 +16,7 @@ use Rattle.vtoc_check.specs.Reach.{record_in}
 use Rattle.vtoc_check.specs.Sized.{IsSized}
 use Rattle.vtoc_check.proofs.Order.{ascending, above, in_order_from}
 use Rattle.vtoc_check.proofs.Marks.{any_passes, passes_any, same_number, one_index}
-use Rattle.vtoc_layout.specs.Layout.{AreDistinct, SetRecords, Layout, AreSetRecords, IsLayoutOf, records_in_set, used_records}
+use Rattle.vtoc_layout.specs.Layout.{AreDistinct, SetRecords, Layout, AreSetRecords, IsLayoutOf, records_in_set, records_used}
 use Rattle.vtoc_layout.proofs.Distinct.{first_or_later, at_first, in_later, in_front, in_back, distinct_front, distinct_back, distinct_filter, in_filter, from_filter, from_flat, in_flat, from_map, HaveSame}
 use Rattle.ckd_image.proofs.Lists.{contains_map}
 
@@ -101,8 +101,8 @@ module _ (vtoc : Vtoc) (layout : Layout) (sized : IsSized vtoc) (is : IsLayoutOf
 
   -- ---- each used record stands there
 
-  pub used_there : (placed : Placed) → Contains (used_records layout) placed → Contains records placed
-  used_there placed c = All-contains (Contains records) (used_records layout) placed is.there c
+  pub used_there : (placed : Placed) → Contains (records_used layout) placed → Contains records placed
+  used_there placed c = All-contains (Contains records) (records_used layout) placed is.there c
 
   pub four_there : Contains records layout.four
   four_there = used_there layout.four (at_first layout.four (layout.fives ++ of_sets))
@@ -136,7 +136,7 @@ module _ (vtoc : Vtoc) (layout : Layout) (sized : IsSized vtoc) (is : IsLayoutOf
 
   -- ---- the use of each record
 
-  used_as : (placed : Placed) → Contains (used_records layout) placed → Use vtoc layout placed
+  used_as : (placed : Placed) → Contains (records_used layout) placed → Use vtoc layout placed
   used_as placed c = by (first_or_later layout.four placed (layout.fives ++ of_sets) c)
     where
       set : (s : SetRecords) → Contains layout.sets s → ((s.one ≡ placed) ⊎ Contains s.threes placed) → Use vtoc layout placed
@@ -152,15 +152,15 @@ module _ (vtoc : Vtoc) (layout : Layout) (sized : IsSized vtoc) (is : IsLayoutOf
       by (inr later) = behind (Contains-append_cases layout.fives of_sets placed later)
 
   pub use_of : (placed : Placed) → Contains records placed → Use vtoc layout placed
-  use_of placed c = by (is_among (used_records layout) placed) refl
+  use_of placed c = by (is_among (records_used layout) placed) refl
     where
-      by : (t : Bool) → is_among (used_records layout) placed ≡ t → Use vtoc layout placed
+      by : (t : Bool) → is_among (records_used layout) placed ≡ t → Use vtoc layout placed
       by true e =
-          let found = any_passes (λ (other : Placed). same_place other.place placed.place) (used_records layout) e in
+          let found = any_passes (λ (other : Placed). same_place other.place placed.place) (records_used layout) e in
           let same : found.0 ≡ placed = same_record found.0 placed (used_there found.0 found.1) c found.2 in
-          let P : Placed → Type 0 = λ p. Contains (used_records layout) p in
+          let P : Placed → Type 0 = λ p. Contains (records_used layout) p in
           used_as placed (subst P same found.1)
-      by false e = free (is.rest placed c (λ used. both_ways (is_among (used_records layout) placed) e (among (used_records layout) placed used)))
+      by false e = free (is.rest placed c (λ used. both_ways (is_among (records_used layout) placed) e (among (records_used layout) placed used)))
 
   -- ---- by formats
 

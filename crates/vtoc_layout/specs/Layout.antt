@@ -11,7 +11,7 @@ use Rattle.volume_model.specs.Dscbs.{format_of, is_f1, extents_of, pointer_in}
 use Rattle.volume_model.specs.Directory.{DirectoryRow, named_record, chain_of}
 use Rattle.volume_model.specs.Space.{end_of, overlap, is_run, run_of, entries_of, usable_of, is_free}
 use Rattle.volume_model.specs.Check.{records_of, fives_of, track_0}
-use Rattle.vtoc_layout.specs.FiveChain.{walk_of}
+use Rattle.volume_model.specs.FiveChain.{walk_of}
 
 -- no element stands twice in a list
 abbrev pub AreDistinct : {X : Type 0} → List X → Type 0
@@ -35,8 +35,8 @@ abbrev pub records_in_set : SetRecords → List Placed
 records_in_set set = set.one ∷ set.threes
 
 -- the records that are used
-abbrev pub used_records : Layout → List Placed
-used_records layout = layout.four ∷ (layout.fives ++ flat_map records_in_set layout.sets)
+abbrev pub records_used : Layout → List Placed
+records_used layout = layout.four ∷ (layout.fives ++ flat_map records_in_set layout.sets)
 
 -- Pointers lead from these bytes on to these records, one after the other, and the last has no pointer.
 abbrev pub IsLinked : ℕ → List Placed → List ℕ → List Placed → Type 0
@@ -60,14 +60,14 @@ name_of set = take 44 set.one.bytes
 
 -- A VTOC's records are used so: each used one stands there and has one use, names differ, and the others are free.
 pub record IsLayoutOf (vtoc : Vtoc) (layout : Layout) : Type 0 where
-  pub there : All (Contains (records_of vtoc)) (used_records layout)
-  pub once : AreDistinct (used_records layout)
+  pub there : All (Contains (records_of vtoc)) (records_used layout)
+  pub once : AreDistinct (records_used layout)
   pub four_is : format_of layout.four.bytes ≡ F4
   pub four_at : layout.four.place ≡ vtoc.format_4
   pub fives_are : All (λ five. format_of five.bytes ≡ F5) layout.fives
   pub sets_are : All (AreSetRecords vtoc.heads (records_of vtoc)) layout.sets
   pub names : AreDistinct (map name_of layout.sets)
-  pub rest : (placed : Placed) → Contains (records_of vtoc) placed → ¬ Contains (used_records layout) placed → format_of placed.bytes ≡ Free
+  pub rest : (placed : Placed) → Contains (records_of vtoc) placed → ¬ Contains (records_used layout) placed → format_of placed.bytes ≡ Free
 
 -- ---- what a layout says of data sets and space
 

@@ -1,3 +1,2 @@
-pub mod FiveChain
 pub mod Layout
 pub mod Laws

@@ -1,6 +1,6 @@
 //! What holds of a VTOC by what its records are used for.
 
-ghost use Rattle.vtoc_layout.specs.FiveChain.{WalkIsChain, OneFiveChain};
+ghost use Rattle.volume_model.specs.FiveChain.{WalkIsChain, OneFiveChain};
 ghost use Rattle.vtoc_layout.specs.Laws.{LayoutsBreakNoRule, RowsAreOfLayout, ExtentsAreOfLayout, EntriesAreOfLayout};
 
 /// The walk along the format 5s is the one chain that they have.

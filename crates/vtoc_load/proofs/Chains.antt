@@ -1,6 +1,6 @@
 -- The chains of format 3s in a VTOC that breaks no rule.
 use Rattle.std.proofs.Common.{◌≡◌, ◌⊎◌, ℕ, zero, suc, ◌*◌, ◌<◌, ◌≤◌, List, [], ◌∷◌, ◌++◌, length, filter, take, get_or, Bool, true, false, cond, All, Contains, Option, Some, None, refl, sym, ap, subst, ◌∙◌, arith, inl, inr}
-use Rattle.std.specs.Prelude.{◌&&◌, ◌||◌, not, find, nat_lt}
+use Rattle.std.specs.Prelude.{◌&&◌, ◌||◌, not, nat_lt}
 use Rattle.std.specs.Option.{is_some}
 use Rattle.std.specs.List.{flat_map, list_any}
 use Rattle.std.proofs.lemmas.Bool.{cases_order}
@@ -22,7 +22,8 @@ use Rattle.vtoc_check.proofs.Targets.{named_by_next}
 use Rattle.vtoc_check.proofs.Marks.{any_passes, passes_any}
 use Rattle.vtoc_check.proofs.FirstFound.{later_found}
 use Rattle.vtoc_layout.specs.Layout.{AreDistinct}
-use Rattle.vtoc_layout.proofs.Distinct.{in_later, in_none, no_more, distinct_append, in_filter, from_filter, distinct_filter, from_flat}
+use Rattle.vtoc_layout.proofs.Distinct.{in_none, no_more, distinct_append, in_filter, from_filter, distinct_filter, from_flat}
+use Rattle.vtoc_layout.proofs.Finds.{found_passes}
 use Rattle.vtoc_layout.proofs.Uses.{distinct_records, one_record, itself}
 use Rattle.vtoc_load.specs.Chained.{AreEachOnce, threes_of}
 use Rattle.ckd_image.proofs.Lists.{left_nil, right_nil, map_nil}
@@ -32,23 +33,12 @@ nothing = None
 
 -- ---- where a pointer leads
 
-pub found_in : (test : Placed → Bool) (xs : List Placed) (x : Placed) → find test xs ≡ Some x → Contains xs x
-found_in test [] x e = absurd (let q : nothing ≡ Some x = e in let r : ⊥ = cc in r)
-found_in test (y ∷ xs) x e = by (λ q. found_in test xs x q) (test y) e
-  where
-    same : Some y ≡ Some x → y ≡ x
-    same q = cc
-
-    by : (find test xs ≡ Some x → Contains xs x) → (t : Bool) → cond t (Some y) (find test xs) ≡ Some x → Contains (y ∷ xs) x
-    by later true q = (0, omega arith, same q)
-    by later false q = in_later y x xs (later q)
-
 pub named_in : (heads : ℕ) (records : List Placed) (pointer : Option Cchhr) (x : Placed) → named_record heads records pointer ≡ Some x → Contains records x
 named_in heads records None x e = absurd (let q : nothing ≡ Some x = e in let r : ⊥ = cc in r)
 named_in heads records (Some pointer) x e = by (nat_lt pointer.at.head heads) e
   where
     by : (t : Bool) → cond t (record_at records (named_place heads pointer)) nothing ≡ Some x → Contains records x
-    by true q = found_in (λ placed. same_place placed.place (named_place heads pointer)) records x q
+    by true q = (found_passes (λ (placed : Placed). same_place placed.place (named_place heads pointer)) records x q).0
     by false q = absurd (let p : nothing ≡ Some x = q in let r : ⊥ = cc in r)
 
 format_3 : (o : Option Placed) (x : Placed) → if_format is_f3 o ≡ Some x → is_f3 (format_of x.bytes) ≡ true

@@ -14,6 +14,7 @@ use Rattle.dscb_made.specs.Made.{IsFormat5With}
 use Rattle.vtoc_plan.specs.Plan.{pointer_to, option_map, first_in, AreFivesWith}
 use Rattle.vtoc_making.specs.Places.{next_pointer, part_of, parts_of}
 use Rattle.std.proofs.lemmas.Bool.{cases_lt}
+use Rattle.std.proofs.Math.Numerals.{suc-eq-add-one}
 
 -- the format 5 at a number is written
 abbrev pub IsFiveAt : ℕ → List Entry5 → List Place → List Placed → ℕ → Type 0
@@ -27,14 +28,11 @@ pub record AreFivesSoFar (heads : ℕ) (entries : List Entry5) (places : List Pl
 pub none_so_far : (heads : ℕ) (entries : List Entry5) (places : List Place) → AreFivesSoFar heads entries places 0 []
 none_so_far heads entries places = record { at = refl; each = λ k less. absurd (omega (arith, less)) }
 
-pub next_count : (n : ℕ) → suc n ≡ n + 1
-next_count n = omega arith
-
 pub one_more : (heads : ℕ) (entries : List Entry5) (places : List Place) (count : ℕ) (fives : List Placed) (five : Placed) (d : Place) → count < length places → AreFivesSoFar heads entries places count fives
     → five.place ≡ get_or places count d → IsFormat5With (part_of entries count) (next_pointer heads (slice_get places (suc count))) five.bytes
     → AreFivesSoFar heads entries places (count + 1) (fives ++ (five ∷ []))
 one_more heads entries places count fives five d less h place is = record {
-  at = map-append place_of fives (five ∷ []) ∙ (λ i. h.at i ++ (place i ∷ [])) ∙ sym (take-suc places count d less) ∙ ap (λ (n : ℕ). take n places) (next_count count);
+  at = map-append place_of fives (five ∷ []) ∙ (λ i. h.at i ++ (place i ∷ [])) ∙ sym (take-suc places count d less) ∙ ap (λ (n : ℕ). take n places) (suc-eq-add-one count);
   each = λ k within. by k (cases_lt k (length fives)) within;
 }
   where

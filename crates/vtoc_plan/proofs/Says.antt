@@ -8,6 +8,7 @@ use Rattle.std.proofs.lemmas.List.Elements.{All-head}
 use Rattle.volume_model.specs.declared.extent.ExtentField.{ExtentField}
 use Rattle.volume_model.specs.declared.place.Placed.{Placed}
 use Rattle.free_map.specs.declared.run.Run.{Run}
+use Rattle.volume_model.specs.Changed.{needs_three}
 use Rattle.volume_model.specs.Dscbs.{extents_of}
 use Rattle.volume_model.specs.Space.{entries_of}
 use Rattle.dscb_rec.specs.declared.field.Extent.{Extent}
@@ -40,16 +41,16 @@ entries heads parts layout made = entries_in heads parts layout.fives made
 short_drop : (n : ℕ) (xs : List Extent) → nat_lt n (length xs) ≡ false → drop n xs ≡ []
 short_drop n xs e = drop_all n xs (ltb-false n (length xs) e)
 
-further : (extents : List Extent) (threes : List Placed) → All (λ (three : Placed). IsFormat3With extents three.bytes) threes → length threes ≡ (cond (nat_lt 3 (length extents)) 1 0)
+further : (extents : List Extent) (threes : List Placed) → All (λ (three : Placed). IsFormat3With extents three.bytes) threes → length threes ≡ (cond (needs_three (length extents)) 1 0)
     → flat_map (λ (placed : Placed). extents_of placed.bytes) threes ≡ map field_of (drop 3 extents)
-further extents [] are long = sym (ap (map field_of) (short_drop 3 extents (by (nat_lt 3 (length extents)) (sym long))))
+further extents [] are long = sym (ap (map field_of) (short_drop 3 extents (by (needs_three (length extents)) (sym long))))
   where
     by : (t : Bool) → one_if t ≡ 0 → t ≡ false
     by true e = absurd (omega (arith, e))
     by false e = refl
 further extents (three ∷ []) are long =
     ap (λ (xs : List ExtentField). xs ++ []) (All-head (λ (three : Placed). IsFormat3With extents three.bytes) three [] are).extents_are ∙ append-nil (map field_of (drop 3 extents))
-further extents (three ∷ other ∷ more) are long = absurd (by (nat_lt 3 (length extents)) long)
+further extents (three ∷ other ∷ more) are long = absurd (by (needs_three (length extents)) long)
   where
     by : (t : Bool) → length (three ∷ other ∷ more) ≡ cond t 1 0 → ⊥
     by true e = omega (arith, e)
@@ -72,6 +73,6 @@ extents heads (p ∷ []) parts wanted allotment (set ∷ []) wants long few made
     alone : length (p.extents ++ []) ≡ length p.extents
     alone = omega (arith, length-append p.extents [])
 
-    so_many : length set.threes ≡ cond (nat_lt 3 (length p.extents)) 1 0
+    so_many : length set.threes ≡ cond (needs_three (length p.extents)) 1 0
     so_many =
-        sym (length-map set.threes place_of) ∙ sym (ap length made.threes_at) ∙ long ∙ ap (λ (t : Bool). cond t 1 0) (wants.three_is ∙ ap (nat_lt 3) alone)
+        sym (length-map set.threes place_of) ∙ sym (ap length made.threes_at) ∙ long ∙ ap (λ (t : Bool). cond t 1 0) (wants.three_is ∙ ap needs_three alone)

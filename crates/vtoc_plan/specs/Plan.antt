@@ -10,6 +10,7 @@ use Rattle.volume_model.specs.declared.place.Placed.{Placed}
 use Rattle.volume_model.specs.declared.place.Vtoc.{Vtoc}
 use Rattle.volume_model.specs.Dscbs.{format_of}
 use Rattle.volume_model.specs.declared.format.Format.TheVariants.{F1}
+use Rattle.volume_model.specs.Changed.{needs_three}
 use Rattle.volume_model.specs.Check.{records_of}
 use Rattle.vtoc_check.specs.Sized.{IsSized}
 use Rattle.vtoc_core.specs.Edit.{run_of_entry}
@@ -71,11 +72,11 @@ AreFivesWith heads (entries ∷ parts) (five ∷ fives) =
     IsFormat5With entries (option_map (λ next. pointer_to heads next.place) (first_in fives)) five.bytes × AreFivesWith heads parts fives
 AreFivesWith heads _ _ = ⊥
 
--- what a change wants: a data set or none, a format 3 where that has four extents or more, and so many format 5s
+-- what a change wants: a data set or none, a format 3 where that needs one, and so many format 5s
 pub record Wants (putting : List Putting) (parts : List (List Entry5)) (wanted : Wanted) : Type 0 where
   pub one_set : length putting ≤ 1
   pub one_is : wanted.one ≡ nat_lt 0 (length putting)
-  pub three_is : wanted.three ≡ nat_lt 3 (length (flat_map (λ p. p.extents) putting))
+  pub three_is : wanted.three ≡ needs_three (length (flat_map (λ p. p.extents) putting))
   pub fives_are : wanted.fives ≡ length parts
   pub some_fives : 1 ≤ wanted.fives
 

@@ -1,5 +1,5 @@
 -- What is read of slots is what was loaded from them.
-use Rattle.std.proofs.Common.{◌≡◌, ℕ, ◌+◌, ◌≤◌, List, [], ◌∷◌, map, find, Bool, true, false, cond, Contains, ◌⊎◌, inl, inr, Option, Some, None, refl, sym, ap, subst, ◌∙◌, arith}
+use Rattle.std.proofs.Common.{◌≡◌, ℕ, ◌+◌, ◌≤◌, List, map, find, Bool, true, false, Option, Some, None, refl, sym, ap, subst, ◌∙◌, arith}
 use Rattle.std.specs.Prelude.{not, slice_index_or}
 use Rattle.std.specs.List.{flat_map}
 use Rattle.ckd_image.specs.declared.device.Device.{Device}
@@ -21,10 +21,9 @@ use Rattle.vtoc_check.specs.Slots.{slot_in}
 use Rattle.vtoc_check.proofs.VtocRead.{slot_short}
 use Rattle.vtoc_core.specs.declared.volume.Volume.{Volume}
 use Rattle.vtoc_layout.specs.Layout.{SetRecords, layout_of}
-use Rattle.vtoc_layout.proofs.Distinct.{first_or_later}
 use Rattle.vtoc_layout.proofs.Uses.{is_four}
-use Rattle.vtoc_load.proofs.Chains.{found_in}
-use Rattle.vtoc_rewrite.proofs.OneVtoc.{one_reading}
+use Rattle.vtoc_layout.proofs.Finds.{found_passes, none_passes}
+use Rattle.volume_model.proofs.OneVtoc.{one_reading}
 use Rattle.layout_edit.specs.Change.{place_of}
 use Rattle.layout_found.specs.Fives.{IsOfSoundVtoc, AreItsFives}
 use Rattle.layout_found.proofs.Found.{found_layout}
@@ -42,7 +41,7 @@ Reads volume slots tracks = IsReading (heads_of volume.device) (slot_in volume.v
 same_tracks : (head : Head) (label : Label) (unit : Slots) (sliding : Bool) (slots : List ℕ) (volume : Volume) (vtoc : Vtoc) (four : Placed) (tracks : List (Option (List (List ℕ))))
     → WasLoaded head label unit sliding slots volume vtoc four → Reads volume slots tracks → tracks ≡ vtoc.tracks
 same_tracks head label unit sliding slots volume vtoc four tracks was reads =
-    one_reading (heads_of head.device) (slot_in vtoc.run (slot_of head.device) slots) vtoc.run tracks vtoc.tracks (slot_short head.device vtoc.run slots)
+    one_reading (heads_of head.device) (slot_in vtoc.run (slot_of head.device) slots) vtoc.run tracks vtoc.tracks (λ k less. slot_short head.device vtoc.run slots (vtoc.run.first + k))
     (subst (λ (run : Run). IsReading (heads_of head.device) (slot_in run (slot_of head.device) slots) run tracks) was.volume_is.vtoc_is
     (subst (λ (device : Device). IsReading (heads_of device) (slot_in volume.vtoc (slot_of device) slots) volume.vtoc tracks) was.volume_is.device_is reads))
     (record { whole = reading.whole; each = λ k less. subst (λ (slot : List ℕ). IsTrackReading (heads_of head.device) (vtoc.run.first + k) slot (slice_index_or vtoc.tracks k None)) (was.slots_are k less) (reading.each k less) })
@@ -77,26 +76,6 @@ nothing = None
 abbrev pub is_format_4 : Placed → Bool
 is_format_4 placed = is_f4 (format_of placed.bytes)
 
-found_right : (test : Placed → Bool) (xs : List Placed) (x : Placed) → find test xs ≡ Some x → test x ≡ true
-found_right test [] x e = absurd (let q : nothing ≡ Some x = e in let r : ⊥ = cc in r)
-found_right test (y ∷ ys) x e = by (found_right test ys x) (test y) refl e
-  where
-    by : (find test ys ≡ Some x → test x ≡ true) → (t : Bool) → test y ≡ t → cond t (Some y) (find test ys) ≡ Some x → test x ≡ true
-    by later true here is = let both : Some y ≡ Some x = is in let same : y ≡ x = cc in ap test (sym same) ∙ here
-    by later false here is = later is
-
-none_passes : (test : Placed → Bool) (xs : List Placed) (x : Placed) → find test xs ≡ None → Contains xs x → test x ≡ true → ⊥
-none_passes test [] x e c p = by (c)
-  where
-    by : Contains [] x → ⊥
-    by there = let lt = there.1 in omega (arith, lt)
-none_passes test (y ∷ ys) x e c p = by (none_passes test ys x) (test y) refl e (first_or_later y x ys c)
-  where
-    by : (find test ys ≡ None → Contains ys x → test x ≡ true → ⊥) → (t : Bool) → test y ≡ t → cond t (Some y) (find test ys) ≡ None → ((y ≡ x) ⊎ Contains ys x) → ⊥
-    by later true here is at = let q : Some y ≡ nothing = is in cc
-    by later false here is (inl same) = let q : true ≡ false = sym p ∙ ap test (sym same) ∙ here in cc
-    by later false here is (inr behind) = later is behind p
-
 four_is_four : (head : Head) (label : Label) (unit : Slots) (sliding : Bool) (slots : List ℕ) (volume : Volume) (vtoc : Vtoc) (four : Placed) → WasLoaded head label unit sliding slots volume vtoc four
     → format_of four.bytes ≡ F4
 four_is_four head label unit sliding slots volume vtoc four was = ap format_of was.stands.four_is ∙ was.stands.stands.format_4.format
@@ -112,7 +91,7 @@ pub the_four : (head : Head) (label : Label) (unit : Slots) (sliding : Bool) (sl
 the_four head label unit sliding slots volume vtoc four found records was same is =
     let here : find is_format_4 (records_of vtoc) ≡ Some found = ap (find is_format_4) (sym same) ∙ is in
     let layout = found_layout vtoc four was.sized was.four_there (four_is_four head label unit sliding slots volume vtoc four was) was.four_at was.sound in
-    is_four vtoc (layout_of vtoc four) was.sized layout.0 found (found_in is_format_4 (records_of vtoc) found here) (found_right is_format_4 (records_of vtoc) found here)
+    is_four vtoc (layout_of vtoc four) was.sized layout.0 found (found_passes is_format_4 (records_of vtoc) found here).0 (found_passes is_format_4 (records_of vtoc) found here).1
 
 -- ---- what is held
 

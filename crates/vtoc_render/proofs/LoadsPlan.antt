@@ -15,6 +15,7 @@ use Rattle.volume_model.specs.declared.format.Format.TheVariants.{F1}
 use Rattle.volume_model.specs.declared.place.Place.{Place}
 use Rattle.volume_model.specs.declared.place.Placed.{Placed}
 use Rattle.volume_model.specs.declared.place.Vtoc.{Vtoc}
+use Rattle.volume_model.specs.Changed.{needs_three}
 use Rattle.volume_model.specs.Check.{same_bytes}
 use Rattle.volume_model.specs.Dscbs.{format_of}
 use Rattle.volume_model.specs.Sound.{Slots}
@@ -46,7 +47,7 @@ use Rattle.vtoc_render.specs.Steps.{IsAimOf, IsSetFor, has_three, wanted_for, re
 use Rattle.vtoc_render.specs.Written.{second_of, free_left, IsWritten, edits_with}
 use Rattle.vtoc_render.proofs.Holds.{named_split, one_gone}
 use Rattle.vtoc_render.proofs.May.{IsFit, put_fits}
-use Rattle.vtoc_render.proofs.NextCounts.{found_passes, none_passes}
+use Rattle.vtoc_layout.proofs.Finds.{found_passes, none_passes}
 use Rattle.vtoc_render.proofs.NextVolume.{put_named}
 use Rattle.volume_model.proofs.Numbers.{bytes_itself, bytes_equal}
 use Rattle.layout_edit.proofs.Changes.{distinct_of_map}
@@ -97,9 +98,9 @@ one_wanted : (put : Option Row) → is_some put ≡ nat_lt 0 (length (putting_of
 one_wanted None = refl
 one_wanted (Some row) = refl
 
-three_wanted : (put : Option Row) → has_three put ≡ nat_lt 3 (length (flat_map (λ (p : Putting). p.extents) (putting_of put)))
+three_wanted : (put : Option Row) → has_three put ≡ needs_three (length (flat_map (λ (p : Putting). p.extents) (putting_of put)))
 three_wanted None = refl
-three_wanted (Some row) = ap (λ (extents : List Extent). nat_lt 3 (length extents)) (sym (nothing_more row.extents))
+three_wanted (Some row) = ap (λ (extents : List Extent). needs_three (length extents)) (sym (nothing_more row.extents))
 
 pub wants : (put : Option Row) (runs : ℕ) (parts : List (List Entry5)) → length parts ≡ fives_for runs → Wants (putting_of put) parts (wanted_for put runs)
 wants put runs parts long = record {

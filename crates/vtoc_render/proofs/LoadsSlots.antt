@@ -28,7 +28,7 @@ use Rattle.vtoc_core.specs.declared.volume.Volume.{Volume}
 use Rattle.vtoc_core.proofs.Placed.{NumberedFrom, numbered_from}
 use Rattle.vtoc_layout.proofs.Distinct.{in_later, in_front, in_back}
 use Rattle.vtoc_load.specs.LoadedVtoc.{IsLoadedVtoc}
-use Rattle.vtoc_rewrite.proofs.Addresses.{address_fits, one_address, one_text_anywhere}
+use Rattle.volume_model.proofs.Addresses.{address_fits, one_address, one_text_anywhere}
 use Rattle.vtoc_render.specs.Loads.{LoadsFrom, LoadedVolumesLoadFrom}
 use Rattle.ckd_image.proofs.Lists.{left_nil}
 use Rattle.ckd_image.proofs.Devices.{is_address, short_slot}

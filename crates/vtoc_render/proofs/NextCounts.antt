@@ -1,9 +1,8 @@
 -- The records that are used before and after a change.
-use Rattle.std.proofs.Common.{◌≡◌, inl, inr, ℕ, zero, suc, ◌+◌, ◌≤◌, nat_lt, List, [], ◌∷◌, ◌++◌, length, map, take, drop, Contains, Bool, true, false, cond, Option, Some, None, refl, sym, ap, subst, ◌∙◌, arith}
-use Rattle.std.specs.Prelude.{find, option_to_list, sum_by, is_some}
+use Rattle.std.proofs.Common.{◌≡◌, ℕ, suc, ◌+◌, ◌≤◌, List, [], ◌∷◌, ◌++◌, length, map, take, drop, Contains, Bool, true, false, Option, Some, None, refl, sym, ap, subst, ◌∙◌, arith}
+use Rattle.std.specs.Prelude.{option_to_list, sum_by, is_some}
 use Rattle.std.specs.List.{flat_map}
 use Rattle.std.specs.List.Sorted.{IsPermutation}
-use Rattle.std.proofs.lemmas.Bool.{both_ways}
 use Rattle.std.proofs.lemmas.List.{length-map}
 use Rattle.std.proofs.lemmas.List.Sums.{sum_by-append}
 use Rattle.std.proofs.lemmas.List.Sorted.{IsPermutation-sym, IsPermutation-trans, Contains-permutation}
@@ -13,7 +12,6 @@ use Rattle.vol_label.specs.declared.label.Label.{Label}
 use Rattle.volume_model.specs.declared.place.Place.{Place}
 use Rattle.volume_model.specs.declared.place.Placed.{Placed}
 use Rattle.volume_model.specs.declared.place.Vtoc.{Vtoc}
-use Rattle.volume_model.specs.Changed.{threes_for}
 use Rattle.volume_model.specs.Check.{records_of, same_bytes}
 use Rattle.volume_model.specs.Directory.{DirectoryRow, rows_of}
 use Rattle.volume_model.specs.Sound.{Slots}
@@ -22,12 +20,13 @@ use Rattle.vtoc_core.specs.declared.volume.Row.{Row}
 use Rattle.vtoc_core.specs.declared.volume.Volume.{Volume}
 use Rattle.vtoc_core.specs.Loaded.{row_in, records_for, HasItsName}
 use Rattle.vtoc_layout.specs.Layout.{SetRecords, Layout, IsLayoutOf, name_of, row_by, sets_of, layout_of}
-use Rattle.vtoc_layout.proofs.Distinct.{first_or_later, from_map, one_of_map, no_more, distinct_filter, from_filter, in_filter}
+use Rattle.vtoc_layout.proofs.Distinct.{from_map, one_of_map, no_more, distinct_filter, from_filter, in_filter}
 use Rattle.vtoc_layout.proofs.Uses.{all_distinct, is_four, four_there}
 use Rattle.vtoc_load.specs.Counted.{fours_of}
 use Rattle.vtoc_load.proofs.Counting.{counted}
 use Rattle.volume_model.specs.Dscbs.{format_of, is_f4}
 use Rattle.vtoc_layout.proofs.Layouts.{rows}
+use Rattle.vtoc_layout.proofs.Finds.{found_passes, none_passes}
 use Rattle.layout_found.specs.Sets.{set_named}
 use Rattle.layout_edit.specs.Change.{place_of}
 use Rattle.vtoc_allot.specs.declared.held.Held.{Held}
@@ -44,31 +43,6 @@ use Rattle.vtoc_render.specs.Written.{volume_with}
 use Rattle.vtoc_render.proofs.NextRows.{going, staying, found_goes, none_goes, IsPutAs}
 use Rattle.ckd_image.proofs.Lists.{contains_map}
 use Rattle.volume_model.proofs.Numbers.{bytes_itself, bytes_equal}
-
--- ---- the first that passes a test
-
-pub found_passes : {X : Type 0} (test : X → Bool) (xs : List X) (x : X) → find test xs ≡ Some x → Contains xs x × (test x ≡ true)
-found_passes test [] x e = absurd cc
-found_passes {X} test (y ∷ xs) x e = by (test y) refl e (found_passes test xs x)
-  where
-    by : (b : Bool) → test y ≡ b → cond b (Some y) (find test xs) ≡ Some x → (find test xs ≡ Some x → Contains xs x × (test x ≡ true)) → Contains (y ∷ xs) x × (test x ≡ true)
-    by true passes e later =
-        let same : y ≡ x = cc in
-        ((0, omega arith, same), ap test (sym same) ∙ passes)
-    by false fails e later =
-        let rest = later e in
-        ((suc rest.0.0, omega (arith, rest.0.1), rest.0.2), rest.1)
-
-pub none_passes : {X : Type 0} (test : X → Bool) (xs : List X) (x : X) → find test xs ≡ None → Contains xs x → test x ≡ true → ⊥
-none_passes test [] x e c passes = omega (arith, c.1)
-none_passes {X} test (y ∷ xs) x e c passes = by (test y) refl e (λ rest later. none_passes test xs x rest later passes)
-  where
-    by : (b : Bool) → test y ≡ b → cond b (Some y) (find test xs) ≡ None → (find test xs ≡ None → Contains xs x → ⊥) → ⊥
-    by true some e later = cc
-    by false fails e later = elim (first_or_later y x xs c) [
-      | inl same ↦ both_ways (test x) (ap test (sym same) ∙ fails) passes
-      | inr there ↦ later e there
-    ]
 
 -- ---- a data set's row and its records
 
@@ -197,18 +171,11 @@ module _ {head : Head} {label : Label} {unit : Slots} {before : Bool} {slots : L
 
 -- ---- the rows use so many
 
-three_if : (n : ℕ) → threes_for n ≡ one_if (nat_lt 3 n)
-three_if zero = refl
-three_if (suc zero) = refl
-three_if (suc (suc zero)) = refl
-three_if (suc (suc (suc zero))) = refl
-three_if (suc (suc (suc (suc n)))) = refl
-
 put_uses : (put row : Option Row) → IsPutAs put row → sum_by records_for (option_to_list row) ≡ one_if (is_some put) + one_if (has_three put)
 put_uses None None as_put = refl
 put_uses None (Some row) as_put = absurd as_put
 put_uses (Some given) None as_put = absurd as_put
-put_uses (Some given) (Some row) as_put = omega (arith, as_put.0.threes_are, three_if (length given.extents))
+put_uses (Some given) (Some row) as_put = omega (arith, as_put.0.threes_are)
 
 sum_with : (rows : List Row) (spot : Spot) (row : Option Row)
     → sum_by records_for (rows_with rows spot row) ≡ sum_by records_for (take spot.place rows) + (sum_by records_for (option_to_list row) + sum_by records_for (drop (behind spot) rows))

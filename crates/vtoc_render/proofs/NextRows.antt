@@ -3,6 +3,7 @@ use Rattle.std.proofs.Common.{◌≡◌, ◌≢◌, ℕ, zero, suc, ◌+◌, ◌
 use Rattle.std.specs.Prelude.{option_to_list, slice_index_or}
 use Rattle.std.specs.List.{slice_get}
 use Rattle.std.proofs.lemmas.List.{take-append-drop}
+use Rattle.std.proofs.Math.Numerals.{suc-eq-add-one}
 use Rattle.ckd_image.specs.Device.{heads_of}
 use Rattle.dscb_rec.specs.declared.field.Extent.{Extent}
 use Rattle.volume_model.specs.declared.extent.ExtentField.{ExtentField}
@@ -57,9 +58,6 @@ pub record IsGoing (rows : List Row) (name : List ℕ) (spot : Spot) : Type 0 wh
   pub gone_is : gone_from rows spot ≡ Some before
   pub rows_are : rows ≡ take spot.place rows ++ (before ∷ drop (behind spot) rows)
 
-one_on : (n : ℕ) → suc n ≡ n + 1
-one_on n = omega arith
-
 pub going : (rows : List Row) (name : List ℕ) (spot : Spot) → IsSpot rows name spot → spot.goes ≡ true → IsGoing rows name spot
 going rows name spot is goes =
     let has : HasNameAt rows spot.place name = is.goes_is.0 goes in
@@ -69,7 +67,7 @@ going rows name spot is goes =
       named = ap (λ (row : Row). row.name) (sym (at.at at.row)) ∙ has.1 at.row;
       there = at.there;
       gone_is = ap (λ (b : Bool). cond b (slice_get rows spot.place) None) goes ∙ at.got;
-      rows_are = at.parts ∙ ap (λ (n : ℕ). take spot.place rows ++ (at.row ∷ drop n rows)) (one_on spot.place ∙ sym (ap (λ (b : Bool). cond b (spot.place + 1) spot.place) goes));
+      rows_are = at.parts ∙ ap (λ (n : ℕ). take spot.place rows ++ (at.row ∷ drop n rows)) (suc-eq-add-one spot.place ∙ sym (ap (λ (b : Bool). cond b (spot.place + 1) spot.place) goes));
     }
 
 pub record IsStaying (rows : List Row) (spot : Spot) : Type 0 where

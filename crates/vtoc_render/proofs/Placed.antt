@@ -1,5 +1,5 @@
 -- What is put takes tracks that it may, and the volume afterwards is that of its layout.
-use Rattle.std.proofs.Common.{◌≡◌, ℕ, List, [], ◌∷◌, ◌++◌, length, map, take, Bool, nat_lt, Option, Some, None, refl, sym, ap, subst, ◌∙◌, arith, length-append}
+use Rattle.std.proofs.Common.{◌≡◌, ℕ, List, [], ◌∷◌, ◌++◌, length, map, take, Bool, Option, Some, None, refl, sym, ap, subst, ◌∙◌, arith, length-append}
 use Rattle.std.specs.List.{flat_map}
 use Rattle.std.specs.Prelude.{option_to_list}
 use Rattle.std.proofs.lemmas.List.{length-take}
@@ -10,7 +10,6 @@ use Rattle.free_map.specs.Runs.{AreMaximalRuns}
 use Rattle.vol_label.specs.declared.label.Label.{Label}
 use Rattle.volume_model.specs.declared.place.Place.{Place}
 use Rattle.volume_model.specs.declared.place.Placed.{Placed}
-use Rattle.volume_model.specs.Changed.{threes_for}
 use Rattle.volume_model.specs.declared.place.Vtoc.{Vtoc}
 use Rattle.volume_model.specs.Sound.{Slots}
 use Rattle.vtoc_core.specs.declared.volume.Row.{Row}
@@ -63,9 +62,6 @@ three_same extents None (Some three) is = absurd is
 three_same extents (Some place) None is = absurd is
 three_same extents (Some place) (Some three) is = refl
 
-three_if : (n : ℕ) → threes_for n ≡ one_if (nat_lt 3 n)
-three_if n = refl
-
 pub put_pair : (heads : ℕ) (put : Option Row) (allotment : Allotment) (set : Option SetWritten) (row : Option Row) → IsSetFor heads put allotment set → IsRowFor put set row
     → length (listed allotment.three) ≡ one_if (has_three put)
     → flat_map extents_in_set (sets_put set) ≡ flat_map (λ p. map field_of p.extents) (putting_of put) → ArePair row (sets_put set)
@@ -82,8 +78,7 @@ put_pair heads (Some given) allotment set row set_is row_is long extents =
     let extents_are : extents_in_set records ≡ map field_of put.extents =
     sym (nothing_more (extents_in_set records)) ∙ of_set ∙ nothing_more (map field_of given.extents) ∙ sym (fields_same 0 given.extents) ∙ sym (ap (map field_of) is.extents_are) in
     let threes_are : length (listed written.three) ≡ put.threes =
-    sym (ap (λ (set : SetWritten). length (listed set.three)) same) ∙ three_same given.extents allotment.three set_is.1.three set_is.4.three_is ∙ long ∙ sym (three_if (length given.extents))
-    ∙ sym is.threes_are in
+    sym (ap (λ (set : SetWritten). length (listed set.three)) same) ∙ three_same given.extents allotment.three set_is.1.three set_is.4.three_is ∙ long ∙ sym is.threes_are in
     subst (λ (row : Option Row). ArePair row (sets_put set)) (sym row_is.3)
     (records, ap sets_put row_is.2, λ i. record { format_1 = sym row_is.5 i; extents = extents_are i; threes = threes_are i })
   where

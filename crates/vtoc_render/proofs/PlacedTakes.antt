@@ -40,7 +40,8 @@ use Rattle.vtoc_render.specs.Change.{putting_of}
 use Rattle.vtoc_render.proofs.LoadsPlan.{nothing_more}
 use Rattle.vtoc_render.proofs.LoadsRows.{runs_put_are, ranges_put}
 use Rattle.vtoc_render.proofs.May.{put_fits}
-use Rattle.vtoc_render.proofs.NextCounts.{found_passes, none_passes, set_of_row}
+use Rattle.vtoc_layout.proofs.Finds.{found_passes, none_passes}
+use Rattle.vtoc_render.proofs.NextCounts.{set_of_row}
 use Rattle.vtoc_render.proofs.PlacedRows.{ArePair}
 use Rattle.vtoc_render.proofs.PlacedSpace.{runs_of_pair, left_unused}
 use Rattle.vtoc_render.proofs.PlacedTracks.{IsUnused, apart_if}

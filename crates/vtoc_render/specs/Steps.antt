@@ -1,5 +1,5 @@
 -- The steps of a change of a VTOC.
-use Rattle.std.specs.Prelude.{◌≡◌, ℕ, nat_lt, Bool, true, false, if◌then◌else◌, List, [], ◌∷◌, length, All, Option, Some, None, is_some, filter, slice_get}
+use Rattle.std.specs.Prelude.{◌≡◌, ℕ, Bool, true, false, if◌then◌else◌, List, [], ◌∷◌, length, All, Option, Some, None, is_some, filter, slice_get}
 use Rattle.ckd_image.specs.Device.{heads_of}
 use Rattle.dscb_rec.specs.declared.field.Extent.{Extent}
 use Rattle.volume_model.specs.declared.place.Place.{Place}
@@ -9,6 +9,7 @@ use Rattle.volume_model.specs.Space.{is_run}
 use Rattle.vtoc_core.specs.declared.volume.Row.{Row}
 use Rattle.vtoc_core.specs.declared.volume.Volume.{Volume}
 use Rattle.vtoc_core.specs.Loaded.{field_of}
+use Rattle.volume_model.specs.Changed.{needs_three}
 use Rattle.volume_model.specs.Unit.{fives_for}
 use Rattle.vtoc_allot.specs.Allotted.{listed}
 use Rattle.vtoc_allot.specs.declared.held.Wanted.{Wanted}
@@ -45,10 +46,10 @@ gone_from rows spot = if spot.goes then slice_get rows spot.place else None
 abbrev pub AreBelow : Volume → List Extent → Type 0
 AreBelow volume extents = All (λ extent. is_run (heads_of volume.device) volume.usable (field_of extent) ≡ true) extents
 
--- a data set that is put has four extents or more
+-- a data set that is put needs a format 3
 abbrev pub has_three : Option Row → Bool
 has_three None = false
-has_three (Some row) = nat_lt 3 (length row.extents)
+has_three (Some row) = needs_three (length row.extents)
 
 -- ---- what is written
 

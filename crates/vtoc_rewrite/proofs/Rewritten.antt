@@ -26,7 +26,7 @@ use Rattle.vtoc_write.specs.declared.blocks.Block.{Block}
 use Rattle.vtoc_write.specs.Edited.{edit_of, tracks_after, text_after}
 use Rattle.vtoc_write.specs.Written.{block_of, slot_with, AreRewritten, IsBlockFor}
 use Rattle.vtoc_rewrite.specs.Rewrite.{AreSlotsAfter, vtoc_with}
-use Rattle.vtoc_rewrite.proofs.Addresses.{address_fits, one_address}
+use Rattle.volume_model.proofs.Addresses.{address_fits, one_address}
 use Rattle.vtoc_rewrite.proofs.Fields.{SaysSameVolume, same_volume}
 use Rattle.vtoc_rewrite.proofs.Records.{edited, edited_first, edited_shaped, edited_bytes}
 use Rattle.vtoc_rewrite.proofs.Tracks.{after_long, after_each, reading_after, text_then}

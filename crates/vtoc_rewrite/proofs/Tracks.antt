@@ -12,7 +12,7 @@ use Rattle.vtoc_write.specs.declared.blocks.Block.{Block}
 use Rattle.vtoc_write.specs.Edited.{dscbs_after, tracks_after, text_after}
 use Rattle.vtoc_write.specs.Written.{slot_with, IsBlockFor}
 use Rattle.vtoc_write.proofs.Tracks.{keeps_track}
-use Rattle.vtoc_rewrite.proofs.Addresses.{one_text_anywhere}
+use Rattle.volume_model.proofs.Addresses.{one_text_anywhere}
 use Rattle.ckd_image.proofs.Devices.{short_slot}
 
 abbrev Dscbs : Type 0

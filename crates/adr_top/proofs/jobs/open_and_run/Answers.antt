@@ -16,7 +16,7 @@ returns-in-Ok-clause-ends g c =
     record {
       run = opens_run g.P.Pool c.args.pool session plan held c.args.today _ out left does.run (λ told facts units same settled. does.facts told facts units same settled) c.run_script.ensures.ends;
       how = inr (runs_text g.P.Pool c.args.pool session plan held c.args.today _ out left does.run (λ told facts units same settled. does.facts told facts units same settled)
-          c.run_script.ensures.ends c.args.serials.now (λ told. does.allowed told) (λ told. does.runs told));
+          c.run_script.ensures.ends c.args.serials.now (λ told. does.allowed told) (λ told. does.runs told) (λ told. does.closed told));
     }
 
 pub returns-in-Err-clause-ends : goal.returns-in-Err-clause-ends

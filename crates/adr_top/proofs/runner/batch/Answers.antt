@@ -1,7 +1,7 @@
 use Rattle.std.proofs.Common.{refl}
 use Rattle.move_core.proofs.Running.{run_stops}
 use Rattle.job_script.specs.Ends.{after_of}
-use Rattle.adr_top.proofs.Endings.{code_of_run, headline_of_run, shape_of_run}
+use Rattle.adr_top.proofs.Endings.{code_of_run, headline_of_run, shape_of_run, still_of_run}
 use Rattle.adr_top.proofs.runner.batch.Goals as goal
 
 pub returns-clause-ended : goal.returns-clause-ended
@@ -21,3 +21,9 @@ returns-clause-stops g c = λ told none. run_stops (returns-clause-headline g c 
 
 pub returns-clause-shape : goal.returns-clause-shape
 returns-clause-shape g c = rw (c.hand_back.ensures.pool) (shape_of_run g.P.Pool _ c.args.pool (after_of c.run_words-left.result) c.run_words-left.ensures.ends)
+
+pub returns-clause-still : goal.returns-clause-still
+returns-clause-still g c =
+    let back = c.hand_back.ensures in
+    rw (back.pool, back.steps, back.pending)
+    (λ told not empty never. still_of_run g.P.Pool _ c.args.pool (after_of c.run_words-left.result) c.run_words-left.ensures.ends not told empty never)

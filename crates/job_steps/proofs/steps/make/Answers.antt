@@ -1,5 +1,12 @@
-use Rattle.job_steps.proofs.Runs.{made_run, made_after}
+use Rattle.std.proofs.lemmas.Result.{err_from_is_err_and}
+use Rattle.job_steps.proofs.Runs.{copy_failed, made_run, made_after}
 use Rattle.job_steps.proofs.steps.make.Goals as goal
+
+pub returns-in_err-copy-clause-run : goal.returns-in_err-copy-clause-run
+returns-in_err-copy-clause-run g c =
+    let copied = c.in_err-copy.ensures in
+    let p = err_from_is_err_and c.from_residual.result c.from_residual.ensures.1 in
+    rw (p.1, p.2) (copy_failed g.P.Pool c.args.planned c.in_err-copy.field-0.0 copied.run copied.pending)
 
 pub returns-clause-run : goal.returns-clause-run
 returns-clause-run g c =

@@ -1,11 +1,17 @@
-use Rattle.move_core.proofs.Running.{run_then, run_quiet, run_demoted, switch_done, switch_failed}
+use Rattle.move_core.proofs.Running.{run_then, run_still, run_quiet, run_behind, run_demoted, switch_done, switch_failed}
 use Rattle.move_core.proofs.laws.running_laws.Goals as goal
 
 pub returns-clause-then : goal.returns-clause-then
 returns-clause-then g c = λ steps more pending. run_then
 
+pub returns-clause-still : goal.returns-clause-still
+returns-clause-still g c = run_still
+
 pub returns-clause-quiet : goal.returns-clause-quiet
 returns-clause-quiet g c = λ may. run_quiet
+
+pub returns-clause-behind : goal.returns-clause-behind
+returns-clause-behind g c = λ steps pending. run_behind
 
 pub returns-clause-demoted : goal.returns-clause-demoted
 returns-clause-demoted g c = λ steps step. run_demoted

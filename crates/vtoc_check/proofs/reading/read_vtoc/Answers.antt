@@ -25,7 +25,7 @@ returns-clause-vtoc c =
     let bytes = c.in_ok-bytes.bytes in
     let front = c.in_ok-bytes.ensures.front in
     let run = c.requires.run in
-    let same = same_run head slots pointer c.args.run bytes (omega arith, omega arith) (slot_short head.device c.args.run c.args.slots.now (track_at (heads_of head.device) pointer.at)) run front in (
+    let same = same_run head slots pointer c.args.run bytes (slot_short head.device c.args.run c.args.slots.now (track_at (heads_of head.device) pointer.at)) run front in (
       record {
         stands = record {
           bytes = bytes;

@@ -1,5 +1,5 @@
-use Rattle.std.proofs.Common.{◌≡◌, ◌∙◌, [], List, length, take, sym, ap, subst, arith}
-use Rattle.std.proofs.lemmas.List.{nil_from_length, take_all}
+use Rattle.std.proofs.Common.{◌≡◌, ◌∙◌, ℕ, [], List, length, take, sym, ap, subst, arith}
+use Rattle.std.proofs.lemmas.List.{nil_from_length, take_all, take_min}
 use Rattle.std.proofs.lemmas.Result.{IfOk-weaker}
 use Rattle.dasd_pool.specs.declared.calls.Call.{Call}
 use Rattle.dasd_pool.specs.declared.units.UnitText.{UnitText}
@@ -8,6 +8,7 @@ use Rattle.dasd_pool.specs.Calls.{first_state}
 use Rattle.dasd_pool.specs.Memory.{MemoryView, fresh, state_of}
 use Rattle.dasd_pool.specs.Tears.{IsTornFrom}
 use Rattle.dasd_pool.proofs.Effects.{fresh_state}
+use Rattle.dasd_pool.proofs.Left.{left_of}
 use Rattle.dasd_pool.proofs.Tearing.{torn_left, torn_first}
 use Rattle.dasd_pool.proofs.memory.MemoryPool.crash.Goals as goal
 
@@ -34,3 +35,21 @@ pub returns-clause-state : goal.returns-clause-state
 returns-clause-state c =
     IfOk-weaker c.new-2.result (λ m. m ≡ fresh c.in_ok-units.units.items c.new.result.items c.keep.result) _
     (λ m is. ap state_of is ∙ fresh_state c.keep.result c.in_ok-units.units.items c.new.result.items ∙ sym (ap (λ (v : MemoryView). first_state v.units) is)) c.new-2.ensures.fresh
+
+pub returns-clause-left : goal.returns-clause-left
+returns-clause-left c =
+    IfOk-weaker c.new-2.result (λ m. m ≡ fresh c.in_ok-units.units.items c.new.result.items c.keep.result) _ (λ m is some since le.
+    let units : c.deref.result.now ≡ c.args.self.now.units = c.deref.ensures.value ∙ ap (λ (v : MemoryView). v.units) c.self.view_is in
+    let calls : c.calls-kept.result.now ≡ c.args.self.now.calls = c.calls-kept.ensures ∙ ap (λ (v : MemoryView). v.calls) c.self.view_is in
+    let front : take c.min-count.result c.calls-kept.result.now ≡ take c.args.calls c.args.self.now.calls =
+    ap (λ (n : ℕ). take n c.calls-kept.result.now) c.min-count.ensures ∙ take_min c.args.calls c.calls-kept.result.now ∙ ap (λ (cs : List Call). take c.args.calls cs) calls in
+    let new : m.units ≡ c.in_ok-units.units.items = ap (λ (v : MemoryView). v.units) is in
+    let own : IsTornFrom c.args.tear c.deref.result.now (take c.min-count.result c.calls-kept.result.now) m.units =
+    subst (λ (us : List UnitText). IsTornFrom c.args.tear c.deref.result.now (take c.min-count.result c.calls-kept.result.now) us) (sym new) c.in_ok-units.ensures.torn in
+    let torn : IsTornFrom c.args.tear c.args.self.now.units (take c.args.calls c.args.self.now.calls) m.units =
+    subst (λ (us : List UnitText). IsTornFrom c.args.tear us (take c.args.calls c.args.self.now.calls) m.units) units
+    (subst (λ (cs : List Call). IsTornFrom c.args.tear c.deref.result.now cs m.units) front own) in
+    let state : state_of m ≡ first_state m.units =
+    ap state_of is ∙ fresh_state c.keep.result c.in_ok-units.units.items c.new.result.items ∙ sym (ap (λ (v : MemoryView). first_state v.units) is) in
+    left_of c.args.tear c.args.self.now m c.args.calls torn state some since le)
+    c.new-2.ensures.fresh

@@ -7,7 +7,8 @@ use Rattle.job_copies.specs.unit_steps.Plans.{IsLoadedAt}
 use Rattle.job_steps.specs.unit_session.Sessions.{IsSameSession}
 use Rattle.job_ops.specs.Reshaping.{step_of, FitsReshape}
 use Rattle.job_ops.proofs.ReshapeUnits.{reshape_planned}
-use Rattle.job_ops.proofs.ReshapeEnds.{ends_same, lacks_change, room_plain, steps_plain, same_facts}
+use Rattle.job_ops.proofs.ReshapeEnds.{ends_same, lacks_change, room_plain, steps_plain}
+use Rattle.job_ops.proofs.SameSessions.{keeps_same}
 use Rattle.job_ops.proofs.ReshapeParts.{ready_at, full_at, ends_before, ends_full, ends_in, ends_done, change_behind}
 use Rattle.job_ops.proofs.reshaping.Reshape.carry_out.Goals as goal
 
@@ -59,7 +60,7 @@ returns-in_err-make g c =
     rw (p.1, p.2)
     (ends_in g.P.Pool c.args.session reshape c.args.steps.now.items c.make.new.steps.items []
     (room_plain g.P.Pool reshape c.look_at.ensures plan c.if-self.false c.requires.repair c.room_laws.ensures.fits at.next)
-    c.in-Ready.planned step [] c.in_err-make.field-0.0 (steps_plain reshape c.if-self.false) at.step_is c.in_err-make.ensures.steps (same_facts g.P.Pool at.same) at.run
+    c.in-Ready.planned step [] c.in_err-make.field-0.0 (steps_plain reshape c.if-self.false) at.step_is c.in_err-make.ensures.steps (keeps_same g.P.Pool at.same) at.run
     c.in_err-make.ensures.run c.in_err-make.ensures.cut)
 
 pub returns : goal.returns
@@ -71,6 +72,6 @@ returns g c =
     ends_done g.P.Pool c.args.session reshape c.args.steps.now.items c.make.new.steps.items []
     (room_plain g.P.Pool reshape c.look_at.ensures plan c.if-self.false c.requires.repair c.room_laws.ensures.fits at.next)
     c.in-Ready.planned step c.in_ok-make.field-0 (steps_plain reshape c.if-self.false)
-    c.in_ok-make.ensures.steps (same_facts g.P.Pool at.same) at.run
+    c.in_ok-make.ensures.steps (keeps_same g.P.Pool at.same) at.run
     c.in_ok-make.ensures.run c.in_ok-make.ensures.after
     (change_behind g.P.Pool c.args.session reshape c.in-Ready.planned c.in_ok-make.field-0 c.requires.may at c.in_ok-make.ensures.after)

@@ -6,7 +6,8 @@ use Rattle.move_core.specs.declared.steps.Step.TheVariants as steps
 use Rattle.move_core.proofs.Running.{run_then, run_halted}
 use Rattle.job_ops.specs.Reshaping.{step_of}
 use Rattle.job_ops.proofs.ReshapeUnits.{reshape_planned, repair_planned}
-use Rattle.job_ops.proofs.ReshapeEnds.{lacks_repair, room_repaired, steps_repaired, same_facts, facts_then}
+use Rattle.job_ops.proofs.ReshapeEnds.{lacks_repair, room_repaired, steps_repaired}
+use Rattle.job_ops.proofs.SameSessions.{keeps_same, keeps_then}
 use Rattle.job_ops.proofs.ReshapeParts.{ready_at, full_at, ends_before, ends_full, ends_between, ends_in, ends_done, stays_all, may_repaired, facts_repaired, not_full}
 use Rattle.job_ops.proofs.reshaping.Reshape.repair_and_change.Goals as goal
 
@@ -35,7 +36,7 @@ returns-in_err-session g c =
     let p = err_from_is_err_and c.from_residual-in_err-session.result c.from_residual-in_err-session.ensures.1 in
     rw (p.1, p.2)
     (ends_in g.P.Pool c.args.session reshape c.args.steps.now.items c.carry_out.new.steps.items [] room c.in-Ready.planned (steps.Repair reshape.unit)
-    (step_of reshape ∷ []) c.in_err-session.field-0.0 (steps_repaired reshape c.requires.repair) at.step_is c.in_err-session.ensures.steps (same_facts g.P.Pool at.same) at.run
+    (step_of reshape ∷ []) c.in_err-session.field-0.0 (steps_repaired reshape c.requires.repair) at.step_is c.in_err-session.ensures.steps (keeps_same g.P.Pool at.same) at.run
     c.in_err-session.ensures.run c.in_err-session.ensures.cut)
 
 pub attempt-requires-clause-may : goal.attempt-requires-clause-may
@@ -77,7 +78,7 @@ returns-in_err-make-in-Ready-2 g c =
     rw (p.1, p.2)
     (ends_in g.P.Pool c.args.session reshape c.args.steps.now.items c.make.new.steps.items (steps.Repair reshape.unit ∷ []) room c.in-Ready-2.planned step [] cut.field-0.0
     (steps_repaired reshape c.requires.repair) behind.step_is (cut.ensures.steps ∙ append-nil c.carry_out.new.steps.items ∙ c.in_ok-session.ensures.steps)
-    (facts_then g.P.Pool facts (same_facts g.P.Pool behind.same)) (run_halted run (tt {0}) behind.run) cut.ensures.run cut.ensures.cut)
+    (keeps_then g.P.Pool facts (keeps_same g.P.Pool behind.same)) (run_halted run (tt {0}) behind.run) cut.ensures.run cut.ensures.cut)
 
 pub returns-in_ok-make-in-Ready-2 : goal.returns-in_ok-make-in-Ready-2
 returns-in_ok-make-in-Ready-2 g c =
@@ -97,7 +98,7 @@ returns-in_ok-make-in-Ready-2 g c =
     (steps_repaired reshape c.requires.repair)
     (done.ensures.steps ∙ ap (λ (list : List Step). list ++ (step ∷ [])) c.in_ok-session.ensures.steps
     ∙ append_assoc before (steps.Repair reshape.unit ∷ []) (step ∷ []))
-    (facts_then g.P.Pool facts (same_facts g.P.Pool behind.same)) (run_halted run (tt {0}) behind.run)
+    (keeps_then g.P.Pool facts (keeps_same g.P.Pool behind.same)) (run_halted run (tt {0}) behind.run)
     done.ensures.run done.ensures.after
     (stays_all g.P.Pool c.args.session reshape c.in-Ready.planned next at c.in_ok-session.ensures.after c.in-Ready-2.planned done.field-0
     (may_repaired g.P.Pool c.args.session reshape c.in-Ready.planned next at c.in_ok-session.ensures.after c.look_at-2.ensures c.requires.may) behind done.ensures.after)

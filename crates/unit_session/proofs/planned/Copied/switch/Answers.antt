@@ -1,5 +1,6 @@
 use Rattle.std.proofs.Common.{◌≡◌, ℕ, ◌<◌, List, All, length, sym, ap, subst, ◌∙◌}
 use Rattle.dasd_pool.specs.Disk.{Shape, IsSynced}
+use Rattle.redo_core.specs.declared.entries.Entry.{Entry}
 use Rattle.redo_core.specs.Reading.{journal_of}
 use Rattle.volume_change.specs.declared.change.Change.{Change}
 use Rattle.unit_steps.specs.vtoc_render.declared.change.Rendered.{Rendered}
@@ -10,9 +11,10 @@ use Rattle.unit_steps.specs.Loaded.{AreLoaded, AreVtocsOf}
 use Rattle.unit_steps.specs.Plans.{IsPlan}
 use Rattle.unit_steps.specs.Rendering.{AreReady, WereRendered, VtocsAfter, units_after}
 use Rattle.unit_steps.proofs.Small.{plans_small}
+use Rattle.unit_steps.proofs.Taking.{entries_below}
 use Rattle.unit_session.specs.Planned.{MayPatch}
 use Rattle.unit_session.specs.Sessions.{SessionView}
-use Rattle.unit_session.proofs.Loading.{still_free}
+use Rattle.unit_session.proofs.Loading.{free_after}
 use Rattle.unit_session.proofs.Sparing.{rendered_spared}
 use Rattle.unit_session.proofs.Switched.{are_there, may_patch, committed_placed, session_after, volumes_after}
 use Rattle.unit_session.proofs.planned.Copied.switch.Goals as goal
@@ -29,6 +31,9 @@ invariant_of-result g c =
     subst (λ (v : SessionView _). WereRendered v.units v.vtocs p.plan.changes p.rendered.items) (sym c.session.view_is) c.self.invariant.rendered in
     let plan : IsPlan s.units.items p.plan = subst (λ (v : SessionView _). IsPlan v.units p.plan) (sym c.session.view_is) c.self.invariant.plan in
     let small = plans_small s.units.items p.plan plan in
+    let below : All (λ entry. entry.unit < journal_of shape) p.entries =
+    subst (λ (l : List Entry). All (λ entry. entry.unit < journal_of shape) l) (sym c.self.invariant.entries_are)
+    (entries_below shape s.units.items s.vtocs.items inv.2 p.plan.changes p.rendered.items were) in
     let after : VtocsAfter s.units.items s.vtocs.items p.plan.changes p.rendered.items c.patched-vtocs.result.items =
     subst (λ (l : List UnitState). VtocsAfter l s.vtocs.items p.plan.changes p.rendered.items c.patched-vtocs.result.items) c.deref.ensures.value
     (subst (λ (l : List (ℕ × Change)). VtocsAfter c.deref.result.now s.vtocs.items l p.rendered.items c.patched-vtocs.result.items) c.as_slice.ensures
@@ -44,7 +49,7 @@ invariant_of-result g c =
     units inv.2 inv.3 were small.0 small.2 after (g.P.Pool.disk s.journal.pool).state (g.P.Pool.disk next.pool).state p.entries c.self.invariant.entries_are
     (committed_placed shape (g.P.Pool.disk s.journal.pool).state (g.P.Pool.disk next.pool).state s.journal.room next.room s.journal.control next.control s.journal.fills next.fills p.entries
     (c.control-control.ensures.says told) (does.committed told) (does.rest told)) (inv.4 told) (inv.5 told) in (
-      still_free does.shape does.same.1 does.same.2 inv.0,
+      free_after does.shape below does.status inv.0,
       inv.1 ∙ ap (λ (s : Shape). journal_of s) (sym does.shape),
       parts.0,
       parts.1,

@@ -17,7 +17,7 @@ returns-in-Err-clause-run g c =
     let stop = c.in-Err.stop in
     let does = c.in-Err.ensures in
     run_refused does.shape does.faults does.any_moment (pool_cause stop.cause (Rose (g.P.Pool.faults c.args.pool) (g.P.Pool.faults stop.pool)) does.cause)
-    (λ told end. (does.unwritten told end).touches)
+    (λ told end. (does.unwritten told end).touches) does.runs
 
 pub invariant_of-result : goal.invariant_of-result
 invariant_of-result g c =
@@ -39,7 +39,7 @@ pub returns-in-Ok-loaded-clause-run : goal.returns-in-Ok-loaded-clause-run
 returns-in-Ok-loaded-clause-run g c =
     let does = c.in-Ok.ensures in
     let reads = c.loaded.ensures.reads in
-    run_then (run_opened does.shape does.faults does.any_moment (tt {0}) does.opened) (tt {0}) (run_still reads.shape reads.later (λ not. absurd (not tt)) reads.runs)
+    run_then (run_opened does.shape does.faults does.any_moment (tt {0}) does.opened does.runs) (tt {0}) (run_still reads.shape reads.later (λ not. absurd (not tt)) reads.runs)
 
 pub returns-in-Ok-loaded-clause-units : goal.returns-in-Ok-loaded-clause-units
 returns-in-Ok-loaded-clause-units g c told facts models same settled =
@@ -60,6 +60,12 @@ returns-in-Ok-loaded-clause-facts g c told facts models same settled =
     let reads = c.loaded.ensures.reads in
     registered (does.opened told) (reads.shape ∙ does.shape) (reads.same told) c.in-Ok-loaded.ensures.names reads.status.room same settled
 
+pub returns-in-Ok-loaded-clause-closed : goal.returns-in-Ok-loaded-clause-closed
+returns-in-Ok-loaded-clause-closed g c told =
+    let does = c.in-Ok.ensures in
+    let reads = c.loaded.ensures.reads in
+    (still_rest reads.shape (reads.same told) (still_rest does.shape refl (does.rest told))).closed
+
 pub returns-in-Ok-loaded-clause-runs : goal.returns-in-Ok-loaded-clause-runs
 returns-in-Ok-loaded-clause-runs g c told = opened_reads (c.in-Ok.ensures.runs told) (c.loaded.ensures.reads.runs told)
 
@@ -71,7 +77,7 @@ returns-in-Err-loaded-clause-run g c =
     let before = g.P.Pool.faults c.args.pool in
     let mid = g.P.Pool.faults c.in-Ok.journal.pool in
     let after = g.P.Pool.faults c.loaded.new.journal.pool in
-    let opens = run_opened does.shape does.faults does.any_moment (tt {0}) does.opened in
+    let opens = run_opened does.shape does.faults does.any_moment (tt {0}) does.opened does.runs in
     rw (c.into_pool.ensures)
     (run_less (λ other. tt)
     (pool_cause cause (Rose before after) (λ is. rose_since before mid after does.faults (c.in-Err-loaded.ensures.cause is)))

@@ -1,4 +1,4 @@
--- What an image stands for rests on the blocks that are there.
+-- What an image stands for rests on the blocks that are there, and so does whether a slide or a fill is open.
 use Rattle.std.proofs.Common.{◌≡◌, inl, inr, ℕ, ◌+◌, ◌<◌, ◌≤◌, List, length, Bool, refl, sym, ap, subst, ◌∙◌, arith}
 use Rattle.std.specs.Prelude.{if◌then◌else◌}
 use Rattle.std.proofs.lemmas.Bool.{cases_Bool}
@@ -6,7 +6,9 @@ use Rattle.dasd_pool.specs.Disk.{Image, Shape}
 use Rattle.redo_core.specs.declared.entries.Entry.{Entry}
 use Rattle.redo_core.specs.declared.target.Target.{Target}
 use Rattle.redo_core.specs.Format.{is_open, directory_in}
+use Rattle.redo_core.specs.Faults.{IsAllClosed}
 use Rattle.redo_core.specs.Reading.{journal_of, overlay, placed, body_for, Reads, IsDirectory}
+use Rattle.redo_core.proofs.Closed.{closed_by}
 use Rattle.redo_core.proofs.Crash.{closed_overlay, placed_agree}
 use Rattle.redo_core.proofs.Transitions.{images_below}
 use Rattle.redo_core.proofs.Readings.{reads_as}
@@ -61,3 +63,8 @@ module _ (facts : Facts) (image other : Image) (units : List UnitModel) (stands 
   pub stands_there : Stands facts other units
   stands_there = stands_kept facts image units stands other (overlay shape.block_size j other) there_reads
       (λ u b less rests. overlay_same u b (same u b (volume_there u less) rests.2) ∙ sym (stands.reads.volumes_are u b less))
+
+  -- and no slide or fill is open in it where none was
+  pub closed_there : IsAllClosed facts.shape image → IsAllClosed facts.shape other
+  closed_there closed =
+      closed_by shape other (record stands.reading { volumes = overlay shape.block_size j other }) there_reads (closed stands.reading stands.reads)
