@@ -1,6 +1,6 @@
 //! A run of a text.
 
-ghost use Rattle.std.specs.Prelude.{◌≡◌, ◌⊎◌, IfOk, List};
+ghost use Rattle.std.specs.Prelude.{◌≡◌, IfOk};
 ghost use Rattle.by_rules.specs.Day.{IsToday};
 ghost use Rattle.dump_fmt.specs.Outs.{files_of};
 ghost use Rattle.redo_core.specs.Opening.{AreNames};

@@ -1,9 +1,7 @@
 //! The texts of a run.
 
-ghost use Rattle.std.specs.Prelude.{◌≡◌, ◌≢◌, ◌⊎◌, [], ◌≤◌, List, length, IfOk, IfErr, OnOk, None, Some, true};
-ghost use Rattle.enq_table.specs.declared.hold.Hold.{Hold};
-ghost use Rattle.enq_table.specs.HeldText.{lines_of, TakesAll, IsTextFault};
-ghost use Rattle.sysin_lang.specs.Flow.{Plan};
+ghost use Rattle.std.specs.Prelude.{◌≢◌, [], ◌≤◌, length, IfOk, IfErr, None, Some, true};
+ghost use Rattle.enq_table.specs.HeldText.{lines_of, TakesAll};
 ghost use Rattle.sysin_lang.specs.Script.{plan_of_script};
 ghost use Rattle.sysin_text.specs.Tokens.{tokens_of};
 ghost use Rattle.sysin_read.specs.Statement.{IsText as IsSysinText};

@@ -1,6 +1,6 @@
 //! A data set's format 1.
 
-ghost use Rattle.std.specs.Prelude.{◌≡◌, ◌≢◌, ◌≤◌, ◌<◌, ◌+◌, ◌*◌, All, IfSome, length};
+ghost use Rattle.std.specs.Prelude.{◌≡◌, ◌≤◌, ◌<◌, ◌+◌, ◌*◌, All, IfSome, length};
 ghost use Rattle.volume_model.specs.declared.format.Format.TheVariants.{F1};
 ghost use Rattle.volume_model.specs.Dscbs.{format_of};
 ghost use Rattle.dscb_made.specs.Slots.{first_offset, IsThere, AreSlotsPut};

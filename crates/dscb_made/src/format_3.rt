@@ -1,6 +1,6 @@
 //! A data set's format 3.
 
-ghost use Rattle.std.specs.Prelude.{◌≡◌, ◌≢◌, ◌≤◌, ◌<◌, ◌+◌, ◌*◌, All, length};
+ghost use Rattle.std.specs.Prelude.{◌≡◌, ◌≤◌, ◌<◌, ◌+◌, ◌*◌, All, length};
 ghost use Rattle.dscb_made.specs.Slots.{further_offset, IsThere, AreSlotsPut};
 ghost use Rattle.dscb_made.specs.Made.{IsFormat3With};
 

@@ -1,6 +1,6 @@
 //! The format 4 of a VTOC.
 
-ghost use Rattle.std.specs.Prelude.{◌≡◌, ◌≤◌, min};
+ghost use Rattle.std.specs.Prelude.{◌≡◌, min};
 ghost use Rattle.volume_model.specs.declared.format.Format.TheVariants.{F4};
 ghost use Rattle.volume_model.specs.Dscbs.{format_of};
 ghost use Rattle.dscb_made.specs.Made.{IsStatedFormat4, IsMarkedFormat4};

@@ -1,5 +1,5 @@
 -- Names that are kept as their characters are.
-use Rattle.std.proofs.Common.{MatchBool, All, true, ◌≡◌, ℕ, ◌-◌, ◌<◌, Bool, false, IsTrue, ◌↔◌, List, [], ◌∷◌, length, replicate, refl, sym, ap, subst, ◌∙◌, arith}
+use Rattle.std.proofs.Common.{MatchBool, All, true, ◌≡◌, ℕ, ◌-◌, ◌<◌, Bool, false, IsTrue, ◌↔◌, List, length, replicate, refl, sym, ap, subst, ◌∙◌, arith}
 use Rattle.std.specs.Char.{to_ascii_uppercase}
 use Rattle.std.specs.List.{AllWithin, HoldsAt}
 use Rattle.std.proofs.lemmas.Bool.{false≢true}

@@ -1,6 +1,6 @@
 //! Names of the code page as they are printed.
 
-ghost use Rattle.std.specs.Prelude.{◌≡◌, ◌<◌, ◌≤◌, All, IfOk, length, string_bytes, unwrap_or};
+ghost use Rattle.std.specs.Prelude.{◌≡◌, ◌<◌, ◌≤◌, IfOk, length, string_bytes, unwrap_or};
 ghost use Rattle.vol_label.specs.CodePage.{ascii_of};
 ghost use Rattle.job_lines.specs.Names.{trimmed as trimmed_bytes, printed};
 

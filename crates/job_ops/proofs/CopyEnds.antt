@@ -31,7 +31,7 @@ use Rattle.job_ops.specs.declared.transfer.Transfer.{Transfer}
 use Rattle.job_ops.specs.declared.transfer.Transferred.{Transferred}
 use Rattle.job_ops.specs.declared.transfer.Transferred.TheVariants as variants
 use Rattle.job_ops.specs.Acts.{acts_of, steps_of_transfer, MayTransfer, AllFit, SomeLacks, AreKnown, EndsTransfer}
-use Rattle.job_ops.specs.Copy.{Request, CopiesSet, Copies, PreventsCopy, IsNewName, all_repairs, all_rebuilt}
+use Rattle.job_ops.specs.Copy.{Request, CopiesSet, PreventsCopy, IsNewName, all_repairs, all_rebuilt}
 use Rattle.job_ops.specs.Copying.{request_in, IsThere, IsCase, GoesSoFar, IsReplacedIn, ArePlacedIn, HasGoodTexts, AreLines, IsTransferOf, StaysCopyable}
 use Rattle.job_ops.specs.Ends.{ForUnits, Ends, LeavesFacts}
 use Rattle.job_ops.specs.Reshaping.{CutKeepsFacts}

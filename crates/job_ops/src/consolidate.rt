@@ -1,6 +1,6 @@
 //! CONSOLIDATE: the extents of a data set become one.
 
-ghost use Rattle.std.specs.Prelude.{◌≡◌, ◌<◌, ◌∷◌, [], IsTrue, IfOk, IfSome, IfNone, None};
+ghost use Rattle.std.specs.Prelude.{◌<◌, ◌∷◌, [], IsTrue, IfOk, IfSome, IfNone, None};
 ghost use Rattle.redo_core.specs.Reading.{journal_of};
 ghost use Rattle.volume_model.specs.Unit.{DataSet, OnlineVolume};
 ghost use Rattle.vtoc_core.specs.declared.volume.Row.{Row as RowOf};

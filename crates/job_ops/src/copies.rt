@@ -6,7 +6,7 @@ ghost use Rattle.dsn_filter.specs.Dsn.{IsDsn};
 ghost use Rattle.dsn_filter.specs.Rename.{IsRename};
 ghost use Rattle.redo_core.specs.Reading.{journal_of};
 ghost use Rattle.volume_model.specs.Pinned.{IsNameOf};
-ghost use Rattle.volume_model.specs.Unit.{DataSet, OnlineVolume, online};
+ghost use Rattle.volume_model.specs.Unit.{OnlineVolume, online};
 ghost use Rattle.vtoc_core.specs.declared.volume.Row.{Row as RowOf};
 ghost use Rattle.job_copies.specs.unit_steps.Plans.{IsLoadedAt, HasRow};
 ghost use Rattle.vtoc_core.specs.declared.volume.Volume.{Volume as VolumeOf};

@@ -1,6 +1,6 @@
 //! RELEASE: the unused tracks of a data set are given back.
 
-ghost use Rattle.std.specs.Prelude.{◌≡◌, ◌<◌, ◌∷◌, [], IsTrue, IfOk, None};
+ghost use Rattle.std.specs.Prelude.{◌<◌, ◌∷◌, [], IsTrue, IfOk, None};
 ghost use Rattle.redo_core.specs.Reading.{journal_of};
 ghost use Rattle.job_ops.specs.declared.task.Task.TheVariants as tasks;
 ghost use Rattle.job_ops.specs.Asked.{MayProcess, IsCandidate, IsSeen, IsReasonBefore};

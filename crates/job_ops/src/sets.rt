@@ -1,6 +1,6 @@
 //! Statements that go through the data sets of a volume that a filter takes.
 
-ghost use Rattle.std.specs.Prelude.{◌≡◌, ◌<◌, ◌∷◌, [], List, All, IfOk, slice_get, Some};
+ghost use Rattle.std.specs.Prelude.{◌≡◌, ◌<◌, ◌∷◌, [], All, IfOk, slice_get, Some};
 ghost use Rattle.by_rules.specs.Day.{IsToday};
 ghost use Rattle.redo_core.specs.Reading.{journal_of};
 ghost use Rattle.volume_model.specs.Unit.{OnlineVolume, online};

@@ -11,7 +11,7 @@ ghost use Rattle.job_copies.specs.unit_steps.Plans.{HasRow};
 ghost use Rattle.job_copies.specs.step_plans.Plans.{IsSound, ArePlacesOn, IsPlanForBoth, IsInTheWay, HasNone, HasManyExtents};
 ghost use Rattle.job_steps.specs.Carried.{pool_left, pending_left, Continues, steps_of, AreAfter, IsCutIn};
 ghost use Rattle.job_ops.specs.Acts as spec;
-ghost use Rattle.job_ops.specs.Acts.{step_of_act, acts_of, is_unstated, due, repair_acts, MayTransfer, MayDelete, MayPlan, HasRoomFor, MayDo, IsDone, AreSound, AreKnown, EndsActs, EndsLook, EndsTransfer};
+ghost use Rattle.job_ops.specs.Acts.{step_of_act, acts_of, due, repair_acts, MayTransfer, MayDelete, MayPlan, HasRoomFor, MayDo, AreSound, AreKnown, EndsActs, EndsLook, EndsTransfer};
 ghost use Rattle.job_ops.specs.Asked.{MayBeChanged};
 ghost use Rattle.job_ops.specs.Reshaping.{IsStepPlan, IsAttemptOf};
 

@@ -1,17 +1,15 @@
 //! A run of a script.
 
-ghost use Rattle.std.specs.Prelude.{◌≡◌, ◌≢◌, ◌⊎◌, ◌∷◌, ◌++◌, ◌≤◌, [], List, None, Some, IfOk, IfErr, map, string_bytes};
+ghost use Rattle.std.specs.Prelude.{◌≡◌, ◌++◌, ◌≤◌, None, Some, map};
 ghost use Rattle.by_rules.specs.Day.{IsToday};
-ghost use Rattle.dasd_pool.specs.Stream.{Appends, AppendsSome};
 ghost use Rattle.sysin_lang.specs.Script.{plan_of_script};
-ghost use Rattle.job_ops.specs.Meaning.{IsBuilt, verb_of as verb_in};
+ghost use Rattle.job_ops.specs.Meaning.{IsBuilt};
 ghost use Rattle.run_lines.specs.Endings.{last_line};
 ghost use Rattle.run_lines.specs.Texts.{Tells};
 ghost use Rattle.job_script.specs.Built.{AreBuilt};
 ghost use Rattle.job_script.specs.Ends.{EndsScript, after_of};
 ghost use Rattle.dump_fmt.specs.Outs.{files_of};
 ghost use Rattle.job_script.specs.One.{EndsOne, EndsReport, KeepsOuts};
-ghost use Rattle.job_script.specs.Runs.{started_line};
 
 use crate::left::Left;
 use crate::lines::{LinesFault, write_messages};

@@ -1,6 +1,6 @@
 //! Which data sets of a volume a filter takes.
 
-ghost use Rattle.std.specs.Prelude.{◌≡◌, ◌≢◌, ◌↔◌, IsTrue, All, AllPairs, Contains, IfOk, IfSome, IfNone};
+ghost use Rattle.std.specs.Prelude.{◌≢◌, ◌↔◌, IsTrue, All, AllPairs, Contains, IfOk, IfSome, IfNone};
 ghost use Rattle.by_rules.specs.Day.{IsToday};
 ghost use Rattle.ckd_image.specs.Device.{heads_of};
 ghost use Rattle.volume_model.specs.Unit.{DataSet, OnlineVolume};

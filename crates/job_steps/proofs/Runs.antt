@@ -7,7 +7,7 @@ use Rattle.dasd_pool.specs.declared.pool.Pool.{Ghosts}
 use Rattle.move_core.specs.declared.steps.Step.{Step}
 use Rattle.move_core.specs.Facts.{shown}
 use Rattle.move_core.specs.Runs.{AreCalls, IsRun, Ended}
-use Rattle.move_core.proofs.Running.{run_behind, run_less, run_of}
+use Rattle.move_core.proofs.Running.{calls_pending, run_behind, run_less, run_of}
 use Rattle.unit_load.specs.declared.state.UnitState.{UnitState}
 use Rattle.unit_session.specs.unit_steps.declared.plan.Plan.{Plan}
 use Rattle.unit_session.specs.unit_steps.Plans.{IsPlan}
@@ -39,11 +39,11 @@ module _ {P : Type 0} (pools : Ghosts P) where
 
   -- a pool that failed while texts were copied: the step is under way
   pub copy_failed : (planned : PlannedView P) (broken : BrokenView P)
-      → AreCalls pools.tells (shown pools planned.session.pool) (shown pools broken.pool) ⊥ [] (Some planned.plan.step) → broken.pending ≡ Some planned.plan.step
+      → AreCalls pools.tells (shown pools planned.session.pool) (shown pools broken.pool) ⊥ [] None → broken.pending ≡ Some planned.plan.step
       → IsRun pools.tells (shown pools planned.session.pool) (shown pools broken.pool) ⊥ [] broken.pending
   copy_failed planned broken calls pending =
       subst (λ (o : Option Step). IsRun pools.tells (shown pools planned.session.pool) (shown pools broken.pool) ⊥ [] o) (sym pending)
-      (run_of calls (λ no_steps none_pending. none-some planned.plan.step (sym none_pending)))
+      (run_of (calls_pending (λ never. never) (calls.cause (λ never. never)) calls) (λ no_steps none_pending. none-some planned.plan.step (sym none_pending)))
 
   module _ (planned : PlannedView P) (copied : CopiedView P) (plan_is : copied.plan ≡ planned.plan)
       (first : AreCalls pools.tells (shown pools planned.session.pool) (shown pools copied.session.pool) (Unit {0}) [] None) where

@@ -1,6 +1,6 @@
 //! One step: it is planned, and carried out.
 
-ghost use Rattle.std.specs.Prelude.{◌≡◌, [], ◌∷◌, ◌++◌, None, IfOk, IfErr};
+ghost use Rattle.std.specs.Prelude.{◌≡◌, [], ◌++◌, IfOk, IfErr};
 ghost use Rattle.move_core.specs.Facts.{shown};
 ghost use Rattle.move_core.specs.Runs.{IsRun, Ended};
 ghost use Rattle.unit_session.specs.Planned.{MayBegin, pool_switched, done_by};

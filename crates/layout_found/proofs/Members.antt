@@ -1,5 +1,5 @@
 -- What stands in filtered lists, and first in a list.
-use Rattle.std.proofs.Common.{◌≡◌, ◌⊎◌, List, [], ◌∷◌, filter, Bool, true, false, Option, Some, None, Contains, subst, inl, inr}
+use Rattle.std.proofs.Common.{◌≡◌, ◌⊎◌, List, [], filter, Bool, true, false, Option, Some, None, Contains, subst, inl, inr}
 use Rattle.std.proofs.lemmas.Bool.{cases_Bool}
 use Rattle.volume_model.specs.declared.place.Placed.{Placed}
 use Rattle.volume_model.specs.Check.{or_else}

@@ -16,7 +16,7 @@ use Rattle.move_core.specs.declared.steps.Step.{Step}
 use Rattle.move_core.specs.Facts.{Facts}
 use Rattle.move_core.specs.Steps.{Reaches}
 use Rattle.move_core.specs.Stands.{Stands, AreUnused, IsSettled}
-use Rattle.move_core.specs.Laws.{WillStand}
+use Rattle.move_core.specs.Laws.{WillStand, OpensNone}
 use Rattle.move_core.proofs.Standing.{opening_stands, opened_settled, image_stands, commit_stands, committed_settled, same_closed, image_closed, commit_closed}
 use Rattle.move_core.specs.Runs.{moves_of, StandsAfterSome, StandsAfterMost, EndsSettled, KeepsUnits, KeepsEach}
 use Rattle.move_core.proofs.Unused.{masked, masked_left, masked_settled, unused_settled}
@@ -207,7 +207,7 @@ module _ (facts : Facts) (old mid new : Disk) (ended later : Type 0) (first : Li
 
 module _ (facts : Facts) (old new : Disk) (move : Option Step) (units made : List UnitModel) (settled : IsSettled facts old.state units)
     (entries : List Entry) (reached : Reaches facts units (moves_of [] move) made) (will : WillStand facts settled.stands.reading entries made)
-    (moments : LeavesOnly old new (OldOrNew facts.shape old.state entries)) where
+    (opens_none : OpensNone facts.shape settled.stands.reading entries) (moments : LeavesOnly old new (OldOrNew facts.shape old.state entries)) where
   abbrev moves : List Step
   moves = moves_of [] move
 
@@ -222,7 +222,7 @@ module _ (facts : Facts) (old new : Disk) (move : Option Step) (units made : Lis
 
   closes : IsAllClosed facts.shape old.state.contents → LeavesOnly old new (IsAllClosed facts.shape)
   closes closed = weaken old new (OldOrNew facts.shape old.state entries) (IsAllClosed facts.shape)
-      (λ image either. commit_closed facts old.state units made entries image settled will either closed) moments
+      (λ image either. commit_closed facts old.state units entries image settled opens_none either closed) moments
 
   pub commit_failed : (ended : Type 0) → ¬ ended → KeepsUnits facts old new ended units [] move
   commit_failed ended never = record {

@@ -243,7 +243,7 @@ switch_done {tells} {old} {new} {ended} {step} {room} {entries} shape later idle
   keeps = λ told facts same units settled.
       let made = takes told facts old.disk.state units same (λ u b less. refl) (idle told) settled in
       commit_done facts old.disk new.disk (Some step) units made.0 settled
-      entries (made.0, made.1, refl) made.2
+      entries (made.0, made.1, refl) made.2 made.3
       (at_shape (λ s. LeavesOnly old.disk new.disk (OldOrNew s old.disk.state entries)) same (moments told)) ended
       (at_shape (λ s. IsCommitted s old.disk.state entries new.disk.state) same (committed told));
   still = λ told gate no_steps none_pending. absurd (some_steps [] step no_steps);
@@ -259,7 +259,7 @@ switch_failed {tells} {old} {new} {ended} {step} {room} {entries} shape later id
   keeps = λ told facts same units settled.
       let made = takes told facts old.disk.state units same (λ u b less. refl) (idle told) settled in
       commit_failed facts old.disk new.disk (Some step) units made.0 settled
-      entries (made.0, made.1, refl) made.2
+      entries (made.0, made.1, refl) made.2 made.3
       (at_shape (λ s. LeavesOnly old.disk new.disk (OldOrNew s old.disk.state entries)) same (moments told)) ended never;
   still = λ told gate no_steps none_pending. absurd (none-some step (sym none_pending));
 }

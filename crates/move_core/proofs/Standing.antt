@@ -21,7 +21,7 @@ use Rattle.volume_model.specs.Reads.{IsVital}
 use Rattle.volume_model.specs.Sound.{Slots}
 use Rattle.move_core.specs.Facts.{Facts}
 use Rattle.move_core.specs.Stands.{is_sliding, place_in, IsAfterSlide, Means, RestsOn, Stands, IsSettled}
-use Rattle.move_core.specs.Laws.{WillStand}
+use Rattle.move_core.specs.Laws.{WillStand, OpensNone}
 use Rattle.move_core.proofs.Frames.{unit_moves}
 
 -- a slide, where there is one, goes down
@@ -204,12 +204,12 @@ image_closed facts state units image settled left =
     same_closed facts state units image settled (spared_reads facts.shape state settled.journal image (λ u b unlisted was. left u b was))
 
 -- within a commit that opens none
-pub commit_closed : (facts : Facts) (state : State) (before after : List UnitModel) (entries : List Entry) (image : Image)
-    → (settled : IsSettled facts state before) → WillStand facts settled.stands.reading entries after
+pub commit_closed : (facts : Facts) (state : State) (before : List UnitModel) (entries : List Entry) (image : Image)
+    → (settled : IsSettled facts state before) → OpensNone facts.shape settled.stands.reading entries
     → OldOrNew facts.shape state entries image → IsAllClosed facts.shape state.contents → IsAllClosed facts.shape image
-commit_closed facts state before after entries image settled will either closed = ⊎_elim
+commit_closed facts state before entries image settled opens_none either closed = ⊎_elim
     (λ same. same_closed facts state before image settled same closed)
     (λ new.
     closed_by facts.shape image (with_entries facts.shape settled.stands.reading entries) (new settled.stands.reading settled.stands.reads)
-    (will.opens_none (closed settled.stands.reading settled.stands.reads)))
+    (opens_none (closed settled.stands.reading settled.stands.reads)))
     either

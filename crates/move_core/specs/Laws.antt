@@ -37,11 +37,14 @@ OpenedIsSettled =
     (facts : Facts) (old new : State) (units : List UnitModel) (asked : List Serial) (room : ℕ) (control : Control) (fills : List Bool)
     → Stands facts old.contents units → IsOpened facts.shape old asked room control fills new → IsSettled facts new units
 
--- with all entries in place a reading means these units, each label that reads has its name, and no slide and no fill is open where none was
+-- with all entries in place a reading means these units, and each label that reads has its name
 pub record WillStand (facts : Facts) (reading : Reading) (entries : List Entry) (units : List UnitModel) : Type 0 where
   pub labels : LabelsAre facts.shape (placed reading.volumes entries) facts.names (journal_of facts.shape)
   pub means : Means facts.shape (with_entries facts.shape reading entries) units
-  pub opens_none : ¬ IsBusy facts.shape reading → ¬ IsBusy facts.shape (with_entries facts.shape reading entries)
+
+-- with all entries in place no slide and no fill is open where none was
+abbrev pub OpensNone : Shape → Reading → List Entry → Type 0
+OpensNone shape reading entries = ¬ IsBusy shape reading → ¬ IsBusy shape (with_entries shape reading entries)
 
 -- What a stop leaves within a commit stands for the units before it, or for those that the commit makes.
 abbrev pub CommitStands : Type 0

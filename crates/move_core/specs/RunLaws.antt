@@ -1,14 +1,15 @@
 -- How runs follow one another.
 use Rattle.std.specs.Prelude.{◌≡◌, ℕ, ◌≤◌, List, [], ◌∷◌, ◌++◌, Bool, Option, Some, None}
 use Rattle.dasd_pool.specs.Count.{Rose}
-use Rattle.dasd_pool.specs.Disk.{LeavesOnly, Runs, none}
+use Rattle.dasd_pool.specs.Disk.{Image, LeavesOnly, Runs, none}
 use Rattle.redo_core.specs.declared.entries.Entry.{Entry}
+use Rattle.redo_core.specs.Faults.{IsAllClosed}
 use Rattle.redo_core.specs.Phases.{OldOrNew, IsCommitted}
 use Rattle.volume_model.specs.Unit.{UnitModel}
 use Rattle.move_core.specs.declared.steps.Step.{Step}
 use Rattle.move_core.specs.Facts.{Facts, Shown}
 use Rattle.move_core.specs.Stands.{AreUnused, IsSettled}
-use Rattle.move_core.specs.Runs.{AreCalls, IsRun}
+use Rattle.move_core.specs.Runs.{moves_of, StandsAfterSome, AreCalls, IsRun}
 use Rattle.move_core.specs.Taking.{IsIdle, TakeUnits}
 
 -- One run that ended, and then another, are a run of the steps of both. What was under way in the second is under way.
@@ -50,3 +51,12 @@ RunSwitched tells old new ended =
     → (tells → LeavesOnly old.disk new.disk (OldOrNew old.shape old.disk.state entries))
     → (ended → (tells → IsCommitted old.shape old.disk.state entries new.disk.state) → IsRun tells old new ended (step ∷ []) None)
     × (¬ ended → Rose old.faults new.faults → IsRun tells old new ended [] (Some step))
+
+-- Over a settled pool that tells, whatever moment since its beginning a run is stopped at, what is left stands for the first units after a
+-- prefix of its moves; and where no slide and no fill was open, none is open in what is left.
+abbrev pub RunStops : Type 0 → Shown → Shown → Type 0 → Type 0
+RunStops tells old new ended =
+    (steps : List Step) (pending : Option Step) → IsRun tells old new ended steps pending → tells
+    → (facts : Facts) (units : List UnitModel) → facts.shape ≡ old.shape → IsSettled facts old.disk.state units
+    → (image : Image) → new.disk.left_since old.disk.moment image
+    → StandsAfterSome facts units (moves_of steps pending) image × (IsAllClosed facts.shape old.disk.state.contents → IsAllClosed facts.shape image)

@@ -8,7 +8,7 @@ use Rattle.redo_core.specs.Phases.{IsAtRest}
 use Rattle.volume_model.specs.Unit.{UnitModel}
 use Rattle.move_core.specs.declared.steps.Step.{Step}
 use Rattle.move_core.specs.Facts.{Facts}
-use Rattle.move_core.specs.Laws.{WillStand}
+use Rattle.move_core.specs.Laws.{WillStand, OpensNone}
 use Rattle.move_core.specs.Stands.{IsSettled}
 use Rattle.move_core.specs.Steps.{IsStep}
 
@@ -22,9 +22,11 @@ pub record IsIdle (shape : Shape) (state : State) (room : ℕ) : Type 0 where
 abbrev pub AreSame : Shape → Image → Image → Type 0
 AreSame shape one other = (u b : ℕ) → u < journal_of shape → one u b ≡ other u b
 
--- On each idle pool whose volumes have these blocks the entries take the units by this step, whatever units it stands for.
+-- On each idle pool whose volumes have these blocks the entries take the units by this step, whatever units it stands for, and open no slide
+-- and no fill.
 abbrev pub TakeUnits : Shape → ℕ → Image → Step → List Entry → Type 0
 TakeUnits shape room contents step entries =
     (facts : Facts) (state : State) (units : List UnitModel) → facts.shape ≡ shape → AreSame shape state.contents contents → IsIdle shape state room
     → (settled : IsSettled facts state units)
     → (after : List UnitModel) × IsStep facts step units after × WillStand facts settled.stands.reading entries after
+    × OpensNone facts.shape settled.stands.reading entries

@@ -5,7 +5,7 @@ ghost use Rattle.move_core.specs.Laws.{KeepsMeaning, EachImageStands, OpeningSta
 ghost use Rattle.move_core.specs.Loaded.{OneVtoc, LoadedIsOnline};
 ghost use Rattle.move_core.specs.Resuming.{FormattedIsSettled, SyncedIsSettled, SameBlocksStand, NoneIsOpen, StandingMayOpen};
 ghost use Rattle.move_core.specs.Runs.{Ended};
-ghost use Rattle.move_core.specs.RunLaws.{RunThen, RunStill, RunQuiet, RunBehind, RunDemoted, RunSwitched};
+ghost use Rattle.move_core.specs.RunLaws.{RunThen, RunStill, RunQuiet, RunBehind, RunDemoted, RunSwitched, RunStops};
 
 use dasd_pool::{Pool, PoolFault};
 
@@ -49,4 +49,5 @@ pub fn running_laws<P: Pool>(
     ensures behind { RunBehind P.tells (shown P.Pool old.now) (shown P.Pool mid.now) (shown P.Pool new.now) (Ended first.now) (Ended second.now) }
     ensures demoted { RunDemoted P.tells (shown P.Pool old.now) (shown P.Pool mid.now) (Ended first.now) (Ended second.now) }
     ensures switched { RunSwitched P.tells (shown P.Pool old.now) (shown P.Pool mid.now) (Ended first.now) }
+    ensures stops { RunStops P.tells (shown P.Pool old.now) (shown P.Pool mid.now) (Ended first.now) }
 {}

@@ -1,6 +1,6 @@
 //! Where a data set has room in one extent.
 
-ghost use Rattle.std.specs.Prelude.{◌≡◌, ◌≤◌, ℕ, IfSome, IfNone};
+ghost use Rattle.std.specs.Prelude.{◌≡◌, IfSome, IfNone};
 ghost use Rattle.ckd_image.specs.Device.{heads_of};
 ghost use Rattle.dsn_filter.specs.Dsn.{IsDsn};
 ghost use Rattle.free_map.specs.Free.{IsFree};

@@ -1,7 +1,8 @@
 -- A control block reads as it was written.
 use Rattle.std.proofs.Common.{◌≡◌, ◌<◌, ◌≤◌, ◌-◌, ℕ, zero, ◌+◌, List, ◌++◌, length, take, drop, get_or, append_assoc, length-append, refl, sym, ◌∙◌, ap, subst, arith}
-use Rattle.std.specs.Prelude.{replicate, slice_index, ◌==◌}
+use Rattle.std.specs.Prelude.{All, replicate, slice_index, ◌==◌}
 use Rattle.std.specs.Int.{bit_at}
+use Rattle.std.proofs.lemmas.List.Elements.{All-push}
 use Rattle.std.proofs.lemmas.List.{take_at, drop_at, drop-drop, drop-replicate, length-replicate, get_or_append_left, get_or-append_right}
 use Rattle.byteorder.specs.Endian.{big_bytes}
 use Rattle.byteorder.specs.Numbers.{big_number-reads_back}
@@ -9,10 +10,12 @@ use Rattle.dasd_pool.specs.Disk.{Shape}
 use Rattle.redo_core.specs.declared.control.Control.{Control}
 use Rattle.redo_core.specs.declared.control.Control.TheVariants.{Idle, Slide}
 use Rattle.redo_core.specs.Format.{wide, control_text, control_in, number_at}
+use Rattle.redo_core.specs.declared.entries.Entry.{Entry}
 use Rattle.redo_core.specs.Reading.{journal_of, IsLawful}
 use Rattle.redo_core.specs.Phases.{IsEntry}
+use Rattle.redo_core.specs.Statuses.{AreVolumes, HasFour, IsControlText, SaysControl}
+use Rattle.redo_core.specs.Laws.{AddedIsEntry}
 use Rattle.redo_core.specs.Steps.{IsJournal}
-use Rattle.redo_core.specs.Statuses.{HasFour, IsControlText, SaysControl}
 use Rattle.redo_core.proofs.Readings.{place_control}
 
 pub length-control_text : (control : Control) → length (control_text control) ≡ 24
@@ -107,12 +110,25 @@ module _ (control : Control) (filling : ℕ) (first block fills : List ℕ) (fit
         fills_are = λ u less. ap (λ (n : ℕ). n == 1) (bit_is u less);
       }
 
--- an entry that says a lawful control
-pub control_entry : (shape : Shape) (room : ℕ) (slot : List ℕ) (control : Control) (filling : ℕ) → IsJournal shape (journal_of shape) room → IsLawful shape control → SaysControl slot control filling
+-- an entry for the control block that says a lawful control
+control_entry : (shape : Shape) (room : ℕ) (slot : List ℕ) (control : Control) (filling : ℕ) → IsJournal shape (journal_of shape) room → IsLawful shape control
+    → AreVolumes (journal_of shape) filling → IsControlText slot control filling → SaysControl slot control filling
     → IsEntry shape (record { unit = journal_of shape; block = 2; slot = slot })
-control_entry shape room slot control filling is lawful says = record {
+control_entry shape room slot control filling is lawful volumes text says = record {
   place = place_control shape;
-  control = λ at. record { known = says.known; lawful = subst (λ (c : Control). IsLawful shape c) (sym says.control_is) lawful };
+  control = λ at. record {
+    filling = filling;
+    text = subst (λ (c : Control). IsControlText slot c filling) (sym says.control_is) text;
+    volumes = volumes;
+    is = record { known = says.known; lawful = subst (λ (c : Control). IsLawful shape c) (sym says.control_is) lawful };
+  };
   there = omega (arith, is.blocks);
   slot = says.size ∙ sym is.width;
 }
+
+-- an entry that was added
+pub control_added : AddedIsEntry
+control_added shape room control filling old new is lawful volumes adds each =
+    subst (λ (l : List Entry). All (IsEntry shape) l) (sym adds.added)
+    (All-push (IsEntry shape) old (record { unit = journal_of shape; block = 2; slot = adds.slot }) each
+    (control_entry shape room adds.slot control filling is lawful volumes adds.text adds.says))

@@ -103,7 +103,7 @@ lawful_by shape (entry ∷ entries) image each is = lawful_by shape entries (set
     here = elim (cases_Bool (is_at entry.unit entry.block (journal_of shape) 2)) [
       | inl at ↦
           subst (λ (t : Bool). IsControl shape (if t then entry.slot else image (journal_of shape) 2)) (sym at)
-          (each.0.control (turned entry.unit entry.block (journal_of shape) 2 at))
+          (each.0.control (turned entry.unit entry.block (journal_of shape) 2 at)).is
       | inr apart ↦ subst (λ (t : Bool). IsControl shape (if t then entry.slot else image (journal_of shape) 2)) (sym apart) is
     ]
 

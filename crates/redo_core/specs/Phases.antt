@@ -6,8 +6,9 @@ use Rattle.redo_core.specs.declared.control.Control.{Control}
 use Rattle.redo_core.specs.declared.entries.Entry.{Entry}
 use Rattle.redo_core.specs.declared.target.Target.{Target}
 use Rattle.redo_core.specs.Format.{is_open}
-use Rattle.redo_core.specs.Reading.{journal_of, is_place, among, control_after, fills_after, with_entries, fills_of, Reading, Reads, IsControl}
+use Rattle.redo_core.specs.Reading.{journal_of, is_place, among, control_after, fills_after, with_entries, fills_of, Reading, Reads}
 use Rattle.redo_core.specs.Opening.{ReadsSame}
+use Rattle.redo_core.specs.Statuses.{IsControlBlock}
 
 -- the targets of entries
 abbrev pub targets : List Entry → List Target
@@ -31,10 +32,10 @@ pub record IsCommitted (shape : Shape) (old : State) (entries : List Entry) (new
 abbrev pub of_commit : ℕ → List Entry → ℕ → ℕ → Bool
 of_commit journal entries u b = (u == journal) || among (targets entries) u b
 
--- an entry for a block of a volume that is there, or for the control block, which says what it may
+-- an entry for a block of a volume that is there, or for the control block, where it is a control block
 pub record IsEntry (shape : Shape) (entry : Entry) : Type 0 where
   pub place : is_place (journal_of shape) entry.unit entry.block ≡ true
-  pub control : is_at (journal_of shape) 2 entry.unit entry.block ≡ true → IsControl shape entry.slot
+  pub control : is_at (journal_of shape) 2 entry.unit entry.block ≡ true → IsControlBlock shape entry.slot
   pub there : entry.block < shape.blocks entry.unit
   pub slot : length entry.slot ≡ shape.block_size entry.unit
 

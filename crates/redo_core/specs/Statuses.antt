@@ -4,7 +4,9 @@ use Rattle.std.specs.Int.{bit_at}
 use Rattle.redo_core.specs.declared.control.Control.{Control}
 use Rattle.redo_core.specs.declared.control.Control.TheVariants.{Idle, Slide}
 use Rattle.redo_core.specs.declared.entries.Entry.{Entry}
+use Rattle.dasd_pool.specs.Disk.{Shape}
 use Rattle.redo_core.specs.Format.{wide, control_text, control_in, is_filling}
+use Rattle.redo_core.specs.Reading.{journal_of, IsControl}
 
 -- what is lawful of a control in any pool of so many volumes
 abbrev pub IsSlideOf : ℕ → Control → Type 0
@@ -25,6 +27,14 @@ pub record IsControlText (block : List ℕ) (control : Control) (filling : ℕ) 
   pub front : take 64 block ≡ control_text control ++ replicate 40 0
   pub fills : (u : ℕ) → u < 64 → slice_index block (64 + u) ≡ bit_at filling u
   pub behind : drop 128 block ≡ replicate (wide - 128) 0
+
+-- a block that may go to the control block's place: each byte is the format's for what it says, which is lawful here, and no bit is set for a
+-- volume that isn't there
+pub record IsControlBlock (shape : Shape) (block : List ℕ) : Type 0 where
+  pub filling : ℕ
+  pub text : IsControlText block (control_in block) filling
+  pub volumes : AreVolumes (journal_of shape) filling
+  pub is : IsControl shape block
 
 -- a control block reads as this
 pub record SaysControl (block : List ℕ) (control : Control) (filling : ℕ) : Type 0 where

@@ -1,6 +1,6 @@
 //! What the control block says.
 
-ghost use Rattle.std.specs.Prelude.{◌≡◌, ◌<◌, ◌+◌, ℕ, replicate, slice_index, IfOk};
+ghost use Rattle.std.specs.Prelude.{◌≡◌, ◌<◌, ℕ, replicate, slice_index, IfOk};
 ghost use Rattle.std.specs.Int.{bit_at};
 ghost use Rattle.redo_core.specs.declared.control.Control.TheVariants.{Slide};
 ghost use Rattle.redo_core.specs.Format.{wide, control_text};

@@ -1,6 +1,6 @@
 //! What is to be written.
 
-ghost use Rattle.std.specs.Prelude.{◌≡◌, [], ◌∷◌, ◌++◌, IfOk, OnOk, OnErr, length};
+ghost use Rattle.std.specs.Prelude.{◌≡◌, [], ◌∷◌, ◌++◌, IfOk, OnOk, OnErr};
 ghost use Rattle.redo_core.specs.Statuses.{IsSlideOf, AreVolumes, AddsControl};
 
 use crate::control::{Control, control_block};

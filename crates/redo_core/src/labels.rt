@@ -1,8 +1,8 @@
 //! The labels of the volumes, with an open body in place.
 
-ghost use Rattle.std.specs.Prelude.{◌≡◌, ◌≢◌, ◌⊎◌, IfNone, ◌<◌, ◌≤◌, ◌+◌, ℕ, Some, length, take, IfSome, IfOk, IfErr, OnOk};
+ghost use Rattle.std.specs.Prelude.{◌≡◌, ◌≢◌, ◌⊎◌, IfNone, ◌<◌, ◌≤◌, ◌+◌, Some, length, take, IfSome, IfOk, IfErr, OnOk};
 ghost use Rattle.dasd_pool.specs.Count.{Rose, HasCause};
-ghost use Rattle.dasd_pool.specs.Disk.{Image, Runs, none};
+ghost use Rattle.dasd_pool.specs.Disk.{Runs, none};
 ghost use Rattle.vol_label.specs.declared.serial.Serial.{Serial};
 ghost use Rattle.redo_core.specs.Format.{wide};
 ghost use Rattle.redo_core.specs.Reading.{placed, body_for};

@@ -1,7 +1,7 @@
 //! Opening a journal: its rules in their order, its length, its names, and the labels.
 
-ghost use Rattle.std.specs.Prelude.{◌≡◌, ◌≢◌, ◌⊎◌, ◌↔◌, true, IsTrue, ◌<◌, ◌≤◌, ◌+◌, ◌==◌, ◌&&◌, ℕ, List, Bool, Some, All, length, take, false, IfSome, IfOk, IfErr, OnOk, if◌then◌else◌};
-ghost use Rattle.dasd_pool.specs.Count.{Rose, HasCause};
+ghost use Rattle.std.specs.Prelude.{◌≡◌, ◌≢◌, ◌⊎◌, ◌↔◌, true, IsTrue, ◌<◌, ◌≤◌, ◌+◌, ◌==◌, ◌&&◌, ℕ, List, Some, All, length, false, IfSome, IfOk, IfErr, OnOk, if◌then◌else◌};
+ghost use Rattle.dasd_pool.specs.Count.{Rose};
 ghost use Rattle.dasd_pool.specs.Disk.{Image, IsSynced, LeavesOnly, Runs, none, is_at};
 ghost use Rattle.vol_label.specs.declared.serial.Serial.{Serial};
 ghost use Rattle.redo_core.specs.declared.control.Control.TheVariants.{Idle};

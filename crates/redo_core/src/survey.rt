@@ -1,7 +1,7 @@
 //! What the blocks of a journal say.
 
-ghost use Rattle.std.specs.Prelude.{◌≡◌, ◌≢◌, ◌⊎◌, ◌<◌, ◌≤◌, ◌+◌, ◌*◌, ◌↔◌, ◌++◌, ℕ, List, All, AllPairs, Contains, length, take, drop, slice_index, slice_index_or, true, false, IsTrue, IfSome, IfNone, IfOk, IfErr, OnOk};
-ghost use Rattle.dasd_pool.specs.Count.{Rose, HasCause};
+ghost use Rattle.std.specs.Prelude.{◌≡◌, ◌≢◌, ◌<◌, ◌≤◌, ◌+◌, ◌*◌, ◌↔◌, ℕ, List, All, AllPairs, Contains, length, take, drop, slice_index, slice_index_or, true, false, IsTrue, IfSome, IfNone, IfOk, IfErr, OnOk};
+ghost use Rattle.dasd_pool.specs.Count.{HasCause};
 ghost use Rattle.dasd_pool.specs.Disk.{Runs, none};
 ghost use Rattle.redo_core.specs.declared.target.Target.{Target};
 ghost use Rattle.vol_label.specs.declared.serial.Serial.{Serial};

@@ -1,4 +1,4 @@
-ghost use Rattle.std.specs.Prelude.{◌≡◌, All, AllPairs, length, IsTrue, IfOk};
+ghost use Rattle.std.specs.Prelude.{◌≡◌, All, IsTrue, IfOk};
 ghost use Rattle.redo_core.specs.Phases.{targets, IsEntry};
 ghost use Rattle.redo_core.specs.Opening.{AreNames};
 

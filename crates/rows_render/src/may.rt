@@ -1,6 +1,6 @@
 //! Whether a change may be made, looked at before it is rendered.
 
-ghost use Rattle.std.specs.Prelude.{◌≡◌, ◌≢◌, ◌↔◌, ◌⊎◌, ◌+◌, [], ◌∷◌, true, false, All, Contains, IsTrue, IfOk, IfSome};
+ghost use Rattle.std.specs.Prelude.{◌≡◌, ◌≢◌, ◌↔◌, ◌+◌, [], ◌∷◌, true, false, All, Contains, IsTrue, IfOk, IfSome};
 ghost use Rattle.dsn_filter.specs.Dsn.{IsDsn};
 ghost use Rattle.volume_model.specs.Pinned.{IsNameOf};
 ghost use Rattle.volume_model.specs.Space.{is_run as is_run_in, overlap as overlap_in, track_at};

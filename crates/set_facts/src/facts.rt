@@ -1,6 +1,6 @@
 //! The facts of a data set, by its format 1 and its extents.
 
-ghost use Rattle.std.specs.Prelude.{◌≡◌, ◌≢◌, ◌↔◌, ◌+◌, ◌/◌, ◌≤◌, [], IsTrue, All};
+ghost use Rattle.std.specs.Prelude.{◌≡◌, ◌↔◌, ◌+◌, ◌/◌, ◌≤◌, IsTrue, All};
 ghost use Rattle.volume_model.specs.Dscbs.{number_at as number_in};
 ghost use Rattle.volume_model.specs.Pinned.{AreByCylinders};
 ghost use Rattle.volume_model.specs.Reads.{fields_of_1};

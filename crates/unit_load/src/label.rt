@@ -1,6 +1,6 @@
 //! The label of a unit.
 
-ghost use Rattle.std.specs.Prelude.{◌≡◌, ◌≤◌, length, IfOk, IfErr};
+ghost use Rattle.std.specs.Prelude.{◌≤◌, length, IfOk, IfErr};
 ghost use Rattle.unit_load.specs.Stops.{IsLabelIn, IsLabelStop, IsMemory, StopsBy};
 
 use crate::stop::{Stop, UnitFault};

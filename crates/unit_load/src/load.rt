@@ -1,6 +1,6 @@
 //! What a unit is.
 
-ghost use Rattle.std.specs.Prelude.{◌≡◌, ◌≤◌, ◌<◌, ◌*◌, ℕ, false, length, IfOk, IfErr};
+ghost use Rattle.std.specs.Prelude.{◌≡◌, ◌≤◌, ◌<◌, ◌*◌, false, length, IfOk, IfErr};
 ghost use Rattle.ckd_image.specs.Device.{heads_of, slot_of};
 ghost use Rattle.ckd_image.specs.Head.{IsHead};
 ghost use Rattle.vol_label.specs.Label.{IsInside};

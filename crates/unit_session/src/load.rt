@@ -1,6 +1,6 @@
 //! Loading all units.
 
-ghost use Rattle.std.specs.Prelude.{◌≡◌, ◌<◌, IfOk, IfErr};
+ghost use Rattle.std.specs.Prelude.{◌<◌, IfOk, IfErr};
 ghost use Rattle.redo_core.specs.Reading.{journal_of};
 ghost use Rattle.unit_steps.specs.unit_change.Described.{AreShort};
 ghost use Rattle.unit_load.specs.Kept.{IsKept, AreKeptOf};

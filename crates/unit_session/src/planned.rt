@@ -259,9 +259,9 @@ fn make_copies<P: Pool>(
 
 impl<P: Pool> Planned<P> {
     /// Copies texts to the new tracks, past the journal, and makes them durable with one sync, also where there are none. Where that fails, the step is
-    /// under way: some of its tracks may be written.
+    /// under way: some of its tracks may be written, on which nothing rests, so that the units stand as before.
     pub fn copy(self) -> Result<Copied<P>, Broken<P>>
-        ensures run { AreCalls P.tells (shown P.Pool self.session.pool) (shown P.Pool (pool_copied result)) (Ended result) [] (pending_by self.plan.step result) }
+        ensures run { AreCalls P.tells (shown P.Pool self.session.pool) (shown P.Pool (pool_copied result)) (Ended result) [] None }
         ensures writes { P.tells → Runs (may_write_for self.copies) (P.disk self.session.pool) (P.disk (pool_copied result)) }
         ensures plan { IfOk result (λ next. next.plan ≡ self.plan) }
         ensures rendered { IfOk result (λ next. next.rendered ≡ self.rendered) }

@@ -26,7 +26,7 @@ use Rattle.move_core.specs.declared.steps.Origin.TheVariants as origins
 use Rattle.move_core.specs.declared.steps.Step.{Step}
 use Rattle.move_core.specs.declared.steps.Step.TheVariants as steps
 use Rattle.move_core.specs.Facts.{Facts}
-use Rattle.move_core.specs.Laws.{WillStand}
+use Rattle.move_core.specs.Laws.{WillStand, OpensNone}
 use Rattle.move_core.specs.Stands.{is_sliding, place_in, IsAfterSlide, Means, IsSettled}
 use Rattle.move_core.specs.Taking.{IsIdle, AreSame, TakeUnits}
 use Rattle.unit_steps.specs.declared.plan.Tracks.{Tracks}
@@ -160,8 +160,11 @@ module _ (facts : Facts) (state : State) (units : List UnitModel) (room : ℕ) (
             label = subst (λ (bytes : List ℕ). HasSerial (record { device = label.device; tracks = facts.shape.blocks u }) bytes serial) (firsts u) label.label;
           });
       means = subst (λ (r : Reading). Means facts.shape r after) (sym only_volumes) means;
-      opens_none = λ closed. subst (λ (r : Reading). ¬ IsBusy facts.shape r) (sym only_volumes) closed;
     }
+
+    -- so they open no slide and no fill
+    opens_none : OpensNone facts.shape reading entries
+    opens_none closed = subst (λ (r : Reading). ¬ IsBusy facts.shape r) (sym only_volumes) closed
 
 -- models that are taken are units that are taken
 take_units : (shape : Shape) (room : ℕ) (contents : Image) (step : Step) (entries : List Entry) → TakesModels shape contents step entries
@@ -171,8 +174,12 @@ take_units shape room contents step entries takes below firsts facts state units
     let own_same : AreSame facts.shape state.contents contents = subst (λ (s : Shape). AreSame s state.contents contents) (sym same_shape) same in
     let own_below : All (IsBelow (journal_of facts.shape)) entries = subst (λ (s : Shape). All (IsBelow (journal_of s)) entries) (sym same_shape) below in
     let own_idle : IsIdle facts.shape state room = subst (λ (s : Shape). IsIdle s state room) (sym same_shape) idle in
-    let made = own_takes facts units (models_alone facts state units room own_idle settled contents own_same) in
-    (made.0, made.1, will_stand facts state units room own_idle settled contents own_same entries made.0 made.2 own_below (firsts settled.stands.reading.volumes))
+    let made = own_takes facts units (models_alone facts state units room own_idle settled contents own_same) in (
+      made.0,
+      made.1,
+      will_stand facts state units room own_idle settled contents own_same entries made.0 made.2 own_below (firsts settled.stands.reading.volumes),
+      opens_none facts state units room own_idle settled contents own_same entries made.0 made.2 own_below (firsts settled.stands.reading.volumes),
+    )
 
 -- ---- plans
 

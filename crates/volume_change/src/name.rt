@@ -1,6 +1,6 @@
 //! Names in the code page.
 
-ghost use Rattle.std.specs.Prelude.{◌≡◌, ℕ, ◌<◌, ◌≤◌, Some, length, slice_index};
+ghost use Rattle.std.specs.Prelude.{◌≡◌, ℕ, Some};
 ghost use Rattle.dsn_filter.specs.Dsn.{IsDsn};
 ghost use Rattle.vol_label.specs.CodePage.{ascii_of};
 ghost use Rattle.volume_model.specs.Pinned.{IsNameOf};

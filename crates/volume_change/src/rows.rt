@@ -1,6 +1,6 @@
 //! The rows of a volume once one is put, swapped or taken out.
 
-ghost use Rattle.std.specs.Prelude.{◌≡◌, ◌<◌, ◌≤◌, ◌^◌, ◌++◌, IfOk, OnOk, All, length, take, drop};
+ghost use Rattle.std.specs.Prelude.{◌≡◌, ◌<◌, ◌≤◌, ◌^◌, ◌++◌, IfOk, OnOk, length};
 ghost use Rattle.volume_change.specs.Spot.{behind, AreNamed, Suits, rows_with};
 
 use crate::spot::Spot;

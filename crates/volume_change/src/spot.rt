@@ -1,8 +1,7 @@
 //! The place of a data set among the rows of a volume.
 
-ghost use Rattle.std.specs.Prelude.{◌≡◌, ◌↔◌, ℕ, ◌<◌, ◌≤◌, true, false, IsTrue, IfSome, IfNone, All, length, slice_index_or};
-ghost use Rattle.std.specs.Ordering.{is_lt, nat_cmp};
-ghost use Rattle.std.specs.Cmp.Lexicographic.{slice_cmp};
+ghost use Rattle.std.specs.Prelude.{◌≡◌, ◌↔◌, ℕ, ◌<◌, ◌≤◌, true, false, IfSome, IfNone, All, length, slice_index_or};
+ghost use Rattle.std.specs.Ordering.{is_lt};
 ghost use Rattle.dsn_filter.specs.Dsn.{IsDsn};
 ghost use Rattle.volume_model.specs.Pinned.{IsNameOf};
 ghost use Rattle.vtoc_core.specs.declared.volume.Row.{Row as RowOf};

@@ -1,14 +1,14 @@
 -- The definitions on small volumes, worked by hand.
-use Rattle.std.specs.Prelude.{◌≡◌, ◌==◌, ℕ, true, false, Bool, if◌then◌else◌, List, [], ◌∷◌, ◌++◌, length, take, drop, Option, Some, None, replicate, filter, map}
-use Rattle.std.proofs.Common.{find, refl, sym, ap, ◌∙◌, arith}
+use Rattle.std.specs.Prelude.{◌≡◌, ◌==◌, ◌+◌, ◌≤◌, ◌<◌, ℕ, zero, suc, true, false, Bool, if◌then◌else◌, List, [], ◌∷◌, ◌++◌, length, take, drop, Option, Some, None, replicate, filter, map, All, slice_index}
+use Rattle.std.proofs.Common.{find, refl, sym, ap, subst, ◌∙◌, arith}
 use Rattle.std.proofs.lemmas.Option.{same_Some}
-use Rattle.std.proofs.lemmas.List.Elements.{All-nil, All-cons}
+use Rattle.std.proofs.lemmas.List.Elements.{All-nil, All-cons, All-head}
 use Rattle.ckd_image.specs.declared.device.Device.TheVariants.{D3390}
 use Rattle.ckd_image.specs.declared.head.Head.{Head}
 use Rattle.ckd_image.specs.declared.track.Cchhr.{Cchhr}
 use Rattle.ckd_image.specs.declared.track.Rec.{Rec}
 use Rattle.ckd_image.specs.declared.track.Track.{Track}
-use Rattle.ckd_image.specs.Track.{track_text, IsRecord, IsTrackText}
+use Rattle.ckd_image.specs.Track.{track_text, IsRecord, IsTrack, IsTrackText}
 use Rattle.volume_model.specs.declared.format.Format.TheVariants.{F4}
 use Rattle.volume_model.specs.declared.rule.VtocRule.{VtocRule}
 use Rattle.volume_model.specs.declared.rule.VtocRule.TheVariants as rules
@@ -23,13 +23,17 @@ use Rattle.volume_model.specs.Check.{breaches_of, records_of, usable_in, extents
 use Rattle.volume_model.specs.Unit.{Extent, DataSet, OnlineVolume, fives_for}
 use Rattle.volume_model.specs.Pinned.{whole_tracks, kept_tracks}
 use Rattle.volume_model.specs.Changed.{threes_for, used_records, free_records}
-use Rattle.volume_model.specs.Sound.{Slots, IsFormat4, HasGeometry, HasVtocExtent, limit_of, IsFirstRuleBroken, dscb_of, is_valid}
+use Rattle.volume_model.specs.Sound.{Slots, IsDscbRecord, IsTrackReading, IsFormat4, HasGeometry, HasVtocExtent, limit_of, IsFirstRuleBroken, dscb_of, is_valid}
 use Rattle.volume_model.proofs.Addresses.{one_text_anywhere}
 
--- a format 4 that says cylinders, heads, and a VTOC of this type from a track of cylinder 0 to one of another cylinder
+-- a format 4 that says alternate tracks, indicators, cylinders and heads, and the extent of its VTOC
+abbrev pub format_4_with : ℕ → ℕ → ℕ → ℕ → List ℕ → List ℕ
+format_4_with alternates indicators cylinders heads extent =
+    replicate 44 4 ++ (0xF4 ∷ (replicate 12 0 ++ (alternates ∷ indicators ∷ 0 ∷ 0 ∷ 0 ∷ 0 ∷ cylinders ∷ 0 ∷ heads ∷ (replicate 39 0 ++ (extent ++ replicate 25 0)))))
+
+-- no alternates and no indicators, and a VTOC of this type from a track of cylinder 0 to one of another cylinder
 abbrev pub saying : ℕ → ℕ → ℕ → ℕ → ℕ → ℕ → List ℕ
-saying cylinders heads kind first cylinder last =
-    replicate 44 4 ++ (0xF4 ∷ (replicate 17 0 ++ (0 ∷ cylinders ∷ 0 ∷ heads ∷ (replicate 39 0 ++ (kind ∷ 0 ∷ 0 ∷ 0 ∷ 0 ∷ first ∷ 0 ∷ cylinder ∷ 0 ∷ last ∷ replicate 25 0)))))
+saying cylinders heads kind first cylinder last = format_4_with 0 0 cylinders heads (kind ∷ 0 ∷ 0 ∷ 0 ∷ 0 ∷ first ∷ 0 ∷ cylinder ∷ 0 ∷ last ∷ [])
 
 -- a VTOC on track 1 of one cylinder of 15 heads
 abbrev pub format_4 : List ℕ
@@ -47,6 +51,7 @@ spanning letter first cylinder last = 0xC1 ∷ 0x4B ∷ letter ∷ (replicate 41
 abbrev pub data_set : ℕ → ℕ → ℕ → List ℕ
 data_set letter first last = spanning letter first 0 last
 
+-- a volume of that cylinder
 abbrev pub vtoc_of : List (List ℕ) → Vtoc
 vtoc_of dscbs = record {
   heads = 15;
@@ -58,9 +63,13 @@ vtoc_of dscbs = record {
   tracks = Some dscbs ∷ [];
 }
 
+-- a record that nothing uses
+abbrev pub one_free_record : List ℕ
+one_free_record = replicate 140 0
+
 -- no data set: all from track 2 on is free
 abbrev pub empty : Vtoc
-empty = vtoc_of (format_4 ∷ format_5 2 13 ∷ replicate 140 0 ∷ [])
+empty = vtoc_of (format_4 ∷ format_5 2 13 ∷ one_free_record ∷ [])
 
 pub empty_keeps_the_rules : breaches_of empty ≡ []
 empty_keeps_the_rules = refl
@@ -92,6 +101,13 @@ misstated = vtoc_of (format_4 ∷ format_5 2 13 ∷ data_set 0xC2 2 11 ∷ [])
 pub misstated_space_is_told : breaches_of misstated ≡ record { place = record { track = 1; record_number = 1 }; rule = rules.Free } ∷ []
 misstated_space_is_told = refl
 
+-- no data set, where the free space is stated from the VTOC's track on
+abbrev pub stated_over_the_vtoc : Vtoc
+stated_over_the_vtoc = vtoc_of (format_4 ∷ format_5 1 14 ∷ one_free_record ∷ [])
+
+pub space_of_the_vtoc_is_told : breaches_of stated_over_the_vtoc ≡ record { place = record { track = 1; record_number = 1 }; rule = rules.Free } ∷ []
+space_of_the_vtoc_is_told = refl
+
 -- two data sets of one name
 abbrev pub named_twice : Vtoc
 named_twice = vtoc_of (format_4 ∷ format_5 4 11 ∷ data_set 0xC2 2 2 ∷ data_set 0xC2 3 3 ∷ [])
@@ -106,9 +122,9 @@ past_the_end = vtoc_of (format_4 ∷ format_5 2 13 ∷ spanning 0xC2 14 1 0 ∷ 
 pub range_is_told : breaches_of past_the_end ≡ record { place = record { track = 1; record_number = 3 }; rule = rules.Range } ∷ []
 range_is_told = refl
 
--- a data set on head 15 of cylinder 0, of which the last is 14
+-- Two cylinders, and a data set on head 15 of cylinder 0, of which the last is 14. Track 15 is there.
 abbrev pub on_no_head : Vtoc
-on_no_head = vtoc_of (format_4 ∷ format_5 2 13 ∷ data_set 0xC2 15 15 ∷ [])
+on_no_head = record (vtoc_of (saying 2 15 1 1 0 1 ∷ format_5 2 28 ∷ data_set 0xC2 15 15 ∷ [])) { limit = 30 }
 
 pub missing_head_is_told : breaches_of on_no_head ≡ record { place = record { track = 1; record_number = 3 }; rule = rules.Range } ∷ []
 missing_head_is_told = refl
@@ -128,6 +144,9 @@ pub overlap_is_told : breaches_of overlapping ≡ record { place = record { trac
 overlap_is_told = refl
 
 -- ---- volumes of 15 tracks whose VTOC is on tracks 1 and 2
+
+abbrev pub format_4_of_two : List ℕ
+format_4_of_two = saying 1 15 1 1 0 2
 
 -- an extent of one track of cylinder 0
 abbrev pub one_track : ℕ → ℕ → List ℕ
@@ -174,7 +193,7 @@ broken_at track number rule = record { place = record { track = track; record_nu
 -- A data set of four extents whose format 3 is on the next track, and two format 5s, of which the second is there too: the tracks 7
 -- to 9 and 10 to 14 are free.
 abbrev pub crossing : Vtoc
-crossing = on_two_tracks (format_4 ∷ entry_and 7 3 (to 2 2) ∷ three_extents 0xC1 (to 2 1) ∷ []) (Some (fourth_extent nowhere ∷ entry_and 10 5 nowhere ∷ []))
+crossing = on_two_tracks (format_4_of_two ∷ entry_and 7 3 (to 2 2) ∷ three_extents 0xC1 (to 2 1) ∷ []) (Some (fourth_extent nowhere ∷ entry_and 10 5 nowhere ∷ []))
 
 pub crossing_keeps_the_rules : breaches_of crossing ≡ []
 crossing_keeps_the_rules = refl
@@ -190,14 +209,14 @@ one_format_3_is_used = refl
 
 -- the second track isn't one of a VTOC
 abbrev pub half_gone : Vtoc
-half_gone = on_two_tracks (format_4 ∷ entry_and 3 12 nowhere ∷ []) None
+half_gone = on_two_tracks (format_4_of_two ∷ entry_and 3 12 nowhere ∷ []) None
 
 pub bad_track_is_told : breaches_of half_gone ≡ broken_at 2 0 rules.Track ∷ []
 bad_track_is_told = refl
 
 -- a second format 4, and a record whose byte 44 names no format
 abbrev pub no_dscbs : Vtoc
-no_dscbs = on_two_tracks (format_4 ∷ entry_and 3 12 nowhere ∷ format_4 ∷ []) (Some ((replicate 44 0 ++ (0xF2 ∷ replicate 95 0)) ∷ []))
+no_dscbs = on_two_tracks (format_4_of_two ∷ entry_and 3 12 nowhere ∷ format_4_of_two ∷ []) (Some ((replicate 44 0 ++ (0xF2 ∷ replicate 95 0)) ∷ []))
 
 pub bad_dscbs_are_told : breaches_of no_dscbs ≡ broken_at 1 3 rules.Dscb ∷ broken_at 2 1 rules.Dscb ∷ []
 bad_dscbs_are_told = refl
@@ -206,28 +225,28 @@ bad_dscbs_are_told = refl
 
 -- a format 1 that points to a format 5
 abbrev pub to_a_five : Vtoc
-to_a_five = on_two_tracks (format_4 ∷ entry_and 3 12 nowhere ∷ no_extent 0xC1 (to 1 2) ∷ []) (Some [])
+to_a_five = on_two_tracks (format_4_of_two ∷ entry_and 3 12 nowhere ∷ no_extent 0xC1 (to 1 2) ∷ []) (Some (one_free_record ∷ []))
 
 pub pointer_to_a_five_is_told : breaches_of to_a_five ≡ broken_at 1 3 rules.Pointer ∷ []
 pointer_to_a_five_is_told = refl
 
 -- a format 3 that two format 1s name: the second breaks the rule
 abbrev pub shared : Vtoc
-shared = on_two_tracks (format_4 ∷ entry_and 3 3 (to 2 2) ∷ no_extent 0xC1 (to 2 1) ∷ no_extent 0xC2 (to 2 1) ∷ []) (Some (fourth_extent nowhere ∷ entry_and 7 8 nowhere ∷ []))
+shared = on_two_tracks (format_4_of_two ∷ entry_and 3 3 (to 2 2) ∷ no_extent 0xC1 (to 2 1) ∷ no_extent 0xC2 (to 2 1) ∷ []) (Some (fourth_extent nowhere ∷ entry_and 7 8 nowhere ∷ []))
 
 pub second_pointer_is_told : breaches_of shared ≡ broken_at 1 4 rules.Pointer ∷ []
 second_pointer_is_told = refl
 
 -- a format 3 that nothing names
 abbrev pub orphaned : Vtoc
-orphaned = on_two_tracks (format_4 ∷ entry_and 3 3 (to 2 2) ∷ no_extent 0xC1 nowhere ∷ []) (Some (fourth_extent nowhere ∷ entry_and 7 8 nowhere ∷ []))
+orphaned = on_two_tracks (format_4_of_two ∷ entry_and 3 3 (to 2 2) ∷ no_extent 0xC1 nowhere ∷ []) (Some (fourth_extent nowhere ∷ entry_and 7 8 nowhere ∷ []))
 
 pub orphan_is_told : breaches_of orphaned ≡ broken_at 2 1 rules.Pointer ∷ []
 orphan_is_told = refl
 
 -- two format 3s that name each other: no format 1 reaches them
 abbrev pub circling : Vtoc
-circling = on_two_tracks (format_4 ∷ entry_and 3 3 (to 1 3) ∷ entry_and 7 8 nowhere ∷ []) (Some (fourth_extent (to 2 2) ∷ (3 ∷ 3 ∷ 3 ∷ 3 ∷ (replicate 40 0 ++ (0xF3 ∷ (replicate 90 0 ++ to 2 1)))) ∷ []))
+circling = on_two_tracks (format_4_of_two ∷ entry_and 3 3 (to 1 3) ∷ entry_and 7 8 nowhere ∷ []) (Some (fourth_extent (to 2 2) ∷ (3 ∷ 3 ∷ 3 ∷ 3 ∷ (replicate 40 0 ++ (0xF3 ∷ (replicate 90 0 ++ to 2 1)))) ∷ []))
 
 pub circle_is_told : breaches_of circling ≡ broken_at 2 1 rules.Pointer ∷ broken_at 2 2 rules.Pointer ∷ []
 circle_is_told = refl
@@ -236,51 +255,55 @@ circle_is_told = refl
 
 -- a second format 5 that the first doesn't name
 abbrev pub apart : Vtoc
-apart = on_two_tracks (format_4 ∷ entry_and 3 4 nowhere ∷ entry_and 7 8 nowhere ∷ []) (Some [])
+apart = on_two_tracks (format_4_of_two ∷ entry_and 3 4 nowhere ∷ entry_and 7 8 nowhere ∷ []) (Some (one_free_record ∷ []))
 
 pub second_five_is_told : breaches_of apart ≡ broken_at 1 3 rules.Pointer ∷ []
 second_five_is_told = refl
 
 -- a format 5 whose pointer names no record
 abbrev pub leading_off : Vtoc
-leading_off = on_two_tracks (format_4 ∷ entry_and 3 12 (to 2 9) ∷ []) (Some [])
+leading_off = on_two_tracks (format_4_of_two ∷ entry_and 3 12 (to 2 9) ∷ []) (Some (one_free_record ∷ []))
 
 pub lost_five_is_told : breaches_of leading_off ≡ broken_at 1 2 rules.Pointer ∷ []
 lost_five_is_told = refl
 
 -- two format 5s that name each other: the chain begins at the lower one, and the other leads back
 abbrev pub coming_back : Vtoc
-coming_back = on_two_tracks (format_4 ∷ entry_and 3 4 (to 1 3) ∷ entry_and 7 8 (to 1 2) ∷ []) (Some [])
+coming_back = on_two_tracks (format_4_of_two ∷ entry_and 3 4 (to 1 3) ∷ entry_and 7 8 (to 1 2) ∷ []) (Some (one_free_record ∷ []))
 
 pub way_back_is_told : breaches_of coming_back ≡ broken_at 1 3 rules.Pointer ∷ []
 way_back_is_told = refl
 
 -- ---- addresses that are no track's
 
--- a VTOC on track 16, which is head 1 of cylinder 1
-abbrev pub on_16 : List (List ℕ) → Vtoc
-on_16 dscbs = record {
+-- Two cylinders, and a VTOC on track 16, which is head 1 of cylinder 1: record 1 is its format 4, and these come behind it.
+abbrev pub format_4_on_16 : ℕ → List ℕ
+format_4_on_16 indicators = format_4_with 0 indicators 2 15 (1 ∷ 0 ∷ 0 ∷ 1 ∷ 0 ∷ 1 ∷ 0 ∷ 1 ∷ 0 ∷ 1 ∷ [])
+
+abbrev pub on_16 : ℕ → List (List ℕ) → Vtoc
+on_16 indicators behind = record {
   heads = 15;
   limit = 30;
   format_4 = record { track = 16; record_number = 1 };
-  valid = true;
+  valid = is_valid false (format_4_on_16 indicators);
   alternates = 0;
   run = record { first = 16; len = 1 };
-  tracks = Some dscbs ∷ [];
+  tracks = Some (format_4_on_16 indicators ∷ behind) ∷ [];
 }
 
--- A format 1 and a format 5 whose pointers say head 16 of cylinder 0, which isn't there, where the records of track 16 would fit.
+-- a format 3 without extents
 abbrev pub three_of_nothing : List ℕ
 three_of_nothing = 3 ∷ 3 ∷ 3 ∷ 3 ∷ (replicate 40 0 ++ (0xF3 ∷ replicate 95 0))
 
+-- A format 1, and a format 5, whose pointers say head 16 of cylinder 0. It isn't there; were it counted on as track 16, records would fit.
 abbrev pub head_16_of_a_one : Vtoc
-head_16_of_a_one = record (on_16 (format_4 ∷ no_extent 0xC1 (to 16 3) ∷ three_of_nothing ∷ [])) { valid = false }
+head_16_of_a_one = on_16 0x80 (no_extent 0xC1 (to 16 3) ∷ three_of_nothing ∷ [])
 
 pub head_16_names_no_three : breaches_of head_16_of_a_one ≡ broken_at 16 2 rules.Pointer ∷ broken_at 16 3 rules.Pointer ∷ []
 head_16_names_no_three = refl
 
 abbrev pub head_16_of_a_five : Vtoc
-head_16_of_a_five = on_16 (format_4 ∷ entry_and 1 15 (to 16 3) ∷ entry_and 17 13 nowhere ∷ [])
+head_16_of_a_five = on_16 0 (entry_and 1 15 (to 16 3) ∷ entry_and 17 13 nowhere ∷ [])
 
 pub head_16_names_no_five : breaches_of head_16_of_a_five ≡ broken_at 16 2 rules.Pointer ∷ broken_at 16 3 rules.Pointer ∷ []
 head_16_names_no_five = refl
@@ -289,7 +312,7 @@ head_16_names_no_five = refl
 
 -- a data set on track 0, and one on the VTOC's second track
 abbrev pub on_the_vtoc : Vtoc
-on_the_vtoc = on_two_tracks (format_4 ∷ entry_and 3 12 nowhere ∷ data_set 0xC1 0 0 ∷ data_set 0xC2 2 2 ∷ []) (Some [])
+on_the_vtoc = on_two_tracks (format_4_of_two ∷ entry_and 3 12 nowhere ∷ data_set 0xC1 0 0 ∷ data_set 0xC2 2 2 ∷ []) (Some (one_free_record ∷ []))
 
 pub overlaps_with_the_vtoc_are_told : breaches_of on_the_vtoc ≡ broken_at 1 3 rules.Overlap ∷ broken_at 1 4 rules.Overlap ∷ []
 overlaps_with_the_vtoc_are_told = refl
@@ -302,8 +325,8 @@ tracks_to number first last = 1 ∷ number ∷ 0 ∷ 0 ∷ 0 ∷ first ∷ 0 ∷
 abbrev pub twice_within : Vtoc
 twice_within =
     on_two_tracks
-    (format_4 ∷ entry_and 9 6 nowhere ∷ (0xC1 ∷ 0x4B ∷ 0xC1 ∷ (replicate 41 0x40 ++ (0xF1 ∷ (replicate 60 0 ++ (tracks_to 0 3 5 ++ (tracks_to 1 5 8 ++ replicate 15 0)))))) ∷ [])
-    (Some [])
+    (format_4_of_two ∷ entry_and 9 6 nowhere ∷ (0xC1 ∷ 0x4B ∷ 0xC1 ∷ (replicate 41 0x40 ++ (0xF1 ∷ (replicate 60 0 ++ (tracks_to 0 3 5 ++ (tracks_to 1 5 8 ++ replicate 15 0)))))) ∷ [])
+    (Some (one_free_record ∷ []))
 
 pub overlap_within_a_record_is_told : breaches_of twice_within ≡ broken_at 1 3 rules.Overlap ∷ []
 overlap_within_a_record_is_told = refl
@@ -312,30 +335,30 @@ overlap_within_a_record_is_told = refl
 
 -- of the free tracks 3 to 14 the entry states all but 3
 abbrev pub unstated : Vtoc
-unstated = on_two_tracks (format_4 ∷ entry_and 4 11 nowhere ∷ []) (Some [])
+unstated = on_two_tracks (format_4_of_two ∷ entry_and 4 11 nowhere ∷ []) (Some (one_free_record ∷ []))
 
 pub unstated_track_is_told : breaches_of unstated ≡ broken_at 1 1 rules.Free ∷ []
 unstated_track_is_told = refl
 
 -- 3 to 6 and 6 to 14: track 6 is stated twice
 abbrev pub stated_twice : Vtoc
-stated_twice = on_two_tracks (format_4 ∷ entry_and 3 4 (to 1 3) ∷ entry_and 6 9 nowhere ∷ []) (Some [])
+stated_twice = on_two_tracks (format_4_of_two ∷ entry_and 3 4 (to 1 3) ∷ entry_and 6 9 nowhere ∷ []) (Some (one_free_record ∷ []))
 
 pub track_stated_twice_is_told : breaches_of stated_twice ≡ broken_at 1 1 rules.Free ∷ []
 track_stated_twice_is_told = refl
 
 -- 3 to 15, where 14 is the last track
 abbrev pub stated_beyond : Vtoc
-stated_beyond = on_two_tracks (format_4 ∷ entry_and 3 13 nowhere ∷ []) (Some [])
+stated_beyond = on_two_tracks (format_4_of_two ∷ entry_and 3 13 nowhere ∷ []) (Some (one_free_record ∷ []))
 
 pub track_stated_beyond_is_told : breaches_of stated_beyond ≡ broken_at 1 1 rules.Free ∷ []
 track_stated_beyond_is_told = refl
 
 -- ---- indicators and alternates
 
--- format 4s with an indicator on
+-- format 4s with indicators
 abbrev pub indicated : ℕ → List ℕ
-indicated indicators = replicate 44 4 ++ (0xF4 ∷ (replicate 13 0 ++ (indicators ∷ replicate 81 0)))
+indicated indicators = format_4_with 0 indicators 1 15 (tracks_to 0 1 1)
 
 pub no_indicator_is_valid : is_valid false (indicated 0x01) ≡ true
 no_indicator_is_valid = refl
@@ -368,7 +391,7 @@ stated_tracks_are_usable = refl
 -- A volume of 10 cylinders with 16 alternate tracks and its VTOC on track 1. Two format 5s, of which none names the other, state the
 -- tracks 3 to 6 and 7 to 14.
 abbrev pub four_of_ten : ℕ → List ℕ
-four_of_ten indicators = replicate 44 4 ++ (0xF4 ∷ (replicate 11 0 ++ (0 ∷ 16 ∷ indicators ∷ 0 ∷ 0 ∷ 0 ∷ 0 ∷ 10 ∷ 0 ∷ 15 ∷ (replicate 39 0 ++ (tracks_to 0 1 1 ++ replicate 25 0)))))
+four_of_ten indicators = format_4_with 16 indicators 10 15 (tracks_to 0 1 1)
 
 abbrev pub of_ten : Bool → ℕ → Vtoc
 of_ten sliding indicators = record {
@@ -439,9 +462,13 @@ record_with bytes = record { r = 1; key = take 44 bytes; body = drop 44 bytes }
 abbrev pub track_with : List ℕ → Track
 track_with bytes = record { flag = 0; r0 = replicate 8 0; recs = record_with bytes ∷ [] }
 
--- track 1 has a record 1 of these bytes, and the other slots say nothing
+-- a slot of track 1 with this text, where the other slots say nothing
+abbrev pub slots_of : List ℕ → Slots
+slots_of text track = if track == 1 then text ++ replicate 8 0 else []
+
+-- track 1 has a record 1 of these bytes
 abbrev pub slots_with : List ℕ → Slots
-slots_with bytes track = if track == 1 then track_text pointer.at (track_with bytes) ++ replicate 8 0 else []
+slots_with bytes = slots_of (track_text pointer.at (track_with bytes))
 
 -- 44 and 96 bytes stand there as key and body
 text_stands : (bytes : List ℕ) → length (take 44 bytes) ≡ 44 → length (drop 44 bytes) ≡ 96 → IsTrackText pointer.at (slots_with bytes 1) (track_with bytes)
@@ -464,11 +491,17 @@ format_4_stands bytes key body whole four =
     }
 
 -- all of them hold for the volumes above
+pub format_4_is_named : IsFormat4 15 (slots_with format_4) pointer format_4
+format_4_is_named = format_4_stands format_4 refl refl refl refl
+
 pub geometry_holds : HasGeometry 15 format_4
 geometry_holds = (refl, λ none. absurd (omega (arith, none)))
 
 pub vtoc_extent_holds : HasVtocExtent one_cylinder pointer format_4
 vtoc_extent_holds = record { there = λ none. absurd (omega (arith, none)); run = refl; not_track_0 = omega arith; holds = refl }
+
+pub vtoc_extent_of_two_holds : HasVtocExtent one_cylinder pointer format_4_of_two
+vtoc_extent_of_two_holds = record { there = λ none. absurd (omega (arith, none)); run = refl; not_track_0 = omega arith; holds = refl }
 
 -- an empty slot
 pub no_format_4_is_told : IsFirstRuleBroken one_cylinder (λ track. []) pointer rules.NoFormat4
@@ -506,6 +539,83 @@ vtoc_elsewhere_is_told = (saying 1 15 1 2 0 3, format_4_stands (saying 1 15 1 2 
 -- tracks 1 to 15, where 14 is the last
 pub vtoc_past_the_end_is_told : IsFirstRuleBroken one_cylinder (slots_with (saying 1 15 1 1 1 0)) pointer rules.VtocExtent
 vtoc_past_the_end_is_told = (saying 1 15 1 1 1 0, format_4_stands (saying 1 15 1 1 1 0) refl refl refl refl, (refl, λ none. absurd (omega (arith, none))), λ extent. absurd (cc (extent.run)))
+
+-- ---- a track of a VTOC
+
+one_number : (k : ℕ) → k < 1 → slice_index (map (λ (r : Rec). r.r) (record_with format_4 ∷ [])) k ≡ k + 1
+one_number zero below = refl
+one_number (suc k) below = absurd (omega (arith, below))
+
+-- it reads as its one DSCB
+pub one_record_is_read : IsTrackReading 15 1 (slots_with format_4 1) (Some (format_4 ∷ []))
+one_record_is_read = record {
+  text = track_with format_4;
+  stands = text_stands format_4 refl refl;
+  some = omega arith;
+  numbered = one_number;
+  shaped = All-cons IsDscbRecord (record_with format_4) [] (refl, refl) (All-nil IsDscbRecord);
+  dscbs_are = refl;
+}
+
+-- a slot of a text has no other text
+text_is :
+    (own text : Track) → length (slots_of (track_text pointer.at own) 1) ≤ 65536 → IsTrack own → IsTrackText pointer.at (slots_of (track_text pointer.at own) 1) text
+    → text ≡ own
+text_is own text short sound one =
+    one_text_anywhere pointer.at (slots_of (track_text pointer.at own) 1) text own short one (record { sound = sound; text = (replicate 8 0, refl) })
+
+-- a track without records
+abbrev pub empty_track : Track
+empty_track = record { flag = 0; r0 = replicate 8 0; recs = [] }
+
+pub empty_track_is_none : IsTrackReading 15 1 (slots_of (track_text pointer.at empty_track) 1) None
+empty_track_is_none dscbs is =
+    let text : is.text ≡ empty_track = text_is empty_track is.text (omega arith) (record { zero = refl; records = All-nil IsRecord }) is.stands in
+    absurd (omega (arith, is.some, ap (λ (t : Track). length t.recs) text))
+
+-- records 1 and 3
+abbrev pub third_record : Rec
+third_record = record { r = 3; key = take 44 one_free_record; body = drop 44 one_free_record }
+
+abbrev pub track_with_a_gap : Track
+track_with_a_gap = record { flag = 0; r0 = replicate 8 0; recs = record_with format_4 ∷ third_record ∷ [] }
+
+dscb_is_record : (rec : Rec) → 1 ≤ rec.r → rec.r ≤ 255 → length rec.key ≡ 44 → length rec.body ≡ 96 → IsRecord rec
+dscb_is_record rec some few key body = record { numbered = some; number_fits = few; key_fits = omega (arith, key); body_fits = omega (arith, body) }
+
+gap_is_track : IsTrack track_with_a_gap
+gap_is_track = record {
+  zero = refl;
+  records =
+      All-cons IsRecord (record_with format_4) (third_record ∷ []) (dscb_is_record (record_with format_4) (omega arith) (omega arith) refl refl)
+      (All-cons IsRecord third_record [] (dscb_is_record third_record (omega arith) (omega arith) refl refl) (All-nil IsRecord));
+}
+
+pub gap_is_none : IsTrackReading 15 1 (slots_of (track_text pointer.at track_with_a_gap) 1) None
+gap_is_none dscbs is =
+    let text : is.text ≡ track_with_a_gap = text_is track_with_a_gap is.text (omega arith) gap_is_track is.stands in
+    let two : length is.text.recs ≡ 2 = ap (λ (t : Track). length t.recs) text in
+    let third : slice_index (map (λ (r : Rec). r.r) is.text.recs) 1 ≡ 3 = ap (λ (t : Track). slice_index (map (λ (r : Rec). r.r) t.recs) 1) text in
+    absurd (omega (arith, sym third ∙ is.numbered 1 (omega (arith, two))))
+
+-- a record without a key
+abbrev pub keyless : Rec
+keyless = record { r = 1; key = []; body = drop 44 format_4 }
+
+abbrev pub keyless_track : Track
+keyless_track = record { flag = 0; r0 = replicate 8 0; recs = keyless ∷ [] }
+
+keyless_is_track : IsTrack keyless_track
+keyless_is_track = record {
+  zero = refl;
+  records = All-cons IsRecord keyless [] (record { numbered = omega arith; number_fits = omega arith; key_fits = omega arith; body_fits = omega arith }) (All-nil IsRecord);
+}
+
+pub keyless_record_is_none : IsTrackReading 15 1 (slots_of (track_text pointer.at keyless_track) 1) None
+keyless_record_is_none dscbs is =
+    let text : is.text ≡ keyless_track = text_is keyless_track is.text (omega arith) keyless_is_track is.stands in
+    let shaped : All IsDscbRecord (keyless ∷ []) = subst (λ (t : Track). All IsDscbRecord t.recs) text is.shaped in
+    absurd (omega (arith, (All-head IsDscbRecord keyless [] shaped).0))
 
 -- ---- a release
 

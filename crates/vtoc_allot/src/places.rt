@@ -1,6 +1,6 @@
 //! The places of a VTOC's records after a change.
 
-ghost use Rattle.std.specs.Prelude.{◌≡◌, ◌≤◌, ◌<◌, ◌+◌, ◌-◌, ◌^◌, ◌++◌, [], true, not, length, map, filter, slice_get, IfOk, IfErr};
+ghost use Rattle.std.specs.Prelude.{◌≡◌, ◌≤◌, ◌<◌, ◌+◌, ◌-◌, ◌^◌, ◌++◌, true, not, length, map, filter, slice_get, IfOk, IfErr};
 ghost use Rattle.vtoc_layout.specs.Layout.{AreDistinct};
 ghost use Rattle.vtoc_allot.specs.Allotted.{listed, one_if, is_at as is_at_in, kept_if, held_count, wanted_count, free_count, new_ones, new_threes, new_fives, wants_first, TakesFirst, ArePartsOf, IsAllotted, IsHeld, IsAllotFault};
 

@@ -1,7 +1,7 @@
 //! The whole check of a VTOC.
 
-ghost use Rattle.std.specs.Prelude.{◌≡◌, ◌≤◌, ◌<◌, ◌+◌, ◌++◌, ◌*◌, ◌^◌, [], length, IfOk, IfErr};
-ghost use Rattle.volume_model.specs.Check.{records_of, bad_tracks, bad_dscbs, bad_names, bad_pointers, bad_fives, bad_ranges, bad_overlaps, bad_free, breaches_of, IsLowestOf};
+ghost use Rattle.std.specs.Prelude.{◌≡◌, ◌≤◌, ◌<◌, ◌+◌, ◌++◌, ◌*◌, [], length, IfOk, IfErr};
+ghost use Rattle.volume_model.specs.Check.{records_of, bad_dscbs, bad_names, bad_pointers, bad_fives, bad_ranges, bad_overlaps, bad_free, breaches_of, IsLowestOf};
 ghost use Rattle.ckd_image.specs.Device.{slot_of};
 ghost use Rattle.volume_model.specs.Sound.{Slots, IsCheckFault};
 ghost use Rattle.vtoc_check.specs.Faults.{IsToldFault};

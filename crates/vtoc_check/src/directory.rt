@@ -1,11 +1,10 @@
 //! The records of a VTOC with their places.
 
-ghost use Rattle.std.specs.Prelude.{◌≡◌, ◌+◌, ◌*◌, ◌<◌, ◌≤◌, ◌^◌, ◌++◌, map, length, OnOk, IfOk, IfSome, IfNone, None, Some, slice_index_or};
+ghost use Rattle.std.specs.Prelude.{◌≡◌, ◌+◌, ◌*◌, ◌<◌, ◌≤◌, ◌^◌, ◌++◌, length, OnOk, IfOk, IfSome, IfNone, None, Some, slice_index_or};
 ghost use Rattle.volume_model.specs.declared.place.Placed.{Placed};
 ghost use Rattle.volume_model.specs.Dscbs.{pointer_in};
 ghost use Rattle.volume_model.specs.Directory.{placed_from, placed_in, record_at, named_place, named_record, next_format_3};
-ghost use Rattle.volume_model.specs.Check.{records_of};
-ghost use Rattle.vtoc_check.specs.Places.{number_of, AreShort, IsShort, records_on, numbers_of, IsAscending, AreInOrder, blank};
+ghost use Rattle.vtoc_check.specs.Places.{number_of, AreShort, IsShort, records_on, numbers_of, AreInOrder, blank};
 
 use crate::dscb::{is_format_3, pointer_of};
 use ckd_image::{Cchhr, NoMemory};

@@ -2,7 +2,7 @@
 
 ghost use Rattle.std.specs.Prelude.{◌≡◌, ◌+◌, ◌<◌, ◌≤◌, ◌==◌, All, map, filter, not, true};
 ghost use Rattle.std.specs.List.{list_any};
-ghost use Rattle.volume_model.specs.Dscbs.{format_of, is_f1, is_f3, is_f4, is_f5, is_broken, number_at as number_in, address_at as address_in, extent_at as extent_in, extent_offsets as offsets_in, extents_of, pointer_in};
+ghost use Rattle.volume_model.specs.Dscbs.{format_of, is_f1, is_f3, number_at as number_in, address_at as address_in, extent_at as extent_in, extent_offsets as offsets_in, extents_of, pointer_in};
 ghost use Rattle.volume_model.specs.Space.{is_run as is_run_in, run_of as run_in, track_at};
 
 use ckd_image::{Cchhr, TrackAt};

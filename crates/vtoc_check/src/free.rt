@@ -1,6 +1,6 @@
 //! The rule that the free tracks are stated.
 
-ghost use Rattle.std.specs.Prelude.{◌≡◌, ◌≤◌, ◌<◌, ◌∷◌, ◌++◌, nat_le, All, List, length, true, IfOk};
+ghost use Rattle.std.specs.Prelude.{◌≡◌, ◌≤◌, ◌<◌, ◌∷◌, nat_le, All, List, length, true, IfOk};
 ghost use Rattle.std.specs.List.{list_all};
 ghost use Rattle.free_map.specs.declared.run.Run.{Run};
 ghost use Rattle.volume_model.specs.Dscbs.{numbers_below};

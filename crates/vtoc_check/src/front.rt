@@ -1,9 +1,8 @@
 //! The format 4, and the first three rules, which are on it.
 
-ghost use Rattle.std.specs.Prelude.{◌≡◌, ◌≢◌, ◌≤◌, ◌<◌, ◌↔◌, ℕ, List, IsTrue, IfOk, IfErr, IfSome, IfNone, MatchOption, length, Some};
+ghost use Rattle.std.specs.Prelude.{◌≡◌, ◌≤◌, ◌<◌, ◌↔◌, ℕ, List, IsTrue, IfOk, IfErr, IfSome, IfNone, MatchOption, length, Some};
 ghost use Rattle.ckd_image.specs.Device.{heads_of};
-ghost use Rattle.vol_label.specs.Label.{IsInside};
-ghost use Rattle.volume_model.specs.Dscbs.{format_of, number_at as number_in, extent_at as extent_in};
+ghost use Rattle.volume_model.specs.Dscbs.{format_of};
 ghost use Rattle.volume_model.specs.Directory.{named_place};
 ghost use Rattle.volume_model.specs.Space.{track_at};
 ghost use Rattle.volume_model.specs.Sound.{Slots, IsFormat4, HasGeometry, HasVtocExtent, limit_of};

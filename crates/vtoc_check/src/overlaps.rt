@@ -1,9 +1,9 @@
 //! The rule that no two extents have a track.
 
-ghost use Rattle.std.specs.Prelude.{◌≡◌, ◌≤◌, ◌<◌, ◌||◌, ◌++◌, ◌∷◌, [], ◌==◌, All, true, false, ◌+◌, IfOk, OnOk, List, not, map, filter, length};
+ghost use Rattle.std.specs.Prelude.{◌≡◌, ◌≤◌, ◌<◌, ◌||◌, ◌++◌, ◌∷◌, [], ◌==◌, All, false, ◌+◌, IfOk, OnOk, List, not, map, filter, length};
 ghost use Rattle.volume_model.specs.declared.rule.VtocRule.TheVariants as rules;
-ghost use Rattle.volume_model.specs.Dscbs.{extent_at as extent_in, extents_of};
-ghost use Rattle.volume_model.specs.Space.{is_run as is_run_in, run_of as run_in, runs_of as runs_in, end_of};
+ghost use Rattle.volume_model.specs.Dscbs.{extent_at as extent_in};
+ghost use Rattle.volume_model.specs.Space.{is_run as is_run_in, run_of as run_in, runs_of as runs_in};
 ghost use Rattle.volume_model.specs.Check.{breach, later_ones, track_0, any_overlap, overlap_within, IsLowestOf, records_of, bad_overlaps};
 ghost use Rattle.vtoc_check.specs.Places.{AreInOrder};
 ghost use Rattle.vtoc_check.specs.Sized.{IsSized};

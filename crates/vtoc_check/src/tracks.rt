@@ -1,6 +1,6 @@
 //! Tracks that are used once.
 
-ghost use Rattle.std.specs.Prelude.{◌≡◌, ◌≤◌, ◌<◌, ◌+◌, ◌||◌, ◌^◌, ℕ, List, All, length, true, false, slice_set, slice_index, [], take, max, nat_lt, replicate, IfOk};
+ghost use Rattle.std.specs.Prelude.{◌≡◌, ◌≤◌, ◌<◌, ◌+◌, ◌||◌, ◌^◌, ℕ, List, All, length, true, false, slice_set, slice_index, [], max, replicate, IfOk};
 ghost use Rattle.std.specs.List.{list_any};
 ghost use Rattle.free_map.specs.declared.run.Run.{Run};
 ghost use Rattle.volume_model.specs.Space.{end_of, has_track};

@@ -1,2 +1,1 @@
 -- The front of an empty list.
-use Rattle.std.proofs.Common.{◌≡◌, [], ◌∷◌, ◌++◌}

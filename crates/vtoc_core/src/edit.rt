@@ -1,6 +1,6 @@
 //! The entries of a format 5.
 
-ghost use Rattle.std.specs.Prelude.{◌≡◌, ◌≤◌, length, slice_index_or};
+ghost use Rattle.std.specs.Prelude.{◌≡◌, slice_index_or};
 ghost use Rattle.vtoc_core.specs.Edit.{no_entry, AreEntriesPut};
 
 use dscb_rec::{Entry5, put_entry};

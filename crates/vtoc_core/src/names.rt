@@ -1,6 +1,6 @@
 //! The data set names that 44 bytes are.
 
-ghost use Rattle.std.specs.Prelude.{◌≡◌, ◌≢◌, ◌<◌, ◌≤◌, ◌-◌, ◌↔◌, ◌==◌, ℕ, Bool, IsTrue, if◌then◌else◌, None, Some, IfSome, IfNone, length, slice_index};
+ghost use Rattle.std.specs.Prelude.{◌≡◌, ◌≢◌, ◌<◌, ◌≤◌, ◌-◌, ◌↔◌, ◌==◌, ℕ, IsTrue, None, Some, IfSome, IfNone, slice_index};
 ghost use Rattle.dsn_filter.specs.declared.dsn.Dsn.{Dsn as DsnOf};
 ghost use Rattle.dsn_filter.specs.Dsn.{IsDsn};
 ghost use Rattle.vol_label.specs.CodePage.{ascii_of};

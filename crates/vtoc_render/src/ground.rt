@@ -1,6 +1,6 @@
 //! The records of a VTOC that was loaded before.
 
-ghost use Rattle.std.specs.Prelude.{◌≡◌, not, find, map, IfOk};
+ghost use Rattle.std.specs.Prelude.{◌≡◌, find, map, IfOk};
 ghost use Rattle.std.specs.List.{flat_map};
 ghost use Rattle.std.specs.Option.{option_copied, option_to_list};
 ghost use Rattle.volume_model.specs.declared.place.Vtoc.{Vtoc};

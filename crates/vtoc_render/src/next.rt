@@ -1,7 +1,6 @@
 //! The volume after a change.
 
-ghost use Rattle.std.specs.Prelude.{◌≡◌, ◌+◌, ◌≤◌, ◌<◌, ◌^◌, false, IfOk, length, take};
-ghost use Rattle.volume_model.specs.Changed.{threes_for};
+ghost use Rattle.std.specs.Prelude.{◌≡◌, ◌≤◌, ◌<◌, false, IfOk, length};
 ghost use Rattle.volume_model.specs.Reads.{fields_of_1};
 ghost use Rattle.volume_change.specs.Spot.{behind};
 ghost use Rattle.vtoc_render.specs.Next.{numbered_from, IsRowPut};

@@ -1,6 +1,6 @@
 //! The data set that a change puts.
 
-ghost use Rattle.std.specs.Prelude.{◌≡◌, ◌≢◌, ◌≤◌, ◌<◌, ◌^◌, None, true, All, IfOk, IfSome, length, is_some};
+ghost use Rattle.std.specs.Prelude.{◌≡◌, ◌≢◌, ◌≤◌, ◌<◌, None, true, All, IfOk, IfSome, length, is_some};
 ghost use Rattle.std.specs.Option.{option_copied};
 ghost use Rattle.volume_model.specs.declared.format.Format.TheVariants.{F1};
 ghost use Rattle.volume_model.specs.Dscbs.{format_of};

@@ -7,7 +7,7 @@ ghost use Rattle.dscb_rec.specs.Field.{IsEntry5};
 ghost use Rattle.free_map.specs.Entries.{entry_of};
 ghost use Rattle.free_map.specs.Runs.{AreMaximalRuns};
 ghost use Rattle.volume_model.specs.Space.{end_of};
-ghost use Rattle.volume_change.specs.Runs.{IsRun, runs_in, IsFreeAfter};
+ghost use Rattle.volume_change.specs.Runs.{runs_in, IsFreeAfter};
 ghost use Rattle.vtoc_render.specs.Next.{runs_of_rows};
 ghost use Rattle.vtoc_render.specs.Steps.{AreBelow};
 

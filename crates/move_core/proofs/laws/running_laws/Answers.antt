@@ -1,4 +1,4 @@
-use Rattle.move_core.proofs.Running.{run_then, run_still, run_quiet, run_behind, run_demoted, switch_done, switch_failed}
+use Rattle.move_core.proofs.Running.{run_then, run_still, run_quiet, run_behind, run_demoted, run_stops, run_closed, switch_done, switch_failed}
 use Rattle.move_core.proofs.laws.running_laws.Goals as goal
 
 pub returns-clause-then : goal.returns-clause-then
@@ -21,3 +21,6 @@ returns-clause-switched g c = λ step room entries shape later idle takes moment
   λ end committed. switch_done shape later idle takes moments end committed,
   λ never rose. switch_failed shape later idle takes moments never rose,
 )
+
+pub returns-clause-stops : goal.returns-clause-stops
+returns-clause-stops g c = λ steps pending run told facts units same settled image left. (run_stops run told facts same units settled image left, λ closed. run_closed run told facts same units settled closed image left)

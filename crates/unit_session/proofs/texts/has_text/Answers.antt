@@ -1,8 +1,4 @@
-use Rattle.std.proofs.Common.{ℕ, ap}
-use Rattle.ckd_image.specs.Address.{address_of}
-use Rattle.ckd_image.specs.Device.{heads_of}
 use Rattle.unit_session.proofs.CopyingTexts.{few_cylinders}
-use Rattle.unit_session.proofs.SetTexts.{text_told}
 use Rattle.unit_session.proofs.texts.has_text.Goals as goal
 
 pub of-at-requires-clause-track : goal.of-at-requires-clause-track

@@ -1,4 +1,4 @@
-use Rattle.std.proofs.Common.{◌≡◌, List, ℕ, Ok, All, refl, sym, subst, ◌∙◌}
+use Rattle.std.proofs.Common.{List, ℕ, Ok, All, refl, sym, subst, ◌∙◌}
 use Rattle.std.proofs.lemmas.Result.{err_from_is_err_and}
 use Rattle.unit_load.specs.declared.state.UnitState.{UnitState}
 use Rattle.job_ops.specs.declared.transfer.Act.{Act}

@@ -1,6 +1,6 @@
 use Rattle.std.proofs.Common.{refl, sym, ap, subst, ◌∙◌}
 use Rattle.dasd_pool.specs.Disk.{Shape}
-use Rattle.move_core.proofs.Running.{calls_pending, idle_at_rest, run_quiet}
+use Rattle.move_core.proofs.Running.{idle_at_rest, run_quiet}
 use Rattle.redo_core.specs.Reading.{journal_of}
 use Rattle.unit_steps.specs.Loaded.{AreLoaded, AreVtocsOf}
 use Rattle.unit_session.specs.Planned.{IsReady}
@@ -106,11 +106,10 @@ returns-in-Err-clause-run g c =
     rw (sym c.self.view_is)
     (rw (sym c.session.view_is)
     (rw c.into_pool.ensures
-    (calls_pending (λ never. never) (c.in-Err.ensures.cause refl)
-    (run_quiet {ended = ⊥} writes.shape writes.later (λ never. c.in-Err.ensures.cause refl)
+    (run_quiet writes.shape writes.later (λ never. c.in-Err.ensures.cause refl)
     (writes_unused (g.P.Pool.shape s.journal.pool) (g.P.Pool.disk s.journal.pool).state s.units.items s.vtocs.items p.plan p.work.copies inv.2 inv.3 ready.plan ready.copies
     (λ told. inv.4 told) (λ told. idle_at_rest (c.control-control.ensures.says told) inv.0.idle inv.0.closed))
-    writes.runs))))
+    writes.runs)))
 
 pub returns-in-Ok-clause-writes : goal.returns-in-Ok-clause-writes
 returns-in-Ok-clause-writes g c = rw (sym c.self.view_is) (rw (sym c.session.view_is) c.make_copies.ensures.writes.runs)
