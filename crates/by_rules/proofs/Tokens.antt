@@ -1,6 +1,6 @@
 -- Reading tokens one after the other.
 use Rattle.std.proofs.Common.{◌≡◌, ℕ, List, [], ◌∷◌, ◌++◌, sym, ap, ◌∙◌, Bool, true, false}
-use Rattle.std.specs.Prelude.{◌&&◌, ◌==◌, if◌then◌else◌}
+use Rattle.std.specs.Prelude.{◌==◌, if◌then◌else◌}
 use Rattle.std.specs.List.{list_all}
 use Rattle.sysin_text.specs.Signs.{is_word_byte}
 use Rattle.by_rules.specs.Token.{Symbol, Open, Close, Comma, Word, Other, sign_of, put_front, tokens_of, begins_word}

@@ -1,6 +1,6 @@
 //! Reading criteria token by token.
 
-ghost use Rattle.std.specs.Prelude.{◌≡◌, ◌≤◌, List, Some, None, OnOk, IfErr, IsTrue, ◌↔◌, length};
+ghost use Rattle.std.specs.Prelude.{◌≡◌, List, Some, None, OnOk, IfErr, IsTrue, ◌↔◌, length};
 ghost use Rattle.by_rules.specs.Token.{Symbol, symbol_of};
 ghost use Rattle.by_rules.specs.Grammar.{most_criteria};
 ghost use Rattle.by_rules.specs.Reading.{start, next, run, Stops, HasEnded};

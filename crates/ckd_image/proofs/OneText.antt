@@ -1,5 +1,5 @@
 -- A slot spells one track at most, and none where a field of it is wrong.
-use Rattle.std.proofs.Common.{All, ◌⊎◌, inl, inr, ◌≡◌, ℕ, ◌≤◌, ◌/◌, ◌%◌, List, [], ◌∷◌, ◌++◌, length, Result, Ok, Err, refl, sym, ap, subst, ◌∙◌, append_assoc, arith, length-append, inl, inr}
+use Rattle.std.proofs.Common.{All, ◌⊎◌, inl, inr, ◌≡◌, ℕ, ◌≤◌, ◌/◌, ◌%◌, List, [], ◌∷◌, ◌++◌, length, Result, Ok, Err, refl, sym, ap, subst, ◌∙◌, append_assoc, arith, length-append}
 use Rattle.std.specs.Prelude.{IfErr}
 use Rattle.ckd_image.specs.declared.fault.CkdFault.{CkdFault}
 use Rattle.ckd_image.specs.declared.fault.CkdFault.TheVariants.{BadHead, BadTrack, TrackFull, NoMemory}

@@ -1,6 +1,6 @@
 //! Reading a track's slot.
 
-ghost use Rattle.std.specs.Prelude.{◌≡◌, ℕ, ◌+◌, ◌<◌, ◌≤◌, ◌↔◌, List, ◌++◌, length, All, IsTrue, IfOk, IfErr, IfSome, IfNone};
+ghost use Rattle.std.specs.Prelude.{◌≡◌, ℕ, ◌+◌, ◌<◌, ◌≤◌, ◌↔◌, ◌++◌, length, All, IsTrue, IfOk, IfErr, IfSome, IfNone};
 ghost use Rattle.ckd_image.specs.declared.track.Track.{Track};
 ghost use Rattle.ckd_image.specs.Bytes.{Begins};
 ghost use Rattle.ckd_image.specs.Track.{count_text, home_text, zero_count, zero_text, record_text, records_text, end_mark, IsRecord, IsTrackText};

@@ -1,6 +1,6 @@
 //! Media and reels in memory and over files.
 
-ghost use Rattle.std.specs.Prelude.{◌≡◌, ◌≤◌, ◌==◌, ◌||◌, [], take, drop, length, vec_len, IfOk, IsErr, Some, None};
+ghost use Rattle.std.specs.Prelude.{◌≡◌, ◌≤◌, [], take, drop, length, vec_len, IfOk, IsErr, Some, None};
 ghost use Rattle.dasd_pool.specs.Count.{Rose};
 
 use crate::failures::Failures;

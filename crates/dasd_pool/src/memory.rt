@@ -1,10 +1,10 @@
 //! A pool in memory: what it holds, and either the calls so far or a mark for each block.
 
-ghost use Rattle.std.specs.Prelude.{◌≡◌, ◌*◌, ◌/◌, min, ◌^◌, ◌-◌, ◌+◌, ◌≤◌, ◌<◌, ◌++◌, [], ◌∷◌, ℕ, length, take, drop, slice_set, slice_index_or, vec_len, IfOk, OnOk, OnErr, All, if◌then◌else◌};
+ghost use Rattle.std.specs.Prelude.{◌≡◌, ◌*◌, ◌/◌, min, ◌^◌, ◌-◌, ◌+◌, ◌≤◌, ◌<◌, [], ℕ, length, take, drop, slice_set, slice_index_or, IfOk, OnOk, OnErr, All, if◌then◌else◌};
 ghost use Rattle.dasd_pool.specs.declared.calls.Call.TheVariants.{Read, Sync};
 ghost use Rattle.dasd_pool.specs.Count.{HasCause};
 ghost use Rattle.dasd_pool.specs.Disk.{Runs, none, is_at, IsSynced};
-ghost use Rattle.dasd_pool.specs.Calls.{LeftSince, block_at, IsKept, written, size_in, size_of, texts_of, items_of, first_state, shape_of, image_of};
+ghost use Rattle.dasd_pool.specs.Calls.{LeftSince, block_at, IsKept, written, size_in, size_of, texts_of, items_of, first_state, shape_of};
 ghost use Rattle.dasd_pool.specs.Memory.{fresh, disk_of, state_of, is_full, fails, IsCall, Keeps, KeepsWrite, write_step, sync_step, IsLeftOf};
 ghost use Rattle.dasd_pool.specs.Tears.{torn, trace_after, trace_first, IsSized, IsTornFrom, torn_image};
 
@@ -31,10 +31,9 @@ pub struct MemoryPool {
 }
 
 impl Model for MemoryPool {
-    ghost use Rattle.std.specs.Prelude.{List, ℕ, Bool};
+    ghost use Rattle.std.specs.Prelude.{ℕ};
     ghost use Rattle.dasd_pool.specs.declared.units.UnitText.{UnitText};
     ghost use Rattle.dasd_pool.specs.Calls.{items_of};
-    ghost use Rattle.dasd_pool.specs.Kept.{KeptView};
     ghost use Rattle.dasd_pool.specs.Memory.{MemoryView, Agree, view_of};
 
     ghost Value = { MemoryView };

@@ -1,6 +1,6 @@
 //! Sources and sinks in memory and over files.
 
-ghost use Rattle.std.specs.Prelude.{◌≡◌, ◌<◌, ◌≤◌, ◌+◌, [], length, drop, vec_len, IfOk, Some, None};
+ghost use Rattle.std.specs.Prelude.{◌≡◌, ◌<◌, ◌≤◌, ◌+◌, [], length, drop, IfOk, Some, None};
 
 use crate::outside::{ReadFault, Sink, Source, WriteFault};
 use crate::units::risen;

@@ -1,6 +1,6 @@
 //! Blocks as a stop leaves them.
 
-ghost use Rattle.std.specs.Prelude.{◌≡◌, ◌<◌, ℕ, All, length, IfOk};
+ghost use Rattle.std.specs.Prelude.{◌≡◌, ◌<◌, All, length, IfOk};
 ghost use Rattle.dasd_pool.specs.Tears.{trace_step, trace_after, trace_first, torn, IsSized};
 ghost use Rattle.dasd_pool.specs.Blocks.{seen};
 

@@ -1,5 +1,5 @@
 -- A DD name as it is kept.
-use Rattle.std.specs.Prelude.{◌≡◌, ◌-◌, ℕ, List, ◌++◌, length, replicate}
+use Rattle.std.specs.Prelude.{◌-◌, ℕ, List, ◌++◌, length, replicate}
 use Rattle.dsn_filter.specs.Text.{capitals}
 use Rattle.dd_names.specs.declared.dd.DdName.{DdName}
 

@@ -1,6 +1,6 @@
 //! What is done to the outputs of a dump, one after the other.
 
-ghost use Rattle.std.specs.Prelude.{◌≡◌, ◌<◌, ℕ, All, length};
+ghost use Rattle.std.specs.Prelude.{◌≡◌, ◌<◌, All, length};
 ghost use Rattle.dump_fmt.specs.Outs.{marked, IsSentTo, IsFinished, EachAt, AreDistinct};
 
 use crate::outs::{OutDd, OutState, Seen};

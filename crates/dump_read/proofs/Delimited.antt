@@ -78,7 +78,7 @@ track_apart a b x y p q few less e =
 
 -- ---- pieces
 
-other_mark : (a b : List ℕ) → a ≡ b → slice_index a 0 ≢ slice_index b 0 → ⊥
+pub other_mark : (a b : List ℕ) → a ≡ b → slice_index a 0 ≢ slice_index b 0 → ⊥
 other_mark a b e differ = differ (ap (λ (l : List ℕ). slice_index l 0) e)
 
 part_apart : (f1 f2 : List ℕ) (tracks tracks2 kind kind2 : ℕ) (x y : List ℕ) → IsBounded (Part f1 tracks kind) → IsBounded (Part f2 tracks2 kind2)

@@ -135,7 +135,7 @@ day_there full tracks many =
     let behind = vtoc_there full tracks many in
     (pair_text (0, 0) ++ behind.0, record { value = (0, 0); may = tt; rest = behind.0; behind = behind.1; spelled = refl })
 
-one_cylinder : (device : Device) → IsCylinders device 15
+pub one_cylinder : (device : Device) → IsCylinders device 15
 one_cylinder D3390 = (omega arith, omega arith, refl)
 one_cylinder D3380 = (omega arith, omega arith, refl)
 

@@ -17,7 +17,7 @@ use Rattle.dump_read.specs.Shape.{IsGoing, MayEndPart, HasByteName}
 use Rattle.dump_read.specs.Standing.{last_name}
 use Rattle.dump_read.proofs.Counts.{tracks_in, all_none, all_some, front_all, front_pairs}
 use Rattle.dump_read.proofs.Going.{not_full, logical, logical_by, of_logical, slots_by, of_slots, last_is}
-use Rattle.dump_read.proofs.Names.{take_front}
+use Rattle.dump_read.proofs.PartChain.{take_length}
 use Rattle.dump_read.proofs.OnWay.{Precedes, last_pair}
 use Rattle.dump_read.proofs.Ordered.{behind_each}
 use Rattle.dump_read.proofs.Shapes.{empty_slot}
@@ -103,7 +103,7 @@ module _ (name : List ℕ) (long : length name ≡ 44) where
   }
 
   pub f1_name : take 44 (named_f1 name) ≡ name
-  f1_name = ap (take 44) unfolded ∙ take_front name ((0xF1 ∷ replicate 60 0) ++ replicate 35 0) 44 long
+  f1_name = ap (take 44) unfolded ∙ take_length name ((0xF1 ∷ replicate 60 0) ++ replicate 35 0) 44 long
 
 pub part_more : (head : DumpHead) (front : Front) (name : List ℕ) → front.current ≡ None → head.full ≡ false → IsGoing head front → length front.parts < largest_count → IsNextName (last_name front.parts) name
     → IsGoing head (with_current front (Some (begun (named_f1 name) 0 0x01)))

@@ -1,5 +1,5 @@
 -- Names of which some bytes stand there.
-use Rattle.std.proofs.Common.{Bool, ◌≡◌, inl, inr, ℕ, zero, suc, ◌+◌, ◌-◌, ◌≤◌, ◌<◌, true, false, List, [], ◌∷◌, ◌++◌, length, take, replicate, All, Option, Some, None, IsTrue, refl, sym, ap, subst, ◌∙◌, arith, length-append}
+use Rattle.std.proofs.Common.{Bool, ◌≡◌, inl, inr, ℕ, ◌+◌, ◌-◌, ◌≤◌, ◌<◌, true, false, List, [], ◌∷◌, ◌++◌, length, take, replicate, All, Option, Some, None, IsTrue, refl, sym, ap, subst, ◌∙◌, arith, length-append}
 use Rattle.std.specs.List.{AllByRecursion}
 use Rattle.std.specs.Ordering.{is_lt, nat_cmp, ordering_then}
 use Rattle.std.specs.Cmp.{nat_cmp_is}
@@ -11,6 +11,7 @@ use Rattle.std.proofs.lemmas.List.Elements.{recursion_from_All, All-from_recursi
 use Rattle.std.proofs.lemmas.Bool.{cases_lt}
 use Rattle.ckd_image.specs.Bytes.{Begins}
 use Rattle.dump_read.specs.PartText.{IsNextName, IsBehind, BeginsName}
+use Rattle.dump_read.proofs.PartChain.{take_length}
 use Rattle.dump_read.proofs.Words.{whole_front}
 
 less_first : (x y : ℕ) (a b : List ℕ) → x < y → IsTrue (is_lt (slice_cmp nat_cmp (x ∷ a) (y ∷ b)))
@@ -95,15 +96,9 @@ name_cut_wrong before bytes text short is none = λ (name, may, front).
     let filled = behind_filled before bytes more bound (subst (IsBehind before) spelled may.order) in
     none (subst (IsBehind before) (sym (is ∙ ap (λ (n : ℕ). bytes ++ replicate n 0xFF) (sym long))) filled)
 
-pub take_front : (front rest : List ℕ) (n : ℕ) → length front ≡ n → take n (front ++ rest) ≡ front
-take_front [] rest zero six = refl
-take_front [] rest (suc n) six = absurd (omega arith)
-take_front (x ∷ front) rest zero six = absurd (omega arith)
-take_front (x ∷ front) rest (suc n) six = ap (λ (t : List ℕ). x ∷ t) (take_front front rest n (omega arith))
-
 pub name_wrong : (before : Option (List ℕ)) (bytes front rest : List ℕ) → bytes ≡ front ++ rest → length front ≡ 44 → ¬ IsBehind before front → ¬ BeginsName before (take 44 bytes)
 name_wrong before bytes front rest found long none = λ (name, may, (more, e)).
-    let here : take 44 bytes ≡ front = ap (take 44) found ∙ take_front front rest 44 long in
+    let here : take 44 bytes ≡ front = ap (take 44) found ∙ take_length front rest 44 long in
     let same : name ≡ front ++ more = e ∙ ap (λ (t : List ℕ). t ++ more) here in
     let all : name ≡ front = whole_front front name more same (let a = may.long in omega arith) in
     none (subst (IsBehind before) all may.order)

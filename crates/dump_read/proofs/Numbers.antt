@@ -109,7 +109,7 @@ tracks_wrong device bytes rest v small is none = whole_wrong (IsCylinders device
 
 -- ---- the track of the format 4
 
-few_vtoc : (full : Bool) (tracks n : ℕ) → tracks ≤ 65535 → IsVtocTrack full tracks n → n < 2 ^ 32
+pub few_vtoc : (full : Bool) (tracks n : ℕ) → tracks ≤ 65535 → IsVtocTrack full tracks n → n < 2 ^ 32
 few_vtoc true tracks n few is = let h = is.1 in omega arith
 few_vtoc false tracks n few is = omega arith
 

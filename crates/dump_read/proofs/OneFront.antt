@@ -1,5 +1,5 @@
 -- Fronts of dumps that stand at the front of the same bytes: one goes on to the other, piece by piece.
-use Rattle.std.proofs.Common.{◌≡◌, ◌⊎◌, inl, inr, ℕ, ◌^◌, ◌≤◌, ◌<◌, Bool, true, false, List, [], ◌∷◌, ◌++◌, length, replicate, All, Option, Some, None, IfSome, refl, sym, ap, subst, ◌∙◌, arith, length-append, append_assoc}
+use Rattle.std.proofs.Common.{◌≡◌, ◌⊎◌, inl, inr, ℕ, Bool, true, false, List, [], ◌∷◌, ◌++◌, length, replicate, All, Option, Some, None, IfSome, refl, sym, ap, subst, ◌∙◌, arith, length-append, append_assoc}
 use Rattle.std.specs.List.{flat_map, AllByRecursion}
 use Rattle.std.proofs.lemmas.Grind.{flat_map-append}
 use Rattle.std.proofs.lemmas.List.{append-nil}
@@ -8,7 +8,7 @@ use Rattle.byteorder.specs.Endian.{big_bytes}
 use Rattle.ckd_image.specs.Bytes.{Begins}
 use Rattle.dump_fmt.specs.declared.piece.DumpHead.{DumpHead}
 use Rattle.dump_fmt.specs.declared.piece.Piece.{Piece}
-use Rattle.dump_fmt.specs.Head.{IsDumpHead, IsVtocTrack, header_text, volume_text, day_text}
+use Rattle.dump_fmt.specs.Head.{IsDumpHead, header_text, volume_text, day_text}
 use Rattle.dump_fmt.specs.Parts.{DumpPart, part_pieces}
 use Rattle.dump_fmt.specs.Pieces.{piece_text, pieces_text}
 use Rattle.dump_fmt.specs.Front.{Front, Adds, IsOfKind, IsFull, IsFront, front_pieces, current_pieces}
@@ -20,17 +20,13 @@ use Rattle.dump_read.proofs.Counts.{all_none}
 use Rattle.dump_read.proofs.Delimited.{IsBounded, pieces_delimited, no_trailer}
 use Rattle.dump_read.proofs.Fed.{long_header}
 use Rattle.dump_read.proofs.Going.{logical_by, of_slots, last_is}
-use Rattle.dump_read.proofs.Numbers.{one_number}
+use Rattle.dump_read.proofs.Numbers.{one_number, few_vtoc}
 use Rattle.dump_read.proofs.OnWay.{between, within}
 use Rattle.dump_read.proofs.Shapes.{in_parts, alike, front_alike, closes_alike, pieces_of_parts, bounded, no_slots_by, fronts_go_on, shapes_go_on}
 use Rattle.dump_read.proofs.Stages.{StandsBehind, pieces_front, on_way}
 use Rattle.ckd_image.proofs.OneText.{split_same}
 
 -- ---- headers of one text
-
-vtoc_small : (full : Bool) (tracks vtoc : ℕ) → tracks ≤ 65535 → IsVtocTrack full tracks vtoc → vtoc < 2 ^ 32
-vtoc_small true tracks vtoc few is = omega (arith, few, is.1)
-vtoc_small false tracks vtoc few is = omega (arith, is)
 
 -- they name the same track of the format 4
 pub same_vtoc : (head other : DumpHead) → IsDumpHead head → IsDumpHead other → header_text head ≡ header_text other → head.vtoc ≡ other.vtoc
@@ -41,7 +37,7 @@ same_vtoc head other sound right e =
     (big_bytes 2 other.day.day ++ (big_bytes 4 other.vtoc ++ replicate 4 0)) refl days.1 in
     let day = split_same (big_bytes 2 head.day.day) (big_bytes 2 other.day.day) (big_bytes 4 head.vtoc ++ replicate 4 0) (big_bytes 4 other.vtoc ++ replicate 4 0) refl years.1 in
     let vtocs = split_same (big_bytes 4 head.vtoc) (big_bytes 4 other.vtoc) (replicate 4 0) (replicate 4 0) refl day.1 in
-    one_number head.vtoc other.vtoc (vtoc_small head.full head.tracks head.vtoc sound.tracks.1 sound.vtoc) (vtoc_small other.full other.tracks other.vtoc right.tracks.1 right.vtoc) vtocs.0
+    one_number head.vtoc other.vtoc (few_vtoc head.full head.tracks head.vtoc sound.tracks.1 sound.vtoc) (few_vtoc other.full other.tracks other.vtoc right.tracks.1 right.vtoc) vtocs.0
 
 -- ---- the front of a dump with which a shape begins is going
 

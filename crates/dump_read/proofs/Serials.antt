@@ -7,6 +7,7 @@ use Rattle.ckd_image.specs.Bytes.{Begins}
 use Rattle.vol_label.specs.Serial.{IsSerial, IsSerialByte, HasCharacters}
 use Rattle.dump_read.specs.Header.{BeginsSerial}
 use Rattle.dump_read.proofs.Chains.{none_is}
+use Rattle.dump_read.proofs.PartChain.{take_length}
 use Rattle.dump_read.proofs.Headers.{some_serial, is_some_serial}
 
 at_front : (v w : List ℕ) (k : ℕ) → k < length v → slice_index (v ++ w) k ≡ slice_index v k
@@ -51,16 +52,10 @@ pub serial_none : (bytes : List ℕ) → length bytes ≡ 0 → BeginsSerial byt
 serial_none [] none = (some_serial, is_some_serial, (some_serial, refl))
 serial_none (x ∷ bytes) none = absurd (omega arith)
 
-front_of : (front rest : List ℕ) (n : ℕ) → length front ≡ n → take n (front ++ rest) ≡ front
-front_of [] rest zero six = refl
-front_of [] rest (suc n) six = absurd (omega arith)
-front_of (x ∷ front) rest zero six = absurd (omega arith)
-front_of (x ∷ front) rest (suc n) six = ap (λ (t : List ℕ). x ∷ t) (front_of front rest n (omega arith))
-
 pub serial_wrong : (bytes front rest text : List ℕ) → bytes ≡ front ++ rest → length front ≡ 6 → text ≡ front → ¬ IsSerial text → ¬ BeginsSerial (take 6 bytes)
 serial_wrong bytes front rest text found six there not_one =
     let none : ¬ IsSerial front = subst (λ (t : List ℕ). ¬ IsSerial t) there not_one in λ (other, may, (more, e)).
-    let here : take 6 bytes ≡ front = ap (take 6) found ∙ front_of front rest 6 six in
+    let here : take 6 bytes ≡ front = ap (take 6) found ∙ take_length front rest 6 six in
     let same : other ≡ front ++ more = e ∙ ap (λ (t : List ℕ). t ++ more) here in
     let last : more ≡ [] = none_is more (let a = ap length same in let b = length-append front more in let c = may.1.six in omega arith) in
     none (subst IsSerial (same ∙ ap (λ (t : List ℕ). front ++ t) last ∙ append-nil front) may)

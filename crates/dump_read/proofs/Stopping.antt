@@ -1,6 +1,6 @@
 -- Why no header is read, from each field on.
-use Rattle.std.proofs.Common.{◌≡◌, ◌≢◌, ℕ, ◌+◌, ◌≤◌, ◌<◌, Bool, true, false, List, [], ◌++◌, length, take, replicate, refl, sym, ap, subst, ◌∙◌, arith, append_assoc, length-append}
-use Rattle.std.specs.Prelude.{codes, slice_index}
+use Rattle.std.proofs.Common.{◌≡◌, ℕ, ◌+◌, ◌≤◌, ◌<◌, Bool, true, false, List, [], ◌++◌, length, take, replicate, refl, sym, ap, subst, ◌∙◌, arith, append_assoc, length-append}
+use Rattle.std.specs.Prelude.{codes}
 use Rattle.byteorder.specs.Endian.{big_bytes}
 use Rattle.ckd_image.specs.declared.device.Device.{Device}
 use Rattle.ckd_image.specs.declared.device.Device.TheVariants.{D3390, D3380}
@@ -16,8 +16,9 @@ use Rattle.dump_read.specs.declared.header.HeaderStop.TheVariants.{Wrong, Cut}
 use Rattle.dump_read.specs.Fields.{GoesOn, IsFirstWrong, IsFieldFront}
 use Rattle.dump_read.specs.Header.{offset_of, length_of, IsHeader, IsHeaderStop, Stops, kind_text, device_text, pair_text, BeginsFixed, BeginsKind, BeginsDevice, BeginsSerial, BeginsTracks, BeginsDay, BeginsVtoc}
 use Rattle.dump_read.proofs.Chains.{Then, wrong_here, wrong_behind, cut_behind, field_goes, wrong_as, goes_as}
+use Rattle.dump_read.proofs.Delimited.{other_mark}
 use Rattle.dump_read.proofs.Numbers.{one_number}
-use Rattle.dump_read.proofs.Headers.{FromMagic, FromKind, FromDevice, FromSerial, FromTracks, FromDay, FromVtoc, FromZeros, chain_of, header_of, kind_there, device_there, serial_there, tracks_there, day_there, vtoc_there, zeros_there, some_serial, is_some_serial}
+use Rattle.dump_read.proofs.Headers.{FromMagic, FromKind, FromDevice, FromSerial, FromTracks, FromDay, FromVtoc, FromZeros, chain_of, header_of, kind_there, one_cylinder, device_there, serial_there, tracks_there, day_there, vtoc_there, zeros_there, some_serial, is_some_serial}
 
 -- why bytes from a place of the header on aren't what may stand there
 abbrev pub StopsAt : (List ℕ → Type 0) → List ℕ → ℕ → HeaderStop → Type 0
@@ -55,19 +56,16 @@ pub many_tracks : (device : Device) (n : ℕ) → IsCylinders device n → 2 ≤
 many_tracks D3390 n is = let a = is.0 in let b = is.2 in omega arith
 many_tracks D3380 n is = let a = is.0 in let b = is.2 in omega arith
 
-other_front : (a b : List ℕ) → a ≡ b → slice_index a 0 ≢ slice_index b 0 → ⊥
-other_front a b e apart = apart (ap (λ (l : List ℕ). slice_index l 0) e)
-
 pub one_kind : (a b : Bool) → kind_text a ≡ kind_text b → a ≡ b
 one_kind true true e = refl
-one_kind true false e = absurd (other_front (kind_text true) (kind_text false) e (omega arith))
-one_kind false true e = absurd (other_front (kind_text false) (kind_text true) e (omega arith))
+one_kind true false e = absurd (other_mark (kind_text true) (kind_text false) e (omega arith))
+one_kind false true e = absurd (other_mark (kind_text false) (kind_text true) e (omega arith))
 one_kind false false e = refl
 
 pub one_device : (a b : Device) → device_text a ≡ device_text b → a ≡ b
 one_device D3390 D3390 e = refl
-one_device D3390 D3380 e = absurd (other_front (device_text D3390) (device_text D3380) e (omega arith))
-one_device D3380 D3390 e = absurd (other_front (device_text D3380) (device_text D3390) e (omega arith))
+one_device D3390 D3380 e = absurd (other_mark (device_text D3390) (device_text D3380) e (omega arith))
+one_device D3380 D3390 e = absurd (other_mark (device_text D3380) (device_text D3390) e (omega arith))
 one_device D3380 D3380 e = refl
 
 pub at_magic : (bytes : List ℕ) (stop : HeaderStop) → Stops fields.Magic (BeginsFixed (codes "ADRDUMP1")) bytes stop → StopsAt FromMagic bytes 0 stop
@@ -106,10 +104,6 @@ pub behind_serial : (full : Bool) (device : Device) (serial bytes rest : List �
     → StopsAt (FromSerial full device) bytes 10 stop
 behind_serial full device serial bytes rest stop may is stops =
     stops_behind IsSerial (λ serial. serial) (λ serial. FromTracks full device) 6 (λ x may. may.1.six) bytes rest serial 10 16 stop refl may is (λ y r may same behind. behind) stops
-
-one_cylinder : (device : Device) → IsCylinders device 15
-one_cylinder D3390 = (omega arith, omega arith, refl)
-one_cylinder D3380 = (omega arith, omega arith, refl)
 
 pub at_tracks : (full : Bool) (device : Device) (bytes : List ℕ) (stop : HeaderStop) → Stops fields.Tracks (BeginsTracks device) bytes stop → StopsAt (FromTracks full device) bytes 16 stop
 at_tracks full device bytes stop stops =

@@ -1,9 +1,8 @@
 //! The fields of a header.
 
-ghost use Rattle.std.specs.Prelude.{◌≡◌, ◌<◌, ◌≤◌, ◌-◌, ◌++◌, ◌∷◌, [], length, ◌↔◌, IsTrue, IfOk, IfErr, replicate};
+ghost use Rattle.std.specs.Prelude.{◌≡◌, ◌<◌, ◌≤◌, ◌-◌, ◌++◌, length, ◌↔◌, IsTrue, IfOk, IfErr, replicate};
 ghost use Rattle.byteorder.specs.Endian.{big_bytes};
-ghost use Rattle.ckd_image.specs.Bytes.{Begins};
-ghost use Rattle.ckd_image.specs.Head.{device_byte, IsCylinders};
+ghost use Rattle.ckd_image.specs.Head.{IsCylinders};
 ghost use Rattle.vol_label.specs.Serial.{IsSerial};
 ghost use Rattle.dump_fmt.specs.Head.{IsVtocTrack};
 ghost use Rattle.dump_read.specs.Header.{length_of, kind_text, device_text, pair_text, Stops, BeginsFixed, BeginsKind, BeginsDevice, BeginsSerial, BeginsTracks, BeginsDay, BeginsVtoc};

@@ -1,14 +1,12 @@
 //! Reading a dump from a reel.
 
-ghost use Rattle.std.specs.Prelude.{◌≡◌, ◌≢◌, ◌≤◌, ◌+◌, ◌∷◌, [], length, drop, min, true, IfOk, IfErr, IfSome, IfNone, OnOk};
-ghost use Rattle.ckd_image.specs.Bytes.{Begins};
+ghost use Rattle.std.specs.Prelude.{◌≡◌, ◌≢◌, ◌≤◌, ◌+◌, length, drop, min, true, IfOk, IfErr, IfSome, IfNone, OnOk};
 ghost use Rattle.ckd_image.specs.Device.{slot_of};
 ghost use Rattle.dump_fmt.specs.Front.{Front, empty_front, IsFront};
 ghost use Rattle.dump_fmt.specs.Head.{IsDumpHead};
 ghost use Rattle.dump_fmt.specs.Text.{IsDumpText};
 ghost use Rattle.dump_read.specs.Faults.{why_of, IsHeadFault, IsFaultBehind, IsDumpFault};
 ghost use Rattle.dump_read.specs.Feed.{largest_offset};
-ghost use Rattle.dump_read.specs.Marks.{byte_of};
 ghost use Rattle.dump_read.specs.Reader.{IsAhead, IsReading, IsMarked, Gives, GivesNext, IsWhole, IsLabelled, IsLabelFault, HasItsCause};
 ghost use Rattle.dump_read.specs.Shape.{IsGoing};
 ghost use Rattle.dump_read.specs.Standing.{StandsAt};

@@ -1,6 +1,6 @@
 //! Places for a number of tracks among free runs.
 
-ghost use Rattle.std.specs.Prelude.{◌≡◌, ℕ, ◌+◌, ◌<◌, ◌≤◌, ◌++◌, All, IfSome, IfNone};
+ghost use Rattle.std.specs.Prelude.{◌≡◌, ℕ, ◌+◌, ◌<◌, ◌≤◌, All, IfSome, IfNone};
 ghost use Rattle.free_map.specs.Runs.{AreApart, InRuns};
 ghost use Rattle.free_map.specs.Place.{rounded, aligned_part, IsPlace, IsLowestPlace};
 

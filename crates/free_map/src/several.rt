@@ -1,6 +1,6 @@
 //! Places for a number of tracks in several free runs.
 
-ghost use Rattle.std.specs.Prelude.{◌≡◌, ℕ, ◌+◌, ◌<◌, ◌≤◌, take, All, IfOk, IfErr, IfSome, IfNone};
+ghost use Rattle.std.specs.Prelude.{◌≡◌, ◌+◌, ◌<◌, ◌≤◌, take, All, IfOk, IfErr, IfSome, IfNone};
 ghost use Rattle.free_map.specs.Runs.{AreApart};
 ghost use Rattle.free_map.specs.Free.{count_of};
 ghost use Rattle.free_map.specs.Several.{AreLongestFirst, IsCutFront, AreChosen, IsChoiceFault};

@@ -1,8 +1,7 @@
 //! What free runs come to: their entries, and how far they are in pieces.
 
-ghost use Rattle.std.specs.Prelude.{◌≡◌, ℕ, ◌+◌, ◌<◌, ◌≤◌, All, IfOk, map};
+ghost use Rattle.std.specs.Prelude.{◌≡◌, ◌+◌, ◌<◌, ◌≤◌, All, IfOk, map};
 ghost use Rattle.dscb_rec.specs.Field.{IsEntry5};
-ghost use Rattle.free_map.specs.Runs.{AreApart};
 ghost use Rattle.free_map.specs.Free.{count_of, longest_of, index_of};
 ghost use Rattle.free_map.specs.Entries.{entry_of};
 

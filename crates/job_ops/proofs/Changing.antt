@@ -24,10 +24,10 @@ use Rattle.job_ops.specs.declared.reshaping.Reshaped.{Reshaped}
 use Rattle.job_ops.specs.declared.reshaping.Reshaped.TheVariants as variants
 use Rattle.job_ops.specs.declared.task.Task.{Task}
 use Rattle.job_ops.specs.Asked.{MayBeChanged, IsCandidate, IsSeen}
-use Rattle.job_ops.specs.Ends.{ForUnits, LeavesFacts, Ends}
-use Rattle.job_ops.specs.Reshaping.{CanHave, MayReshape, NeedsRepair, StaysChangeable, EndsReshape, CutKeepsFacts, HasRoomToReshape, LacksRoomToReshape, IsTarget, steps_of_reshape}
+use Rattle.job_ops.specs.Ends.{ForUnits, Ends}
+use Rattle.job_ops.specs.Reshaping.{CanHave, MayReshape, NeedsRepair, StaysChangeable, EndsReshape, HasRoomToReshape, LacksRoomToReshape, IsTarget, steps_of_reshape}
 use Rattle.job_ops.specs.Turns.{Action, IsCutAction}
-use Rattle.job_ops.proofs.SameSessions.{keeps_same, ends_told, told_grows}
+use Rattle.job_ops.proofs.SameSessions.{keeps_same, cut_leaves, only_short, ends_told, told_grows}
 use Rattle.job_steps.proofs.unit_session.unit_steps.OneChange.{same_volume}
 
 -- what a turn asks for
@@ -41,18 +41,9 @@ target_seen layout seen = record { online_is = seen.set_is.online_is; there = se
 -- ---- what was cut
 
 module _ {P : Type 0} (pools : Ghosts P) where
-  cut_leaves : (session : SessionView P) (cut : Cut P) → CutKeepsFacts pools session cut → LeavesFacts pools session (Err cut)
-  cut_leaves session (cuts.Halted broken) keeps = tt
-  cut_leaves session (cuts.Short kept) keeps = keeps
-
   -- a session whose units are the same can be changed as before
   pub stays_same : (room : ℕ) (unit : ℕ) {before after : List UnitState} → after ≡ before → StaysChangeable room before after unit
   stays_same room unit {before} {after} same = subst (λ (units : List UnitState). StaysChangeable room before units unit) (sym same) (λ old. (old, λ name row has. (row, has)))
-
-  only_short : (session : SessionView P) (before after : List Message) (result : Result (SessionView P) (Cut P)) → IfErr result (λ cut. (cut ≡ cuts.Short session) × (after ≡ before))
-      → IfErr result (λ cut. cut ≡ cuts.Short session)
-  only_short session before after (Ok next) err = tt
-  only_short session before after (Err cut) err = err.0
 
   -- steps all done, of an action that was then cut
   all_done : (Means : Action) (units : List UnitModel) (all : List Step) (said : List Message) → Means units all said → IsCutAction Means units all None
@@ -67,7 +58,7 @@ module _ {P : Type 0} (pools : Ghosts P) where
     steps_are = ends.steps_are;
     messages_are = sym (append-nil messages);
     run = ends.run;
-    facts = cut_leaves session cut ends.answers.0;
+    facts = cut_leaves pools session cut ends.answers.0;
     ended = tt;
     cut = within ends.answers.1;
   }

@@ -33,15 +33,14 @@ use Rattle.job_ops.specs.declared.transfer.Transferred.TheVariants as variants
 use Rattle.job_ops.specs.Acts.{acts_of, steps_of_transfer, MayTransfer, AllFit, SomeLacks, AreKnown, EndsTransfer}
 use Rattle.job_ops.specs.Copy.{Request, CopiesSet, PreventsCopy, IsNewName, all_repairs, all_rebuilt}
 use Rattle.job_ops.specs.Copying.{request_in, IsThere, IsCase, GoesSoFar, IsReplacedIn, ArePlacedIn, HasGoodTexts, AreLines, IsTransferOf, StaysCopyable}
-use Rattle.job_ops.specs.Ends.{ForUnits, Ends, LeavesFacts}
-use Rattle.job_ops.specs.Reshaping.{CutKeepsFacts}
+use Rattle.job_ops.specs.Ends.{ForUnits, Ends}
 use Rattle.job_ops.specs.Setting.{facts_of}
 use Rattle.job_ops.specs.Turns.{Action, IsCutAction}
 use Rattle.job_ops.proofs.CopyBehind.{stays_done, stays_same}
 use Rattle.job_ops.proofs.CopyRoom.{IsTransferIn, has_room, lacks_room}
 use Rattle.job_ops.proofs.CopySteps.{steps_same, lines_same}
 use Rattle.job_ops.proofs.CopyTurns.{case_of, is_case, no_reason, vtoc_full, placed_somewhere}
-use Rattle.job_ops.proofs.SameSessions.{keeps_same, ends_told, told_grows}
+use Rattle.job_ops.proofs.SameSessions.{keeps_same, cut_leaves, only_short, ends_told, told_grows}
 use Rattle.job_ops.proofs.TextCounts.{texts_counted}
 
 -- ---- a data set that isn't copied
@@ -187,15 +186,6 @@ module _ {P : Type 0} (pools : Ghosts P) (session : SessionView P) (scene : Scen
 
   -- ---- ends
 
-  cut_leaves : (cut : Cut P) → CutKeepsFacts pools session cut → LeavesFacts pools session (Err cut)
-  cut_leaves (cuts.Halted broken) keeps = tt
-  cut_leaves (cuts.Short kept) keeps = keeps
-
-  only_short : (kept : SessionView P) (before after : List Message) (result : Result (SessionView P) (Cut P)) → IfErr result (λ cut. (cut ≡ cuts.Short kept) × (after ≡ before))
-      → IfErr result (λ cut. cut ≡ cuts.Short kept)
-  only_short kept before after (Ok next) err = tt
-  only_short kept before after (Err cut) err = err.0
-
   pub cut_copy : {before after : List Step} {messages : List Message} {cut : Cut P} {said : List Message} → AreLines session.units transfer said
       → EndsTransfer pools session transfer before after (Err cut) → Ends pools Means (IsCutAction Means) session before after messages messages (Err cut)
   cut_copy {before} {after} {messages} {cut} {said} lines ends = record {
@@ -204,7 +194,7 @@ module _ {P : Type 0} (pools : Ghosts P) (session : SessionView P) (scene : Scen
     steps_are = ends.steps_are;
     messages_are = sym (append-nil messages);
     run = ends.run;
-    facts = cut_leaves cut ends.answers.0;
+    facts = cut_leaves pools session cut ends.answers.0;
     ended = tt;
     cut = within ends.answers.1;
   }

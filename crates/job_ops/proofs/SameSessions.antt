@@ -16,8 +16,15 @@ use Rattle.job_steps.specs.declared.cut.Cut.{Cut}
 use Rattle.job_steps.specs.declared.cut.Cut.TheVariants as cuts
 use Rattle.job_steps.specs.Carried.{pending_cut}
 use Rattle.job_ops.specs.Ends.{ForUnits, KeepsFacts, LeavesFacts, Ends}
+use Rattle.job_ops.specs.Reshaping.{CutKeepsFacts}
 use Rattle.job_ops.specs.Setting.{facts_of}
 use Rattle.job_ops.specs.Turns.{Action}
+
+-- where memory ran out, no more is told
+pub only_short : {P : Type 0} (kept : SessionView P) (before after : List Message) (result : Result (SessionView P) (Cut P))
+    → IfErr result (λ cut. (cut ≡ cuts.Short kept) × (after ≡ before)) → IfErr result (λ cut. cut ≡ cuts.Short kept)
+only_short kept before after (Ok next) err = tt
+only_short kept before after (Err cut) err = err.0
 
 module _ {P : Type 0} (pools : Ghosts P) where
   -- ---- facts
@@ -52,6 +59,10 @@ module _ {P : Type 0} (pools : Ghosts P) where
   leaves_then {old} {mid} (Ok next) one other = keeps_then one other
   leaves_then {old} {mid} (Err (cuts.Short kept)) one other = keeps_then one other
   leaves_then {old} {mid} (Err (cuts.Halted broken)) one other = tt
+
+  pub cut_leaves : (session : SessionView P) (cut : Cut P) → CutKeepsFacts pools session cut → LeavesFacts pools session (Err cut)
+  cut_leaves session (cuts.Halted broken) keeps = tt
+  cut_leaves session (cuts.Short kept) keeps = keeps
 
   -- ---- units
 

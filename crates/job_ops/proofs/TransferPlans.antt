@@ -6,7 +6,7 @@ use Rattle.std.proofs.lemmas.List.Elements.{All-nil, All-cons, All-contains}
 use Rattle.vtoc_core.specs.declared.volume.Row.{Row}
 use Rattle.vtoc_core.specs.declared.volume.Volume.{Volume}
 use Rattle.volume_change.specs.declared.change.Change.{Change}
-use Rattle.volume_change.specs.declared.change.Change.TheVariants.{Repair, Remove}
+use Rattle.volume_change.specs.declared.change.Change.TheVariants.{Remove}
 use Rattle.volume_change.proofs.Names.{one_text}
 use Rattle.job_copies.specs.vtoc_render.Next.{MayChange}
 use Rattle.unit_load.specs.declared.state.UnitState.{UnitState}
@@ -14,7 +14,7 @@ use Rattle.move_core.specs.declared.steps.Step.{Step}
 use Rattle.move_core.specs.declared.steps.Step.TheVariants as steps
 use Rattle.job_copies.specs.unit_steps.declared.plan.Plan.{Plan}
 use Rattle.job_copies.specs.unit_steps.declared.plan.Tracks.TheVariants as texts
-use Rattle.job_copies.specs.unit_steps.Plans.{IsLoadedAt, HasRow, Plans, PlansCopy, PlansPut, PlansCarry, PlansDelete, PlansRepair, IsPlan}
+use Rattle.job_copies.specs.unit_steps.Plans.{IsLoadedAt, HasRow, Plans, PlansCopy, PlansPut, PlansCarry, PlansDelete, IsPlan}
 use Rattle.job_copies.proofs.unit_steps.OneChange.{same_volume}
 use Rattle.job_steps.specs.unit_session.Planned.{MayBegin, IsIndexed, IsLong}
 use Rattle.job_copies.specs.step_plans.Plans.{IsPlanFor, IsPlanForBoth, HasNone, HasManyExtents, IsInTheWay, IsClear}
@@ -193,20 +193,7 @@ module _ {room : ℕ} {units : List UnitState} {transfer : Transfer} (may : MayT
         both true none (row, has) = none row has
         both false (row, has) none = none row has
 
--- the plan of a repair, and of a deletion
-pub repair_made : {room : ℕ} (units : List UnitState) (unit : ℕ) (volume : Volume) (plan : Plan) → MayBeChanged room units unit → IsLoadedAt units unit volume
-    → IsPlanFor volume unit (steps.Repair unit) plan → IsStepPlan room units (steps.Repair unit) plan
-repair_made {room} units unit volume plan may loaded is =
-    let lawful = is.lawful units loaded in
-    let made : (plan.tracks ≡ texts.None) × PlansRepair units unit plan.changes = subst (λ (step : Step). Plans units step plan.tracks plan.changes) is.step_is lawful in
-    record {
-      step_is = is.step_is;
-      lawful = lawful;
-      may =
-          may_begin plan.changes (subst (AreChangeable room units) (sym made.1.changes_are)
-          (All-cons (λ (change : ℕ × Change). MayBeChanged room units change.0) (unit, Repair) [] may (All-nil (λ (change : ℕ × Change). MayBeChanged room units change.0))));
-    }
-
+-- the plan of a deletion
 pub delete_made : {room : ℕ} {units : List UnitState} {transfer : Transfer} (volume : Volume) (plan : Plan) → MayDelete room units transfer → IsLoadedAt units transfer.from.unit volume
     → IsPlanFor volume transfer.from.unit (steps.Delete transfer.from.unit transfer.from.name) plan → IsStepPlan room units (step_of_act transfer acts.Delete) plan
 delete_made {room} {units} {transfer} volume plan may loaded is =

@@ -9,7 +9,8 @@ use Rattle.volume_model.specs.Dscbs.{pointer_in}
 use Rattle.volume_model.specs.Directory.{same_place, record_at, named_place, named_record}
 use Rattle.vtoc_check.specs.Places.{IsShort, AreShort}
 use Rattle.vtoc_layout.specs.Layout.{AreDistinct, IsLinked}
-use Rattle.vtoc_layout.proofs.FiveChains.{one_place, itself}
+use Rattle.volume_model.proofs.Numbers.{place_itself}
+use Rattle.vtoc_layout.proofs.FiveChains.{one_place}
 use Rattle.vtoc_layout.proofs.Distinct.{first_or_later, at_first, in_later, in_none}
 use Rattle.vtoc_write.specs.Edited.{edit_of, placed_with, after_edits, dscbs_after, tracks_after}
 use Rattle.layout_edit.specs.Change.{place_of}
@@ -18,7 +19,7 @@ use Rattle.ckd_image.proofs.Lists.{contains_map}
 -- ---- places
 
 places_same : (a b : Place) → a ≡ b → same_place a b ≡ true
-places_same a b e = ap (same_place a) (sym e) ∙ itself a
+places_same a b e = ap (same_place a) (sym e) ∙ place_itself a
 
 other_places : (a b : Place) → ¬ (a ≡ b) → same_place a b ≡ false
 other_places a b differ = by (same_place a b) refl

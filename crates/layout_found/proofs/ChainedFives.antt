@@ -20,7 +20,8 @@ use Rattle.volume_model.specs.FiveChain.{EndsAt, IsFiveChain, walk_of}
 use Rattle.vtoc_layout.specs.Layout.{IsLinked, AreLinkedFives, fives_in_order}
 use Rattle.vtoc_layout.proofs.FiveChains.{walk_is_chain}
 use Rattle.vtoc_layout.specs.Layout.{AreDistinct}
-use Rattle.vtoc_layout.proofs.Uses.{distinct_records, one_record, itself}
+use Rattle.volume_model.proofs.Numbers.{place_itself}
+use Rattle.vtoc_layout.proofs.Uses.{distinct_records, one_record}
 use Rattle.vtoc_layout.proofs.Distinct.{first_or_later, in_none, in_filter, from_filter, distinct_filter}
 use Rattle.vtoc_load.proofs.Chains.{named_in}
 use Rattle.layout_found.proofs.Members.{none_of, either_first}
@@ -108,7 +109,7 @@ distinct_from : (vtoc : Vtoc) (chain : List Placed) → IsRight vtoc chain → (
 distinct_from vtoc chain is [] front e = tt
 distinct_from vtoc chain is (x ∷ rest) front e = (
   λ c. both_ways (is_among (front ++ x ∷ []) x) (not_before vtoc chain is rest (front ++ x ∷ []) (on front x rest chain e) x c)
-      (passes_any (λ (other : Placed). same_place other.place x.place) (front ++ x ∷ []) x (Contains-push front x) (itself x)),
+      (passes_any (λ (other : Placed). same_place other.place x.place) (front ++ x ∷ []) x (Contains-push front x) (place_itself x.place)),
   distinct_from vtoc chain is rest (front ++ x ∷ []) (on front x rest chain e),
 )
 

@@ -5,7 +5,6 @@ pub mod OneMeaning
 pub mod OneVtoc
 pub mod Online
 pub mod OneOrder
-pub mod OneFault
 pub mod OneUnit
 pub mod Replacing
 pub mod Unused

@@ -1,24 +1,18 @@
 -- The blocks of a unit say one unit.
-use Rattle.std.proofs.Common.{◌≡◌, ◌⊎◌, inl, inr, ℕ, ◌-◌, ◌≤◌, List, [], ◌∷◌, length, map, not, Bool, true, false, refl, sym, ap, subst, ◌∙◌, arith}
+use Rattle.std.proofs.Common.{◌≡◌, ℕ, ◌-◌, ◌≤◌, List, [], ◌∷◌, length, map, not, Bool, true, false, refl, sym, ap, subst, ◌∙◌, arith}
 use Rattle.std.specs.List.{AllByRecursion}
 use Rattle.std.proofs.lemmas.Bool.{false≢true}
 use Rattle.std.proofs.lemmas.List.Elements.{recursion_from_All}
 use Rattle.ckd_image.specs.declared.device.Device.{Device}
-use Rattle.ckd_image.specs.declared.fault.CkdFault.TheVariants.{BadHead}
 use Rattle.ckd_image.specs.declared.head.Head.{Head}
 use Rattle.ckd_image.specs.declared.track.Cchhr.{Cchhr}
-use Rattle.ckd_image.specs.declared.track.Track.{Track}
 use Rattle.ckd_image.specs.Address.{address_of}
 use Rattle.ckd_image.specs.Device.{heads_of}
-use Rattle.ckd_image.specs.Head.{IsHeadFault}
 use Rattle.ckd_image.proofs.OneText.{one_text}
-use Rattle.vol_label.specs.declared.fault.LabelFault.TheVariants.{BadLabel}
 use Rattle.vol_label.specs.declared.label.Label.{Label}
-use Rattle.vol_label.specs.Label.{IsLabel, IsLabelFault}
-use Rattle.vol_label.proofs.OneLabel.{one_label, no_label}
 use Rattle.free_map.specs.Runs.{InRuns}
 use Rattle.free_map.proofs.Gaps.{append_left, append_right}
-use Rattle.redo_core.proofs.Heads.{no_head}
+use Rattle.ckd_image.proofs.OneHead.{one_head_fault}
 use Rattle.volume_model.specs.declared.why.Why.TheVariants as whys
 use Rattle.volume_model.specs.declared.place.Vtoc.{Vtoc}
 use Rattle.volume_model.specs.declared.place.Breach.{Breach}
@@ -27,15 +21,16 @@ use Rattle.volume_model.specs.Space.{track_at}
 use Rattle.volume_model.specs.Directory.{DirectoryRow, AreInOrder, rows_of}
 use Rattle.volume_model.specs.Sound.{Slots, IsFormat4, IsVtoc, IsCheckFault}
 use Rattle.volume_model.specs.Unit.{Text, good, bad, Extent, DataSet, OnlineVolume, UnitModel, online, offline, run_in, runs_of_sets, tracks_of}
-use Rattle.volume_model.specs.Reads.{IsTextAt, AreTexts, IsDataSet, AreDataSets, IsOnline, HasImage, IsFirstText, HasBadLabel, HasLabelOf, HasBadVtoc, IsUnit, fields_of_4, has_index, blocks_from}
+use Rattle.volume_model.specs.Reads.{IsTextAt, AreTexts, IsDataSet, AreDataSets, IsOnline, HasImage, IsFirstText, HasBadVtoc, IsUnit, fields_of_4, has_index, blocks_from}
 use Rattle.move_core.proofs.Frames.{set_track_below}
 use Rattle.move_core.proofs.OneVtoc.{one_vtoc}
 use Rattle.move_core.proofs.OneOrder.{one_order}
-use Rattle.move_core.proofs.OneFault.{one_head_fault, one_label_fault}
-use Rattle.move_core.proofs.Online.{one_image, first_text, same_label, no_bad_label, no_bad_vtoc}
-use Rattle.ckd_image.proofs.Devices.{is_address, one_device}
+use Rattle.move_core.proofs.Online.{first_text, no_bad_label, no_bad_vtoc}
+use Rattle.ckd_image.proofs.Devices.{is_address}
 use Rattle.volume_model.proofs.Numbers.{tracks_all}
 use Rattle.volume_model.proofs.OneVtoc.{one_format_4}
+use Rattle.volume_model.proofs.OneLabelled as labels
+use Rattle.volume_model.proofs.OneLabelled.{no_image, labelled_of, one_labelled, one_bad_label}
 use Rattle.volume_model.proofs.OneCheck as checks
 use Rattle.volume_model.proofs.OneCheck.{AreAlike}
 
@@ -92,21 +87,15 @@ module _ (sliding : Bool) (place : ℕ → ℕ) (head : List ℕ) (blocks : ℕ)
   -- ---- an online volume
 
   module _ (a b : OnlineVolume) (one : IsOnline sliding place head blocks slots a) (other : IsOnline sliding place head blocks slots b) where
-    image_is : other.stands.image ≡ one.stands.image
-    image_is =
-        one_image sliding head blocks slots one.found one.stands (short 0) (λ track holds. short track) other.stands.image
-        (record { stands = other.stands.head_stands; tracks_are = other.stands.tracks_are })
+    same_labelled : (other.stands.image ≡ one.stands.image) × (other.found.label ≡ one.found.label)
+    same_labelled =
+        one_labelled head blocks slots (short 0) one.stands.image other.stands.image one.found.label other.found.label (labelled_of head blocks slots a one) (labelled_of head blocks slots b other)
 
-    labelled : HasLabelOf head blocks slots one.stands.image other.found.label
-    labelled = record {
-      head_stands = record { stands = one.stands.head_stands; tracks_are = one.stands.tracks_are };
-      text = other.stands.track_0;
-      text_stands = subst (λ (i : Head). IsFirstText i slots other.stands.track_0) image_is other.stands.track_0_stands;
-      stands = subst (λ (i : Head). IsLabel i other.stands.track_0.recs other.found.label) image_is other.stands.label_stands;
-    }
+    image_is : other.stands.image ≡ one.stands.image
+    image_is = same_labelled.0
 
     label_is : other.found.label ≡ one.found.label
-    label_is = same_label sliding head blocks slots one.found one.stands (short 0) (λ track holds. short track) other.found.label labelled
+    label_is = same_labelled.1
 
     first_is : other.stands.track_0 ≡ one.stands.track_0
     first_is =
@@ -169,41 +158,6 @@ module _ (sliding : Bool) (place : ℕ → ℕ) (head : List ℕ) (blocks : ℕ)
           tail = tail i;
         })
 
-  -- ---- an offline unit
-
-  heads_same : (a b : Head) → HasImage head blocks a → HasImage head blocks b → a ≡ b
-  heads_same a b one other =
-      let device : a.device ≡ b.device = one_device head a.device b.device one.stands.named other.stands.named in
-      let tracks : a.tracks ≡ b.tracks = one.tracks_are ∙ sym other.tracks_are in
-      (λ i. record { device = device i; tracks = tracks i })
-
-  first_same : (image : Head) (a b : Track) → IsFirstText image slots a → IsFirstText image slots b → a ≡ b
-  first_same image a b one other = one_text (address_of (heads_of image.device) 0) (slots 0) a b (is_address image.device 0 (omega arith)) (short 0) one other
-
-  -- what fails of a label
-  abbrev LabelFails : ℕ → Head → Type 0
-  LabelFails why image =
-      (((text : Track) → ¬ IsFirstText image slots text) × (why ≡ 1)) ⊎ ((text : Track) × IsFirstText image slots text × IsLabelFault image text.recs (BadLabel why))
-
-  bad_or_labelled : (why : ℕ) (image : Head) (label : Label) → HasBadLabel head blocks slots why → HasLabelOf head blocks slots image label → ⊥
-  bad_or_labelled why image label broken stands =
-      elim (subst (LabelFails why) (heads_same broken.image image broken.head_stands stands.head_stands) broken.fault) [
-        | inl none ↦ none.0 stands.text stands.text_stands
-        | inr rule ↦
-            no_label image stands.text.recs (BadLabel why)
-            (subst (λ (t : Track). IsLabelFault image t.recs (BadLabel why)) (first_same image rule.0 stands.text rule.1 stands.text_stands) rule.2) label stands.stands
-      ]
-
-  one_bad_label : (a b : ℕ) → HasBadLabel head blocks slots a → HasBadLabel head blocks slots b → a ≡ b
-  one_bad_label a b one other = by one.fault (subst (LabelFails b) (heads_same other.image one.image other.head_stands one.head_stands) other.fault)
-    where
-      by : LabelFails a one.image → LabelFails b one.image → a ≡ b
-      by (inl none) (inl neither) = none.1 ∙ sym neither.1
-      by (inl none) (inr broken) = absurd (none.0 broken.0 broken.1)
-      by (inr broken) (inl none) = absurd (none.0 broken.0 broken.1)
-      by (inr p) (inr q) =
-          one_label_fault one.image p.0.recs a b p.2 (subst (λ (t : Track). IsLabelFault one.image t.recs (BadLabel b)) (first_same one.image q.0 p.0 q.1 p.1) q.2)
-
   -- ---- the check of a VTOC
 
   module _ (image : Head) (pointer : Cchhr) where
@@ -218,11 +172,9 @@ module _ (sliding : Bool) (place : ℕ → ℕ) (head : List ℕ) (blocks : ℕ)
 
   one_bad_vtoc : (t n w u m v : ℕ) → HasBadVtoc sliding head blocks slots t n w → HasBadVtoc sliding head blocks slots u m v → (t ≡ u) × (n ≡ m) × (w ≡ v)
   one_bad_vtoc t n w u m v one other =
-      let image : other.image ≡ one.image = heads_same other.image one.image other.labelled.head_stands one.labelled.head_stands in
-      let moved : HasLabelOf head blocks slots one.image other.label = subst (λ (i : Head). HasLabelOf head blocks slots i other.label) image other.labelled in
-      let text : moved.text ≡ one.labelled.text = first_same one.image moved.text one.labelled.text moved.text_stands one.labelled.text_stands in
-      let label : other.label ≡ one.label =
-      one_label one.image one.labelled.text.recs other.label one.label (subst (λ (x : Track). IsLabel one.image x.recs other.label) text moved.stands) one.labelled.stands in
+      let same = one_labelled head blocks slots (short 0) one.image other.image one.label other.label one.labelled other.labelled in
+      let image : other.image ≡ one.image = same.0 in
+      let label : other.label ≡ one.label = same.1 in
       let at_image = subst (λ (i : Head). IsCheckFault i slots other.label.vtoc sliding other.told) image other.fault in
       let fault = subst (λ (l : Label). IsCheckFault one.image slots l.vtoc sliding other.told) label at_image in
       let alike = one_check one.image one.label.vtoc one.told other.told one.fault fault in
@@ -230,51 +182,48 @@ module _ (sliding : Bool) (place : ℕ → ℕ) (head : List ℕ) (blocks : ℕ)
 
   -- ---- a unit
 
-  -- what an online volume, a bad label and a bad VTOC have of a head
-  no_bad_head : (why : ℕ) (image : Head) → IsHeadFault head blocks (BadHead why) → HasImage head blocks image → ⊥
-  no_bad_head why image fault has = no_head head blocks (BadHead why) fault image.device has.stands
-
   not_filling : (filling : Bool) → filling ≡ true → filling ≡ false → ⊥
   not_filling filling is not = false≢true (sym not ∙ is)
 
+  -- what an online volume has of a head
   image_of : (volume : OnlineVolume) → IsOnline sliding place head blocks slots volume → (image : Head) × HasImage head blocks image
   image_of volume is = (is.stands.image, record { stands = is.stands.head_stands; tracks_are = is.stands.tracks_are })
 
   pub one_unit : (filling : Bool) (a b : UnitModel) → IsUnit filling sliding place head blocks slots a → IsUnit filling sliding place head blocks slots b → a ≡ b
   one_unit filling (online a) (online b) p q = ap online (one_online a b p.1 q.1)
-  one_unit filling (online a) (offline (whys.Head why) kept) p q = absurd (no_bad_head why (image_of a p.1).0 q.0 (image_of a p.1).1)
+  one_unit filling (online a) (offline (whys.Head why) kept) p q = absurd (no_image head blocks why (image_of a p.1).0 q.0 (image_of a p.1).1)
   one_unit filling (online a) (offline whys.Filling kept) p q = absurd (not_filling filling q.0 p.0)
   one_unit filling (online a) (offline (whys.Label why) kept) p q =
       absurd (no_bad_label sliding head blocks slots p.1.found p.1.stands (short 0) (λ track holds. short track) why q.1)
   one_unit filling (online a) (offline (whys.Vtoc track number why) kept) p q =
       absurd (no_bad_vtoc sliding head blocks slots p.1.found p.1.stands (short 0) (λ t holds. short t) track number why q.1)
-  one_unit filling (offline (whys.Head why) kept) (online b) p q = absurd (no_bad_head why (image_of b q.1).0 p.0 (image_of b q.1).1)
+  one_unit filling (offline (whys.Head why) kept) (online b) p q = absurd (no_image head blocks why (image_of b q.1).0 p.0 (image_of b q.1).1)
   one_unit filling (offline (whys.Head why) kept) (offline (whys.Head other) left) p q =
       let same : why ≡ other = one_head_fault head blocks why other p.0 q.0 in
       let bytes : kept ≡ left = p.1 ∙ sym q.1 in
       (λ i. offline (whys.Head (same i)) (bytes i))
-  one_unit filling (offline (whys.Head why) kept) (offline whys.Filling left) p q = absurd (no_bad_head why q.1.0 p.0 q.1.1)
-  one_unit filling (offline (whys.Head why) kept) (offline (whys.Label other) left) p q = absurd (no_bad_head why q.1.image p.0 q.1.head_stands)
-  one_unit filling (offline (whys.Head why) kept) (offline (whys.Vtoc track number other) left) p q = absurd (no_bad_head why q.1.image p.0 q.1.labelled.head_stands)
+  one_unit filling (offline (whys.Head why) kept) (offline whys.Filling left) p q = absurd (no_image head blocks why q.1.0 p.0 q.1.1)
+  one_unit filling (offline (whys.Head why) kept) (offline (whys.Label other) left) p q = absurd (no_image head blocks why q.1.image p.0 q.1.head_stands)
+  one_unit filling (offline (whys.Head why) kept) (offline (whys.Vtoc track number other) left) p q = absurd (no_image head blocks why q.1.image p.0 q.1.labelled.head_stands)
   one_unit filling (offline whys.Filling kept) (online b) p q = absurd (not_filling filling p.0 q.0)
-  one_unit filling (offline whys.Filling kept) (offline (whys.Head other) left) p q = absurd (no_bad_head other p.1.0 q.0 p.1.1)
+  one_unit filling (offline whys.Filling kept) (offline (whys.Head other) left) p q = absurd (no_image head blocks other p.1.0 q.0 p.1.1)
   one_unit filling (offline whys.Filling kept) (offline whys.Filling left) p q = ap (offline whys.Filling) (p.2 ∙ sym q.2)
   one_unit filling (offline whys.Filling kept) (offline (whys.Label other) left) p q = absurd (not_filling filling p.0 q.0)
   one_unit filling (offline whys.Filling kept) (offline (whys.Vtoc track number other) left) p q = absurd (not_filling filling p.0 q.0)
   one_unit filling (offline (whys.Label why) kept) (online b) p q =
       absurd (no_bad_label sliding head blocks slots q.1.found q.1.stands (short 0) (λ track holds. short track) why p.1)
-  one_unit filling (offline (whys.Label why) kept) (offline (whys.Head other) left) p q = absurd (no_bad_head other p.1.image q.0 p.1.head_stands)
+  one_unit filling (offline (whys.Label why) kept) (offline (whys.Head other) left) p q = absurd (no_image head blocks other p.1.image q.0 p.1.head_stands)
   one_unit filling (offline (whys.Label why) kept) (offline whys.Filling left) p q = absurd (not_filling filling q.0 p.0)
   one_unit filling (offline (whys.Label why) kept) (offline (whys.Label other) left) p q =
-      let same : why ≡ other = one_bad_label why other p.1 q.1 in
+      let same : why ≡ other = one_bad_label head blocks slots (short 0) why other p.1 q.1 in
       let bytes : kept ≡ left = p.2 ∙ sym q.2 in
       (λ i. offline (whys.Label (same i)) (bytes i))
-  one_unit filling (offline (whys.Label why) kept) (offline (whys.Vtoc track number other) left) p q = absurd (bad_or_labelled why q.1.image q.1.label p.1 q.1.labelled)
+  one_unit filling (offline (whys.Label why) kept) (offline (whys.Vtoc track number other) left) p q = absurd (labels.no_bad_label head blocks slots (short 0) q.1.image q.1.label q.1.labelled why p.1)
   one_unit filling (offline (whys.Vtoc track number why) kept) (online b) p q =
       absurd (no_bad_vtoc sliding head blocks slots q.1.found q.1.stands (short 0) (λ t holds. short t) track number why p.1)
-  one_unit filling (offline (whys.Vtoc track number why) kept) (offline (whys.Head other) left) p q = absurd (no_bad_head other p.1.image q.0 p.1.labelled.head_stands)
+  one_unit filling (offline (whys.Vtoc track number why) kept) (offline (whys.Head other) left) p q = absurd (no_image head blocks other p.1.image q.0 p.1.labelled.head_stands)
   one_unit filling (offline (whys.Vtoc track number why) kept) (offline whys.Filling left) p q = absurd (not_filling filling q.0 p.0)
-  one_unit filling (offline (whys.Vtoc track number why) kept) (offline (whys.Label other) left) p q = absurd (bad_or_labelled other p.1.image p.1.label q.1 p.1.labelled)
+  one_unit filling (offline (whys.Vtoc track number why) kept) (offline (whys.Label other) left) p q = absurd (labels.no_bad_label head blocks slots (short 0) p.1.image p.1.label p.1.labelled other q.1)
   one_unit filling (offline (whys.Vtoc t n w) kept) (offline (whys.Vtoc u m v) left) p q =
       let same = one_bad_vtoc t n w u m v p.1 q.1 in
       let bytes : kept ≡ left = p.2 ∙ sym q.2 in

@@ -1,17 +1,12 @@
 -- A unit on which a loader finds a volume is online.
-use Rattle.std.proofs.Common.{◌≡◌, ◌⊎◌, inl, inr, ℕ, ◌≤◌, List, length, Bool, false, refl, sym, subst, ◌∙◌, arith}
+use Rattle.std.proofs.Common.{◌≡◌, ℕ, ◌≤◌, List, length, Bool, false, refl, sym, subst, ◌∙◌, arith}
 use Rattle.std.proofs.lemmas.Bool.{false≢true}
 use Rattle.ckd_image.specs.declared.head.Head.{Head}
 use Rattle.ckd_image.specs.declared.fault.CkdFault.TheVariants.{BadHead}
 use Rattle.ckd_image.specs.declared.track.Track.{Track}
-use Rattle.ckd_image.specs.Address.{address_of}
 use Rattle.ckd_image.specs.Device.{heads_of}
-use Rattle.ckd_image.proofs.OneText.{one_text}
 use Rattle.vol_label.specs.declared.label.Label.{Label}
-use Rattle.vol_label.specs.declared.fault.LabelFault.TheVariants.{BadLabel}
-use Rattle.vol_label.specs.Label.{IsLabelFault, IsLabel}
-use Rattle.vol_label.proofs.OneLabel.{one_label, no_label}
-use Rattle.redo_core.proofs.Heads.{no_head}
+use Rattle.ckd_image.proofs.OneHead.{no_head}
 use Rattle.volume_model.specs.declared.why.Why.TheVariants as whys
 use Rattle.volume_model.specs.declared.place.Breach.{Breach}
 use Rattle.volume_model.specs.declared.place.Vtoc.{Vtoc}
@@ -22,38 +17,29 @@ use Rattle.volume_model.specs.Reads.{IsOnline, HasImage, IsFirstText, HasBadLabe
 use Rattle.move_core.specs.Loaded.{AreShort}
 use Rattle.move_core.proofs.Frames.{pointer_held}
 use Rattle.volume_model.proofs.OneVtoc.{one_format_4}
+use Rattle.volume_model.proofs.OneLabelled as labels
+use Rattle.volume_model.proofs.OneLabelled.{one_image, one_first, one_labelled}
 use Rattle.volume_model.proofs.OneCheck.{none_told}
 use Rattle.move_core.proofs.OneVtoc.{one_vtoc}
-use Rattle.ckd_image.proofs.Devices.{is_address, one_device}
 
 module _ (sliding : Bool) (head : List ℕ) (blocks : ℕ) (slots : Slots) (found : Volume) (is : IsVolume head blocks slots sliding found) (first_short : length (slots 0) ≤ 65536)
     (short : AreShort slots is.vtoc.run) where
   -- ---- the head and the label
 
-  pub one_image : (image : Head) → HasImage head blocks image → image ≡ is.image
-  one_image image has =
-      let device : image.device ≡ is.image.device = one_device head image.device is.image.device has.stands.named is.head_stands.named in
-      let tracks : image.tracks ≡ is.image.tracks = has.tracks_are ∙ sym is.tracks_are in
-      (λ i. record { device = device i; tracks = tracks i })
+  own_image : HasImage head blocks is.image
+  own_image = record { stands = is.head_stands; tracks_are = is.tracks_are }
+
+  labelled : HasLabelOf head blocks slots is.image found.label
+  labelled = record { head_stands = own_image; text = is.track_0; text_stands = is.track_0_stands; stands = is.label_stands }
 
   pub first_text : (text : Track) → IsFirstText is.image slots text → text ≡ is.track_0
-  first_text text stands =
-      one_text (address_of (heads_of is.image.device) 0) (slots 0) text is.track_0 (is_address is.image.device 0 (omega arith)) first_short stands is.track_0_stands
+  first_text text stands = one_first head blocks slots first_short is.image text is.track_0 stands is.track_0_stands
 
   pub no_bad_label : (why : ℕ) → ¬ HasBadLabel head blocks slots why
-  no_bad_label why bad =
-      let P : Head → Type 0 = λ image.
-      (((text : Track) → ¬ IsFirstText image slots text) × (why ≡ 1)) ⊎ ((text : Track) × IsFirstText image slots text × IsLabelFault image text.recs (BadLabel why)) in
-      let Q : Track → Type 0 = λ text. IsLabelFault is.image text.recs (BadLabel why) in
-      elim (subst P (one_image bad.image bad.head_stands) bad.fault) [
-        | inl none ↦ none.0 is.track_0 is.track_0_stands
-        | inr broken ↦ no_label is.image is.track_0.recs (BadLabel why) (subst Q (first_text broken.0 broken.1) broken.2) found.label is.label_stands
-      ]
+  no_bad_label = labels.no_bad_label head blocks slots first_short is.image found.label labelled
 
   pub same_label : (label : Label) → HasLabelOf head blocks slots is.image label → label ≡ found.label
-  same_label label has =
-      let Q : Track → Type 0 = λ text. IsLabel is.image text.recs label in
-      one_label is.image is.track_0.recs label found.label (subst Q (first_text has.text has.text_stands) has.stands) is.label_stands
+  same_label label has = (one_labelled head blocks slots first_short is.image is.image found.label label labelled has).1
 
   -- ---- the VTOC
 
@@ -76,7 +62,7 @@ module _ (sliding : Bool) (head : List ℕ) (blocks : ℕ) (slots : Slots) (foun
 
   pub no_bad_vtoc : (track number why : ℕ) → ¬ HasBadVtoc sliding head blocks slots track number why
   no_bad_vtoc track number why bad =
-      let image : bad.image ≡ is.image = one_image bad.image bad.labelled.head_stands in
+      let image : bad.image ≡ is.image = one_image head blocks bad.image is.image bad.labelled.head_stands own_image in
       let label : bad.label ≡ found.label = same_label bad.label (subst (λ (i : Head). HasLabelOf head blocks slots i bad.label) image bad.labelled) in
       let fault = subst (λ (i : Head). IsCheckFault i slots bad.label.vtoc sliding bad.told) image bad.fault in
       no_fault bad.told (subst (λ (l : Label). IsCheckFault is.image slots l.vtoc sliding bad.told) label fault)

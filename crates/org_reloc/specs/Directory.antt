@@ -1,5 +1,5 @@
 -- The directory of a partitioned data set.
-use Rattle.std.specs.Prelude.{◌≡◌, ◌≢◌, ◌⊎◌, ℕ, ◌+◌, ◌*◌, ◌/◌, ◌%◌, ◌<◌, ◌≤◌, List, [], ◌∷◌, ◌++◌, length, map, All}
+use Rattle.std.specs.Prelude.{◌≡◌, ◌≢◌, ◌⊎◌, ℕ, ◌+◌, ◌*◌, ◌/◌, ◌%◌, List, [], ◌∷◌, ◌++◌, length, map, All}
 use Rattle.std.specs.List.{flat_map}
 use Rattle.byteorder.specs.Endian.{big_bytes}
 use Rattle.ckd_image.specs.Bytes.{Begins}
@@ -7,7 +7,6 @@ use Rattle.org_reloc.specs.declared.block.Block.{Block}
 use Rattle.org_reloc.specs.declared.entry.Entry.{Entry}
 use Rattle.org_reloc.specs.declared.entry.Heading.{Heading}
 use Rattle.org_reloc.specs.declared.directory.Page.{Page}
-use Rattle.org_reloc.specs.declared.place.Place.{Place}
 use Rattle.org_reloc.specs.Place.{place_text, IsPlace}
 
 -- ---- an entry

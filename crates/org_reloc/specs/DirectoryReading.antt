@@ -1,5 +1,5 @@
 -- What the steps of reading a directory say.
-use Rattle.std.specs.Prelude.{◌≡◌, ◌⊎◌, ℕ, ◌+◌, List, [], ◌∷◌, ◌++◌, length, map, All}
+use Rattle.std.specs.Prelude.{◌≡◌, ◌⊎◌, ℕ, ◌+◌, List, [], ◌∷◌, ◌++◌, map, All}
 use Rattle.ckd_image.specs.Bytes.{Begins}
 use Rattle.org_reloc.specs.declared.block.Block.{Block}
 use Rattle.org_reloc.specs.declared.entry.Entry.{Entry}
@@ -8,7 +8,7 @@ use Rattle.org_reloc.specs.declared.fault.RelocFault.{RelocFault}
 use Rattle.org_reloc.specs.declared.fault.RelocFault.TheVariants.{NotRelocatable, BlockTooLong, NoMemory}
 use Rattle.org_reloc.specs.declared.fault.Why.TheVariants as whys
 use Rattle.org_reloc.specs.Refusal.{number_of}
-use Rattle.org_reloc.specs.Directory.{entry_text, entries_text, last_text, IsEntry, IsPlain, IsShaped, page_block, IsPage, IsFullPage, IsLastPage, IsNoEntry, IsNoPage, entries_of, IsDirectory, IsBrokenAfter, HasUserPlaces}
+use Rattle.org_reloc.specs.Directory.{entry_text, entries_text, last_text, IsEntry, IsPlain, page_block, IsPage, IsFullPage, IsLastPage, IsNoEntry, IsNoPage, entries_of, IsDirectory, IsBrokenAfter, HasUserPlaces}
 
 -- the bytes are these entries and what is left
 pub record IsReadSoFar (bytes : List ℕ) (entries : List Entry) (left : List ℕ) : Type 0 where

@@ -1,14 +1,13 @@
 -- The members of a partitioned data set.
-use Rattle.std.specs.Prelude.{◌≡◌, ◌≢◌, ◌⊎◌, ℕ, ◌+◌, ◌*◌, ◌/◌, ◌%◌, ◌<◌, ◌↔◌, nat_eq, if◌then◌else◌, List, [], ◌∷◌, ◌++◌, length, map, All, slice_index_or}
+use Rattle.std.specs.Prelude.{◌≡◌, ◌≢◌, ℕ, ◌+◌, ◌*◌, ◌/◌, ◌%◌, List, [], ◌∷◌, ◌++◌, length, map, All}
 use Rattle.std.specs.List.{flat_map, Contains}
 use Rattle.std.specs.List.Sorted.{IsStrictlyIncreasing}
 use Rattle.ckd_image.specs.declared.track.Rec.{Rec}
 use Rattle.ckd_image.specs.declared.track.Track.{Track}
 use Rattle.org_reloc.specs.declared.block.Block.{Block}
 use Rattle.org_reloc.specs.declared.entry.Entry.{Entry}
-use Rattle.org_reloc.specs.declared.directory.Page.{Page}
 use Rattle.org_reloc.specs.declared.place.Place.{Place}
-use Rattle.org_reloc.specs.Content.{end_of_file, records_of, HasNoEnd, HoldUpToEnd}
+use Rattle.org_reloc.specs.Content.{end_of_file, HasNoEnd, HoldUpToEnd}
 use Rattle.org_reloc.specs.Place.{place_text, Names}
 
 -- a place as one number, by which places have an order

@@ -1,5 +1,5 @@
 -- Why the members of a partitioned data set can't be taken.
-use Rattle.std.specs.Prelude.{◌≡◌, ◌⊎◌, ℕ, List, All}
+use Rattle.std.specs.Prelude.{◌≡◌, ℕ, List}
 use Rattle.ckd_image.specs.declared.track.Track.{Track}
 use Rattle.org_reloc.specs.declared.place.Place.{Place}
 use Rattle.org_reloc.specs.declared.fault.RelocFault.{RelocFault}
@@ -7,7 +7,7 @@ use Rattle.org_reloc.specs.declared.fault.RelocFault.TheVariants.{NotRelocatable
 use Rattle.org_reloc.specs.declared.fault.Why.TheVariants as whys
 use Rattle.org_reloc.specs.Refusal.{number_of}
 use Rattle.std.specs.List.{Contains}
-use Rattle.org_reloc.specs.Member.{place_of_number, NamesOne, IsEndless}
+use Rattle.org_reloc.specs.Member.{place_of_number, IsEndless}
 
 -- the member at a place that names a record has no end of file
 abbrev pub IsMemberRefusal : List Track → Place → RelocFault → Type 0

@@ -1,5 +1,5 @@
 -- A directory with new places.
-use Rattle.std.specs.Prelude.{◌≡◌, ℕ, ◌<◌, nat_eq, if◌then◌else◌, List, [], ◌∷◌, ◌++◌, length, drop, map, slice_index_or}
+use Rattle.std.specs.Prelude.{ℕ, nat_eq, if◌then◌else◌, List, [], ◌∷◌, ◌++◌, length, drop, map}
 use Rattle.org_reloc.specs.declared.block.Block.{Block}
 use Rattle.org_reloc.specs.declared.directory.Page.{Page}
 use Rattle.org_reloc.specs.declared.place.Place.{Place}

@@ -1,6 +1,6 @@
 -- A partitioned data set on another device.
-use Rattle.std.specs.Prelude.{◌≡◌, ◌≢◌, ◌⊎◌, ℕ, ◌+◌, ◌≤◌, nat_eq, if◌then◌else◌, Bool, true, false, List, [], ◌∷◌, ◌++◌, length, map, All, MatchBool}
-use Rattle.std.specs.List.{flat_map, Contains}
+use Rattle.std.specs.Prelude.{◌≡◌, ◌⊎◌, ℕ, ◌+◌, Bool, false, List, [], ◌∷◌, ◌++◌, map, All}
+use Rattle.std.specs.List.{Contains}
 use Rattle.ckd_image.specs.declared.device.Device.{Device}
 use Rattle.ckd_image.specs.declared.track.Rec.{Rec}
 use Rattle.ckd_image.specs.declared.track.Track.{Track}
@@ -13,12 +13,12 @@ use Rattle.org_reloc.specs.declared.fault.Why.{Why}
 use Rattle.org_reloc.specs.declared.fault.Why.TheVariants as whys
 use Rattle.org_reloc.specs.declared.fault.RelocFault.{RelocFault}
 use Rattle.org_reloc.specs.declared.fault.RelocFault.TheVariants.{NotRelocatable, BlockTooLong, NoMemory}
-use Rattle.org_reloc.specs.Content.{block_of, end_of_file, records_of, HasNoEnd, HoldUpToEnd, Hold, IsEnd}
+use Rattle.org_reloc.specs.Content.{end_of_file, records_of, HoldUpToEnd, Hold, IsEnd}
 use Rattle.org_reloc.specs.Packing.{ArePacked}
 use Rattle.org_reloc.specs.Place.{place_text, Names, NamesBlocks}
 use Rattle.org_reloc.specs.Refusal.{number_of, IsFirstTooLong, TakeTooMany}
 use Rattle.org_reloc.specs.Directory.{page_block, entries_of, IsPlain, IsDirectory, IsBrokenAfter, HasUserPlaces}
-use Rattle.org_reloc.specs.Member.{Member, member_blocks, members_blocks, NamesOne, HoldsMember, IsEndless, AreMembers}
+use Rattle.org_reloc.specs.Member.{Member, members_blocks, NamesOne, HoldsMember, IsEndless, AreMembers}
 
 -- ---- what a partitioned data set holds
 

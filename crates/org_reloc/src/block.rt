@@ -1,6 +1,6 @@
 //! What a record holds besides its number.
 
-ghost use Rattle.std.specs.Prelude.{◌≡◌, ◌↔◌, ◌≤◌, length, IsTrue, IfOk};
+ghost use Rattle.std.specs.Prelude.{◌≡◌, ◌↔◌, length, IsTrue, IfOk};
 ghost use Rattle.ckd_image.specs.Device.{cost_of};
 ghost use Rattle.org_reloc.specs.Content.{block_of, end_of_file, IsEnd, IsBlock};
 

@@ -2,7 +2,7 @@
 
 ghost use Rattle.std.specs.Prelude.{◌≡◌, ◌↔◌, ◌+◌, ◌<◌, ◌++◌, length, IsTrue, IfOk, OnOk, IfSome, IfNone};
 ghost use Rattle.ckd_image.specs.Bytes.{Begins};
-ghost use Rattle.org_reloc.specs.Directory.{data_length, places_in, heading_text, heading_of, entry_text, last_text, IsHeading, IsPlain};
+ghost use Rattle.org_reloc.specs.Directory.{data_length, heading_text, heading_of, entry_text, last_text, IsHeading, IsPlain};
 ghost use Rattle.org_reloc.specs.declared.entry.Entry.{Entry};
 
 use crate::place::Place;

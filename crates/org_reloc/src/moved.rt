@@ -2,8 +2,8 @@
 
 ghost use Rattle.std.specs.Prelude.{◌≡◌, ◌≤◌, ◌<◌, length, map, All, IfOk, slice_index_or};
 ghost use Rattle.std.specs.List.Sorted.{IsStrictlyIncreasing};
-ghost use Rattle.org_reloc.specs.Directory.{page_block, entries_text};
-ghost use Rattle.org_reloc.specs.Partitioned.{moved_page, moved_entry};
+ghost use Rattle.org_reloc.specs.Directory.{page_block};
+ghost use Rattle.org_reloc.specs.Partitioned.{moved_page};
 ghost use Rattle.org_reloc.specs.Moved.{moved_to, moved_blocks};
 ghost use Rattle.org_reloc.specs.Taken.{origin};
 

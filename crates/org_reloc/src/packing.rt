@@ -4,9 +4,9 @@ ghost use Rattle.std.specs.Prelude.{◌≡◌, ◌↔◌, ◌+◌, ◌*◌, ◌<
 ghost use Rattle.std.specs.Bool.{OnTrue, OnFalse};
 ghost use Rattle.ckd_image.specs.Device.{capacity_of};
 ghost use Rattle.org_reloc.specs.Content.{IsBlock};
-ghost use Rattle.org_reloc.specs.Packing.{FitsAlone, track_of, record_of};
+ghost use Rattle.org_reloc.specs.Packing.{FitsAlone, track_of};
 ghost use Rattle.org_reloc.specs.Refusal.{IsLengthRefusal, IsLongRefusal, number_of};
-ghost use Rattle.org_reloc.specs.Filling.{Filling, IsAt, ArePlaces, filled_by, filling_of, groups_of, records_on, block_cost};
+ghost use Rattle.org_reloc.specs.Filling.{Filling, ArePlaces, filled_by, filling_of, groups_of, block_cost};
 ghost use Rattle.org_reloc.specs.declared.fault.Why.TheVariants as whys;
 
 use crate::block::Block;

@@ -1,6 +1,6 @@
 //! The blocks up to an end of file.
 
-ghost use Rattle.std.specs.Prelude.{◌≡◌, ◌++◌, List, IfOk};
+ghost use Rattle.std.specs.Prelude.{◌++◌, IfOk};
 ghost use Rattle.org_reloc.specs.Content.{records_of, Hold, TakesOver};
 
 use crate::block::{Block, is_end};

@@ -1,6 +1,6 @@
 //! A sequential data set on another device.
 
-ghost use Rattle.std.specs.Prelude.{◌≡◌, ◌≢◌, ◌≤◌, ◌∷◌, [], ◌++◌, length, All, IfOk, IfErr};
+ghost use Rattle.std.specs.Prelude.{◌≡◌, ◌≤◌, length, All, IfOk, IfErr};
 ghost use Rattle.ckd_image.specs.Track.{IsTrack};
 ghost use Rattle.org_reloc.specs.declared.refit.Refit.{Refit};
 ghost use Rattle.org_reloc.specs.Content.{IsBlock};

@@ -1,33 +1,15 @@
--- An image has one head at most, and none where a rule is broken.
+-- What the labels of units say.
 use Rattle.std.proofs.Common.{◌≡◌, ◌<◌, ◌+◌, ⊎_elim, ℕ, List, sym, ap, ◌∙◌, subst, arith}
 use Rattle.std.specs.Prelude.{Option, Some, IfSome, slice_get}
 use Rattle.std.proofs.lemmas.Bool.{cases_eq}
-use Rattle.ckd_image.specs.declared.device.Device.{Device}
-use Rattle.ckd_image.specs.declared.fault.CkdFault.{CkdFault}
-use Rattle.ckd_image.specs.declared.fault.CkdFault.TheVariants as faults
-use Rattle.ckd_image.specs.declared.head.HeadRule.TheVariants as rules
 use Rattle.ckd_image.specs.declared.head.Head.{Head}
 use Rattle.dasd_pool.specs.Disk.{Image, Shape, State}
 use Rattle.vol_label.specs.declared.serial.Serial.{Serial}
 use Rattle.redo_core.specs.Faults.{HasSerial, HasLabel, LabelsAre}
 use Rattle.redo_core.specs.declared.target.Target.{Target}
 use Rattle.redo_core.specs.Reading.{placed, body_for}
-use Rattle.ckd_image.specs.Head.{IsHead, IsHeadFault, HasHeads, HasSlot, IsCylinders}
+use Rattle.ckd_image.specs.Head.{IsHead}
 use Rattle.ckd_image.proofs.Devices.{one_device}
-
-pub no_head : (head : List ℕ) (blocks : ℕ) (fault : CkdFault) → IsHeadFault head blocks fault → (device : Device) → ¬ IsHead head blocks device
-no_head head blocks (faults.BadHead why) (rules.Magic, number, broken) device is = broken.2 is.magic
-no_head head blocks (faults.BadHead why) (rules.Device, number, broken) device is = broken.1 device is.named
-no_head head blocks (faults.BadHead why) (rules.Heads, number, broken) device is =
-    broken.2 (subst (λ (d : Device). HasHeads d head) (one_device head device broken.0 is.named broken.1.1) is.heads)
-no_head head blocks (faults.BadHead why) (rules.Slot, number, broken) device is =
-    broken.2 (subst (λ (d : Device). HasSlot d head) (one_device head device broken.0 is.named broken.1.1) is.slot)
-no_head head blocks (faults.BadHead why) (rules.Split, number, broken) device is = broken.2 is.unsplit
-no_head head blocks (faults.BadHead why) (rules.Blocks, number, broken) device is =
-    broken.2 (subst (λ (d : Device). IsCylinders d blocks) (one_device head device broken.0 is.named broken.1.1) is.cylinders)
-no_head head blocks (faults.BadTrack offset why) fault device is = absurd fault
-no_head head blocks (faults.TrackFull need have) fault device is = absurd fault
-no_head head blocks faults.NoMemory fault device is = absurd fault
 
 -- the label of a unit, by its head as it was read
 pub label_serial : (shape : Shape) (image : Image) (unit : ℕ) (head : Head) (slot : List ℕ) → IsHead (shape.head unit) (shape.blocks unit) head.device → head.tracks ≡ shape.blocks unit → slot ≡ image unit 0

@@ -9,11 +9,12 @@ use Rattle.volume_model.specs.declared.place.Vtoc.{Vtoc}
 use Rattle.volume_model.specs.Dscbs.{format_of}
 use Rattle.volume_model.specs.Directory.{same_place}
 use Rattle.volume_model.specs.Check.{records_of}
+use Rattle.volume_model.proofs.Numbers.{place_itself}
 use Rattle.vtoc_check.specs.Sized.{IsSized}
 use Rattle.vtoc_layout.specs.Layout.{SetRecords, Layout, IsLayoutOf, AreSetRecords, AreLinkedFives, records_in_set, records_used}
 use Rattle.vtoc_layout.proofs.Apart.{all_from, flat_same}
 use Rattle.vtoc_layout.proofs.Distinct.{first_or_later, at_first, in_later, in_none, in_front, in_back, from_map, in_flat}
-use Rattle.vtoc_layout.proofs.FiveChains.{one_place, itself}
+use Rattle.vtoc_layout.proofs.FiveChains.{one_place}
 use Rattle.vtoc_layout.proofs.Uses.{used_there, four_there, same_record, set_is}
 use Rattle.layout_edit.specs.Change.{vtoc_after}
 use Rattle.layout_edit.proofs.Changes.{sized_after}
@@ -74,7 +75,7 @@ module _ (vtoc : Vtoc) (layout : Layout) (marked : Placed) (sized : IsSized vtoc
 
   is_four_at : (placed : Placed) → Contains records placed → marked.place ≡ placed.place → placed ≡ layout.four
   is_four_at placed c same =
-      same_record vtoc layout sized is placed layout.four c (four_there vtoc layout sized is) (ap (same_place placed.place) (sym (sym same ∙ at)) ∙ itself placed.place)
+      same_record vtoc layout sized is placed layout.four c (four_there vtoc layout sized is) (ap (same_place placed.place) (sym (sym same ∙ at)) ∙ place_itself placed.place)
 
   -- each record stays, or is the format 4
   stays_or_four : (placed : Placed) → Contains records placed → (edit_of edits placed.place ≡ None) ⊎ ((placed ≡ layout.four) × (edited placed ≡ marked))

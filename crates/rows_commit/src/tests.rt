@@ -1,6 +1,8 @@
-ghost use Rattle.std.specs.Prelude.{◌≡◌, All, IsTrue, IfOk};
+ghost use Rattle.std.specs.Prelude.{◌≡◌, [], All, IsTrue, IfOk};
 ghost use Rattle.redo_core.specs.Phases.{targets, IsEntry};
 ghost use Rattle.redo_core.specs.Opening.{AreNames};
+ghost use Rattle.redo_core.specs.Reading.{IsLawful};
+ghost use Rattle.redo_core.specs.Statuses.{IsSlideOf, AddsControl};
 
 use ckd_image::text::put_over;
 use ckd_image::{Bytes, NoMemory};
@@ -218,18 +220,64 @@ fn three_entries(rt: &HostRuntime) -> Result<Entries, Fail> {
     Ok(entries)
 }
 
-/// A control block for a slide of volume 1, with a fill of the same volume open.
-fn slide_of_two(alloc: Global) -> Result<Entries, NoMemory> {
-    let slide = Control::Slide {
-        unit: 1,
-        from: 300,
-        to: 20,
-        len: 5,
-        done: 3,
-    };
+/// A slide of tracks 300 to 304 to track 20, three of which are done.
+const SLIDE: Control = Control::Slide {
+    unit: 1,
+    from: 300,
+    to: 20,
+    len: 5,
+    done: 3,
+};
+
+/// A slide of track 1 to track 0 that has just begun.
+const SHORT: Control = Control::Slide {
+    unit: 1,
+    from: 1,
+    to: 0,
+    len: 1,
+    done: 0,
+};
+
+/// A control block for a slide of one of two volumes, with a fill of volume 1 open.
+fn slide_of_two(alloc: Global, slide: Control) -> Result<Entries, NoMemory>
+    requires { IsSlideOf 2 slide }
+    ensures { IfOk result (AddsControl 2 slide 2 []) }
+{
     let mut entries = Entries::new(alloc, 3)?;
     entries.push_control(alloc, 2, slide, 2)?;
     Ok(entries)
+}
+
+/// Whether a slide is of tracks of a volume, and to tracks below them.
+fn is_slide<P: Pool>(journal: &Journal<P>, control: Control) -> bool
+    ensures { IsTrue result → IsLawful (P.shape journal.now.pool) control }
+{
+    let Control::Slide {
+        unit,
+        from,
+        to,
+        len,
+        done,
+    } = control
+    else {
+        return true;
+    };
+    if unit >= journal.units() || from >= journal.blocks(unit) {
+        return false;
+    }
+    to < from && 1 <= len && done <= len && len <= journal.blocks(unit) - from
+}
+
+/// Commits the short slide and the fill, where there are two volumes that have its tracks.
+fn commit_slide<P: Pool + Drop>(alloc: Global, journal: Journal<P>) -> Option<Journal<P>> {
+    control_laws();
+    if journal.units() != 2 || journal.room() < 1 || !is_slide(&journal, SHORT) {
+        return None;
+    }
+    let Ok(entries) = slide_of_two(alloc, SHORT) else {
+        return None;
+    };
+    journal.commit(entries).ok()
 }
 
 // Bytes 0, 4 to 23 and 65 of block 2 of the journal, which is the third unit.
@@ -241,7 +289,7 @@ fn an_entry_says_what_is_under_way(rt: HostRuntime) -> Result<(), Fail> {
     ];
     put_over(&mut want, 0, &front);
     put_over(&mut want, 65, &[1]);
-    let entries = slide_of_two(rt.alloc())?;
+    let entries = slide_of_two(rt.alloc(), SLIDE)?;
     for entry in entries.as_slice() {
         assert_eq!(rt; (entry.unit, entry.block), (2, 2));
         assert!(rt; entry.slot.as_slice() == want.as_slice());
@@ -271,6 +319,42 @@ fn a_commit_is_whole_wherever_it_stops(rt: HostRuntime) -> Result<(), Fail> {
             assert!(rt; is_whole, "{tear:?} after {calls}");
         }
     }
+    Ok(())
+}
+
+/// Whether the short slide is under way, and a fill of the second of two volumes alone.
+fn is_under_way<P: Pool>(journal: &Journal<P>) -> bool {
+    if journal.units() != 2 || journal.control() != SHORT {
+        return false;
+    }
+    !journal.filling(0) && journal.filling(1)
+}
+
+/// An open slide refuses an opening: by that a stop shows whether the control block is in place.
+#[test]
+fn a_slide_is_open_once_its_entry_is_in_place(rt: HostRuntime) -> Result<(), Fail> {
+    let Some(journal) = open(rt.alloc(), pool(&rt)?, &NAMES) else {
+        assert!(rt; false, "the opening fails");
+        return Ok(());
+    };
+    let Some(journal) = commit_slide(rt.alloc(), journal) else {
+        assert!(rt; false, "the commit fails");
+        return Ok(());
+    };
+    assert!(rt; is_under_way(&journal));
+    let pool = journal.into_pool();
+    assert_eq!(rt; pool.calls(), 13);
+    for calls in 0..14 {
+        for tear in [Tear::Old, Tear::New, Tear::Zero, Tear::Half] {
+            let stopped = pool.crash(rt.alloc(), calls, tear)?;
+            let found = refusal_of(rt.alloc(), stopped);
+            let is_whole = found.is_none() || found == Some(JournalFault::BadJournal(7));
+            assert!(rt; is_whole, "{tear:?} after {calls}");
+        }
+    }
+    let whole = pool.crash(rt.alloc(), 13, Tear::Old)?;
+    let found = refusal_of(rt.alloc(), whole);
+    assert_eq!(rt; found, Some(JournalFault::BadJournal(7)));
     Ok(())
 }
 

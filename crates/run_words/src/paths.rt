@@ -1,6 +1,6 @@
 //! Options whose value is a path.
 
-ghost use Rattle.std.specs.Prelude.{◌≡◌, ◌≢◌, ℕ, List, IfSome, IfNone};
+ghost use Rattle.std.specs.Prelude.{ℕ, List, IfSome, IfNone};
 ghost use Rattle.run_words.specs.Words.{values_of, IsPath, IsPathOrNone};
 ghost use Rattle.run_words.specs.Parts.{Judged};
 ghost use Rattle.run_words.specs.declared.name.Name.TheVariants as names;

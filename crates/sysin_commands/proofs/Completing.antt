@@ -1,6 +1,6 @@
 -- Operands that stand together go on to a command.
 use Rattle.std.proofs.Common.{◌≡◌, inl, inr, List, [], ◌∷◌, ◌++◌, refl, sym, ap, subst, ◌∙◌, Bool, true, false, Some, append_assoc, append-nil}
-use Rattle.std.specs.Prelude.{◌||◌, unwrap_or}
+use Rattle.std.specs.Prelude.{unwrap_or}
 use Rattle.std.proofs.lemmas.List.Folds.{list_any-append}
 use Rattle.sysin_text.specs.declared.token.Token.{Token}
 use Rattle.sysin_words.specs.declared.keyword.Keyword.{Keyword}

@@ -3,6 +3,7 @@ use Rattle.std.proofs.Common.{◌≡◌, List, [], ◌∷◌, ◌++◌, refl, Bo
 use Rattle.std.specs.Prelude.{not, ◌&&◌, ◌||◌, All, map}
 use Rattle.std.specs.List.{list_any}
 use Rattle.std.proofs.lemmas.List.Elements.{All-append, All-cons, All-nil, All-head, All-tail}
+use Rattle.ckd_image.proofs.Bools.{and_first}
 use Rattle.sysin_words.specs.declared.keyword.Keyword.{Keyword}
 use Rattle.sysin_forms.specs.declared.operand.Operand.{Operand}
 use Rattle.sysin_forms.specs.Operand.{name_of, is_part, clash, StandOnce}
@@ -21,11 +22,7 @@ none_clashes parts keyword may = by_bools (is_part keyword) (one_clashes parts k
     by_bools false b e = cc
 
 pub is_a_part : (parts : List Operand) (keyword : Keyword) → may_stand parts keyword ≡ true → is_part keyword ≡ true
-is_a_part parts keyword may = by_bools (is_part keyword) (not (one_clashes parts keyword)) may
-  where
-    by_bools : (a b : Bool) → (a && b) ≡ true → a ≡ true
-    by_bools true b e = refl
-    by_bools false b e = e
+is_a_part parts keyword may = and_first (is_part keyword) (not (one_clashes parts keyword)) may
 
 pub may : (parts : List Operand) (keyword : Keyword) → is_part keyword ≡ true → one_clashes parts keyword ≡ false → may_stand parts keyword ≡ true
 may parts keyword part none = by_bools (is_part keyword) (one_clashes parts keyword) part none

@@ -1,6 +1,6 @@
 //! Reading SET and IF token by token.
 
-ghost use Rattle.std.specs.Prelude.{◌≡◌, ◌↔◌, ℕ, true, Some, OnOk, IfErr, IfSome, IfNone, IsTrue};
+ghost use Rattle.std.specs.Prelude.{◌≡◌, ◌↔◌, Some, OnOk, IfErr, IfSome, IfNone, IsTrue};
 ghost use Rattle.sysin_heads.specs.declared.head.Head.{Head as Said};
 ghost use Rattle.sysin_heads.specs.declared.head.HeadPlace.{HeadPlace as At};
 ghost use Rattle.sysin_heads.specs.declared.head.HeadPlace.TheVariants as places;

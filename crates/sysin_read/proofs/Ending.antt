@@ -6,7 +6,7 @@ use Rattle.sysin_lang.specs.Flow.{Plan, Done}
 use Rattle.sysin_lang.specs.Script.{plans_at}
 use Rattle.sysin_read.specs.declared.outline.Frame.{Frame}
 use Rattle.sysin_read.specs.declared.outline.Frame.TheVariants as frames
-use Rattle.sysin_read.specs.Statement.{most_commands, StartsLine, IsElse, IsEnd, IsBlock}
+use Rattle.sysin_read.specs.Statement.{most_commands, StartsLine, IsElse, IsEnd}
 use Rattle.sysin_read.specs.Rest.{plans_before, Rest, StatementRest, IsBlockAnd}
 use Rattle.sysin_read.specs.Why.{around, wants_else}
 use Rattle.sysin_read.specs.Progress.{closing, closing_to_else, behind_then}

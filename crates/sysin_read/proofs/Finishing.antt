@@ -27,7 +27,7 @@ use Rattle.sysin_read.specs.declared.outline.Outline.{Outline}
 use Rattle.sysin_read.specs.declared.text.TextPlace.{TextPlace}
 use Rattle.sysin_read.specs.declared.text.TextPlace.TheVariants as places
 use Rattle.sysin_read.specs.declared.text.TextReading.{TextReading}
-use Rattle.sysin_read.specs.Statement.{most_nested, most_commands, tokens_of, StartNone, IsLead, IsText}
+use Rattle.sysin_read.specs.Statement.{most_nested, most_commands, tokens_of, IsLead, IsText}
 use Rattle.sysin_read.specs.Rest.{plans_before, Rest, StatementRest, BlockRest}
 use Rattle.sysin_read.specs.Reading.{open_in, IsWithin, IsFresh, GoesOn, IsBegun, ReadsAt, TextReads}
 use Rattle.sysin_read.specs.Why.{around, WithinStops, StopsAt, TextStops}

@@ -17,7 +17,7 @@ use Rattle.sysin_commands.specs.Command.{IsCommand}
 use Rattle.sysin_commands.proofs.Making.{one}
 use Rattle.sysin_read.specs.declared.outline.Frame.{Frame}
 use Rattle.sysin_read.specs.declared.outline.Frame.TheVariants as frames
-use Rattle.sysin_read.specs.Statement.{most_nested, most_commands, tokens_of, StartNone, IsLead, IsElse, IsEnd, IsText}
+use Rattle.sysin_read.specs.Statement.{most_nested, tokens_of, StartNone, IsLead, IsElse, IsEnd, IsText}
 use Rattle.sysin_read.specs.Rest.{plans_before, Rest, StatementRest, BlockRest}
 use Rattle.sysin_read.specs.Reading.{GoesOn}
 use Rattle.sysin_read.specs.Why.{around, wants_else}

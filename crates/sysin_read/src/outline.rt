@@ -1,8 +1,7 @@
 //! What is read in front of a statement.
 
-ghost use Rattle.std.specs.Prelude.{◌≡◌, ◌⊎◌, ◌+◌, ◌<◌, ℕ, true, false, [], ◌∷◌, ◌++◌, List, IfOk, IfSome, IfNone};
+ghost use Rattle.std.specs.Prelude.{◌≡◌, ◌+◌, ◌<◌, true, false, [], ◌∷◌, ◌++◌, IfOk, IfSome, IfNone};
 ghost use Rattle.sysin_lang.specs.declared.script.Step.TheVariants as steps;
-ghost use Rattle.sysin_read.specs.declared.outline.Frame.{Frame as FrameOf};
 ghost use Rattle.sysin_read.specs.declared.outline.Frame.TheVariants as frames;
 ghost use Rattle.sysin_read.specs.Reading.{open_in, IsFresh};
 ghost use Rattle.sysin_read.specs.Why.{around, wants_else};

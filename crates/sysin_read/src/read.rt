@@ -1,6 +1,6 @@
 //! Reading a text.
 
-ghost use Rattle.std.specs.Prelude.{◌≡◌, ◌⊎◌, ◌≤◌, ℕ, true, length, IfOk, IfErr};
+ghost use Rattle.std.specs.Prelude.{◌≡◌, ◌⊎◌, ◌≤◌, true, length, IfOk, IfErr};
 ghost use Rattle.sysin_lang.specs.Script.{plan_of_script};
 ghost use Rattle.sysin_text.specs.Tokens.{tokens_of};
 ghost use Rattle.sysin_read.specs.declared.fault.Stop.TheVariants as stops;

@@ -1,6 +1,6 @@
 //! The statements of a text, token by token.
 
-ghost use Rattle.std.specs.Prelude.{◌≡◌, ◌⊎◌, ◌↔◌, ◌+◌, ◌≤◌, ◌<◌, ℕ, List, true, false, [], ◌∷◌, ◌++◌, length, IsTrue, IfOk, IfErr, IfSome, IfNone};
+ghost use Rattle.std.specs.Prelude.{◌≡◌, ◌⊎◌, ◌↔◌, ◌+◌, ◌≤◌, ◌<◌, List, true, false, [], ◌∷◌, ◌++◌, length, IsTrue, IfOk, IfErr, IfSome, IfNone};
 ghost use Rattle.sysin_words.specs.declared.lead.Lead.{Lead as LeadOf};
 ghost use Rattle.sysin_words.specs.declared.lead.Lead.TheVariants as leads;
 ghost use Rattle.sysin_lang.specs.declared.command.Command.{Command as CommandOf};

@@ -1,6 +1,6 @@
 //! The lines of a text, and what is read of them.
 
-ghost use Rattle.std.specs.Prelude.{◌≡◌, ◌==◌, if◌then◌else◌, true, false, [], ◌≤◌, ◌<◌, ◌∷◌, ◌++◌, ℕ, length, take, drop, Some, None, IfSome, IfNone};
+ghost use Rattle.std.specs.Prelude.{◌≡◌, ◌==◌, if◌then◌else◌, true, false, [], ◌≤◌, ◌<◌, ◌∷◌, ◌++◌, length, take, Some, None, IfSome, IfNone};
 ghost use Rattle.sysin_text.specs.Lines.{lines_of, without_cr, HasNoFeed};
 ghost use Rattle.std.specs.List.{list_all};
 ghost use Rattle.sysin_text.specs.Cleaning as cleaning;

@@ -1,9 +1,8 @@
 //! Criteria, token by token.
 
-ghost use Rattle.std.specs.Prelude.{◌≡◌, ◌↔◌, ◌&&◌, List, Some, None, OnOk, IfErr, IsTrue, length};
+ghost use Rattle.std.specs.Prelude.{◌≡◌, ◌↔◌, List, OnOk, IfErr, IsTrue};
 ghost use Rattle.by_rules.specs.Token.{symbol_of};
-ghost use Rattle.by_rules.specs.Grammar.{most_criteria};
-ghost use Rattle.by_rules.specs.Reading.{start, next, HasEnded};
+ghost use Rattle.by_rules.specs.Reading.{start, HasEnded};
 ghost use Rattle.sysin_text.specs.declared.token.Token.{Token as Sign};
 ghost use Rattle.sysin_values.specs.Values as values;
 ghost use Rattle.sysin_values.specs.Criteria.{CriteriaGo, CriteriaStop, CriteriaReads, criteria_fault};

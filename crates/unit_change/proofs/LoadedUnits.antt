@@ -15,7 +15,8 @@ use Rattle.vtoc_load.specs.LoadedVtoc.{IsLoadedVtoc}
 use Rattle.unit_change.specs.Described.{own_place, AreShort, LoadedUnitsAreOnline, RefusedUnitsAreOffline}
 use Rattle.unit_change.proofs.FormatFour.{home_of}
 use Rattle.unit_change.proofs.OneVtoc.{home_short, one_vtoc}
-use Rattle.unit_change.proofs.OneUnit.{same_labelled, labelled_of, is_online, is_offline}
+use Rattle.volume_model.proofs.OneLabelled.{labelled_of}
+use Rattle.unit_change.proofs.OneUnit.{same_labelled, is_online, is_offline}
 use Rattle.unit_change.proofs.OneOrder.{one_order}
 use Rattle.unit_change.proofs.LoadedTracks.{own_names}
 use Rattle.unit_change.proofs.Describing.{IsFoundLoaded, describes}
@@ -37,7 +38,7 @@ module _ (head : List ℕ) (blocks : ℕ) (slots : Slots) (image : Head) (label 
   }
     where
       same : (on.stands.image ≡ image) × (on.found.label ≡ label)
-      same = same_labelled head blocks slots image label short labelled on.stands.image on.found.label (labelled_of head blocks slots image label short labelled volume on)
+      same = same_labelled head blocks slots image label short labelled on.stands.image on.found.label (labelled_of head blocks slots volume on)
 
       Agrees : Head → Cchhr → Type 0
       Agrees i pointer = (v : IsVtoc i slots pointer false on.stands.vtoc) → (on.stands.vtoc ≡ is.vtoc) × (v.bytes ≡ is.stands.stands.bytes)

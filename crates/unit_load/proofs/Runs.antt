@@ -1,12 +1,11 @@
 -- The run of a VTOC on a unit whose head passes.
-use Rattle.std.proofs.Common.{◌≡◌, ℕ, ◌+◌, ◌*◌, ◌≤◌, List, ap, refl, arith}
+use Rattle.std.proofs.Common.{◌≡◌, ℕ, ◌+◌, ◌≤◌, List, ap, arith}
 use Rattle.std.specs.Prelude.{◌==◌, ◌||◌, if◌then◌else◌}
 use Rattle.std.proofs.Math.Nat.{min-le_right}
 use Rattle.ckd_image.specs.declared.device.Device.{Device}
 use Rattle.ckd_image.specs.declared.device.Device.TheVariants.{D3390, D3380}
 use Rattle.ckd_image.specs.declared.head.Head.{Head}
 use Rattle.ckd_image.specs.declared.track.Cchhr.{Cchhr}
-use Rattle.ckd_image.specs.declared.track.TrackAt.{TrackAt}
 use Rattle.ckd_image.specs.Device.{heads_of, slot_of}
 use Rattle.ckd_image.specs.Head.{HasSlot}
 use Rattle.dasd_pool.specs.Calls.{size_in}
@@ -17,10 +16,6 @@ use Rattle.volume_model.specs.Space.{track_at, end_of}
 use Rattle.vtoc_check.specs.Front.{IsVtocRun}
 use Rattle.vtoc_check.proofs.VtocRead.{run_within, holds_pointer}
 use Rattle.vtoc_core.proofs.Spaces.{true_holds}
-
-pub track_is : (device : Device) (at : TrackAt) → at.cylinder * 15 + at.head ≡ track_at (heads_of device) at
-track_is D3390 at = refl
-track_is D3380 at = refl
 
 abbrev size_said : ℕ → ℕ
 size_said said = if (said == 56832) || (said == 47616) || (said == 19456) || (said == 65536) then said else 0

@@ -1,33 +1,26 @@
 -- What is loaded of a unit describes what it is.
-use Rattle.std.proofs.Common.{◌≡◌, ◌⊎◌, inl, inr, ℕ, suc, ◌<◌, ◌≤◌, List, [], ◌∷◌, length, Bool, false, Some, refl, sym, ap, subst, ◌∙◌, arith}
+use Rattle.std.proofs.Common.{◌≡◌, ℕ, suc, ◌<◌, ◌≤◌, List, [], ◌∷◌, length, Bool, false, Some, refl, sym, ap, subst, ◌∙◌, arith}
 use Rattle.std.specs.Prelude.{slice_get}
 use Rattle.std.proofs.lemmas.Bool.{false≢true}
 use Rattle.std.proofs.lemmas.Option.{slice_get_within}
 use Rattle.ckd_image.specs.declared.fault.CkdFault.TheVariants.{BadHead}
 use Rattle.ckd_image.specs.declared.head.Head.{Head}
-use Rattle.ckd_image.specs.declared.track.Track.{Track}
-use Rattle.ckd_image.specs.Address.{address_of}
-use Rattle.ckd_image.specs.Device.{heads_of}
 use Rattle.ckd_image.specs.Head.{IsHeadFault}
 use Rattle.dasd_pool.specs.Disk.{Shape, State}
-use Rattle.vol_label.specs.declared.fault.LabelFault.TheVariants.{BadLabel}
 use Rattle.vol_label.specs.declared.label.Label.{Label}
-use Rattle.vol_label.specs.Label.{IsLabelFault}
-use Rattle.vol_label.proofs.OneLabel.{no_label}
 use Rattle.redo_core.specs.declared.control.Control.{Control}
 use Rattle.redo_core.specs.declared.control.Control.TheVariants.{Idle}
 use Rattle.redo_core.specs.Phases.{IsAtRest}
 use Rattle.redo_core.specs.Reading.{journal_of, Reading}
 use Rattle.redo_core.proofs.Crash.{closed_overlay}
-use Rattle.redo_core.proofs.Heads.{no_head}
+use Rattle.ckd_image.proofs.OneHead.{one_head_fault}
 use Rattle.volume_model.specs.declared.why.Why.TheVariants as whys
-use Rattle.volume_model.specs.Reads.{IsUnit, IsOnline, HasImage, IsFirstText, HasBadLabel, HasLabelOf}
+use Rattle.volume_model.specs.Reads.{IsUnit, IsOnline, HasImage, HasBadLabel, HasLabelOf}
 use Rattle.volume_model.specs.Sound.{Slots}
 use Rattle.volume_model.specs.Unit.{OnlineVolume, UnitModel, online, offline}
-use Rattle.volume_model.proofs.Addresses.{one_text_anywhere}
+use Rattle.volume_model.proofs.OneLabelled.{no_image, labelled_of, no_bad_label, one_bad_label}
 use Rattle.move_core.specs.Facts.{Facts}
 use Rattle.move_core.specs.Stands.{IsAfterSlide, Means, IsSettled}
-use Rattle.move_core.proofs.OneFault.{one_head_fault, one_label_fault}
 use Rattle.move_core.proofs.Replacing.{unit_alone}
 use Rattle.unit_steps.specs.unit_change.Described.{AreShort, own_place}
 use Rattle.unit_steps.proofs.unit_change.LoadedUnits.{loaded_online, refused_offline}
@@ -36,86 +29,43 @@ use Rattle.unit_load.specs.declared.state.UnitState.TheVariants as states
 use Rattle.unit_load.specs.State.{IsStateOf}
 use Rattle.unit_steps.specs.Loaded.{HaveStates, AreLoaded, IsModel, AreModels}
 use Rattle.unit_session.specs.Sessions.{HasNothingOpen}
-use Rattle.ckd_image.proofs.Devices.{one_device}
 
 -- ---- one unit
 
 module _ (head : List ℕ) (blocks : ℕ) (slots : Slots) where
-  heads_same : (a b : Head) → HasImage head blocks a → HasImage head blocks b → a ≡ b
-  heads_same a b one other =
-      let device : a.device ≡ b.device = one_device head a.device b.device one.stands.named other.stands.named in
-      let tracks : a.tracks ≡ b.tracks = one.tracks_are ∙ sym other.tracks_are in
-      (λ i. record { device = device i; tracks = tracks i })
-
   -- ---- the head fails
-
-  no_image : (why : ℕ) (image : Head) → IsHeadFault head blocks (BadHead why) → HasImage head blocks image → ⊥
-  no_image why image fault has = no_head head blocks (BadHead why) fault image.device has.stands
 
   image_of : (volume : OnlineVolume) → IsOnline false own_place head blocks slots volume → (image : Head) × HasImage head blocks image
   image_of volume is = (is.stands.image, record { stands = is.stands.head_stands; tracks_are = is.stands.tracks_are })
 
   bad_head : (why : ℕ) → IsHeadFault head blocks (BadHead why) → (model : UnitModel) → IsUnit false false own_place head blocks slots model
       → (kept : List (List ℕ)) × (model ≡ offline (whys.Head why) kept)
-  bad_head why fault (online volume) is = let has = image_of volume is.1 in absurd (no_image why has.0 fault has.1)
+  bad_head why fault (online volume) is = let has = image_of volume is.1 in absurd (no_image head blocks why has.0 fault has.1)
   bad_head why fault (offline (whys.Head other) kept) is =
       let same : other ≡ why = one_head_fault head blocks other why is.0 fault in
       (kept, λ i. offline (whys.Head (same i)) kept)
   bad_head why fault (offline whys.Filling kept) is = absurd (false≢true is.0)
-  bad_head why fault (offline (whys.Label other) kept) is = absurd (no_image why is.1.image fault is.1.head_stands)
-  bad_head why fault (offline (whys.Vtoc track number other) kept) is = absurd (no_image why is.1.image fault is.1.labelled.head_stands)
+  bad_head why fault (offline (whys.Label other) kept) is = absurd (no_image head blocks why is.1.image fault is.1.head_stands)
+  bad_head why fault (offline (whys.Vtoc track number other) kept) is = absurd (no_image head blocks why is.1.image fault is.1.labelled.head_stands)
 
   -- ---- the label fails
-
-  -- what fails of a label
-  abbrev LabelFails : ℕ → Head → Type 0
-  LabelFails why image =
-      (((text : Track) → ¬ IsFirstText image slots text) × (why ≡ 1)) ⊎ ((text : Track) × IsFirstText image slots text × IsLabelFault image text.recs (BadLabel why))
 
   module _ (short : AreShort blocks slots) where
     first_short : (image : Head) → HasImage head blocks image → length (slots 0) ≤ 65536
     first_short image has = short 0 (omega (arith, has.stands.cylinders.0))
 
-    first_same : (image : Head) → HasImage head blocks image → (a b : Track) → IsFirstText image slots a → IsFirstText image slots b → a ≡ b
-    first_same image has a b one other = one_text_anywhere (address_of (heads_of image.device) 0) (slots 0) a b (first_short image has) one other
-
-    fails_as : (why : ℕ) (bad : HasBadLabel head blocks slots why) (image : Head) → HasImage head blocks image → LabelFails why image
-    fails_as why bad image has = subst (LabelFails why) (heads_same bad.image image bad.head_stands has) bad.fault
-
-    no_labelled : (why : ℕ) (image : Head) (label : Label) → HasBadLabel head blocks slots why → HasLabelOf head blocks slots image label → ⊥
-    no_labelled why image label bad stands = elim (fails_as why bad image stands.head_stands) [
-      | inl none ↦ none.0 stands.text stands.text_stands
-      | inr broken ↦
-          no_label image stands.text.recs (BadLabel why)
-          (subst (λ (t : Track). IsLabelFault image t.recs (BadLabel why)) (first_same image stands.head_stands broken.0 stands.text broken.1 stands.text_stands) broken.2)
-          label stands.stands
-    ]
-
-    one_why : (image : Head) → HasImage head blocks image → (a b : ℕ) → LabelFails a image → LabelFails b image → a ≡ b
-    one_why image has a b (inl none) (inl neither) = none.1 ∙ sym neither.1
-    one_why image has a b (inl none) (inr broken) = absurd (none.0 broken.0 broken.1)
-    one_why image has a b (inr broken) (inl none) = absurd (none.0 broken.0 broken.1)
-    one_why image has a b (inr p) (inr q) =
-        one_label_fault image p.0.recs a b p.2
-        (subst (λ (t : Track). IsLabelFault image t.recs (BadLabel b)) (first_same image has q.0 p.0 q.1 p.1) q.2)
-
-    labelled_of : (volume : OnlineVolume) (is : IsOnline false own_place head blocks slots volume) → HasLabelOf head blocks slots is.stands.image is.found.label
-    labelled_of volume is = record {
-      head_stands = record { stands = is.stands.head_stands; tracks_are = is.stands.tracks_are };
-      text = is.stands.track_0;
-      text_stands = is.stands.track_0_stands;
-      stands = is.stands.label_stands;
-    }
+    not_labelled : (why : ℕ) (image : Head) (label : Label) → HasBadLabel head blocks slots why → HasLabelOf head blocks slots image label → ⊥
+    not_labelled why image label bad stands = no_bad_label head blocks slots (first_short image stands.head_stands) image label stands why bad
 
     bad_label : (why : ℕ) → HasBadLabel head blocks slots why → (model : UnitModel) → IsUnit false false own_place head blocks slots model
         → (kept : List (List ℕ)) × (model ≡ offline (whys.Label why) kept)
-    bad_label why bad (online volume) is = absurd (no_labelled why is.1.stands.image is.1.found.label bad (labelled_of volume is.1))
-    bad_label why bad (offline (whys.Head other) kept) is = absurd (no_image other bad.image is.0 bad.head_stands)
+    bad_label why bad (online volume) is = absurd (not_labelled why is.1.stands.image is.1.found.label bad (labelled_of head blocks slots volume is.1))
+    bad_label why bad (offline (whys.Head other) kept) is = absurd (no_image head blocks other bad.image is.0 bad.head_stands)
     bad_label why bad (offline whys.Filling kept) is = absurd (false≢true is.0)
     bad_label why bad (offline (whys.Label other) kept) is =
-        let same : other ≡ why = one_why bad.image bad.head_stands other why (fails_as other is.1 bad.image bad.head_stands) bad.fault in
+        let same : other ≡ why = one_bad_label head blocks slots (first_short bad.image bad.head_stands) other why is.1 bad in
         (kept, λ i. offline (whys.Label (same i)) kept)
-    bad_label why bad (offline (whys.Vtoc track number other) kept) is = absurd (no_labelled why is.1.image is.1.label bad is.1.labelled)
+    bad_label why bad (offline (whys.Vtoc track number other) kept) is = absurd (not_labelled why is.1.image is.1.label bad is.1.labelled)
 
     -- ---- whatever was found
 

@@ -1,4 +1,4 @@
--- A name is spelled in one way, and track 0 holds one label at most.
+-- A name is spelled in one way, and track 0 holds one label at most, or breaks one rule first.
 use Rattle.std.proofs.Common.{◌≡◌, ℕ, ◌+◌, ◌<◌, ◌≤◌, List, [], ◌∷◌, length, get_or, Some, sym, subst, ◌∙◌, arith, inl, inr}
 use Rattle.std.proofs.lemmas.Bool.{cases_lt}
 use Rattle.std.proofs.lemmas.Bool.Decides.{nat_tests}
@@ -6,13 +6,15 @@ use Rattle.std.proofs.lemmas.Grind.{same_number_lists}
 use Rattle.std.proofs.lemmas.Option.{same_Some}
 use Rattle.ckd_image.specs.declared.track.Rec.{Rec}
 use Rattle.ckd_image.specs.declared.head.Head.{Head}
+use Rattle.ckd_image.proofs.OneHead.{one_number}
 use Rattle.vol_label.specs.declared.label.Label.{Label}
 use Rattle.vol_label.specs.declared.fault.LabelFault.{LabelFault}
 use Rattle.vol_label.specs.declared.fault.LabelFault.TheVariants.{BadLabel}
+use Rattle.vol_label.specs.declared.fault.LabelRule.{LabelRule}
 use Rattle.vol_label.specs.declared.fault.LabelRule.TheVariants as rules
 use Rattle.vol_label.specs.CodePage.{ascii_of}
 use Rattle.vol_label.specs.Serial.{Spells}
-use Rattle.vol_label.specs.Label.{IsLabelText, IsLabel, IsLabelFault}
+use Rattle.vol_label.specs.Label.{label_key, IsLabelText, IsLabel, IsFirstNumbered, IsLabelFault, IsFirstBroken, number_of}
 use Rattle.vol_label.proofs.LabelText.{IsSame, same_label}
 
 -- ---- the byte of a character, range by range
@@ -150,3 +152,31 @@ no_label head recs (BadLabel why) (rules.Length, number, f) label h =
 no_label head recs (BadLabel why) (rules.Serial, number, f) label h =
     let P : Rec → Type 0 = λ r. IsLabelText head r.body label in
     f.4 label (subst P (same_Some h.rec f.0 (sym h.numbered ∙ f.1)) h.text)
+
+-- ---- of the rules of a label the first that fails is one
+
+module _ (head : Head) (recs : List Rec) where
+  at_rec : (P : Rec → Type 0) (from to : Rec) → IsFirstNumbered 3 recs from → IsFirstNumbered 3 recs to → P from → P to
+  at_rec P from to one other holds = subst P (same_Some from to (sym one ∙ other)) holds
+
+  labels_apart : (a b : LabelRule) → number_of a < number_of b → IsFirstBroken head recs a → IsFirstBroken head recs b → ⊥
+  labels_apart rules.NoRecord rules.NoRecord less one other = absurd (omega (arith, less))
+  labels_apart rules.Key rules.NoRecord less one other = absurd (omega (arith, less))
+  labels_apart rules.Length rules.NoRecord less one other = absurd (omega (arith, less))
+  labels_apart rules.Serial rules.NoRecord less one other = absurd (omega (arith, less))
+  labels_apart rules.NoRecord rules.Key less one other = one other.0 other.1
+  labels_apart rules.Key rules.Key less one other = absurd (omega (arith, less))
+  labels_apart rules.Length rules.Key less one other = absurd (omega (arith, less))
+  labels_apart rules.Serial rules.Key less one other = absurd (omega (arith, less))
+  labels_apart rules.NoRecord rules.Length less one other = one other.0 other.1
+  labels_apart rules.Key rules.Length less one other = one.2 (at_rec (λ r. r.key ≡ label_key) other.0 one.0 other.1 one.1 other.2)
+  labels_apart rules.Length rules.Length less one other = absurd (omega (arith, less))
+  labels_apart rules.Serial rules.Length less one other = absurd (omega (arith, less))
+  labels_apart rules.NoRecord rules.Serial less one other = one other.0 other.1
+  labels_apart rules.Key rules.Serial less one other = one.2 (at_rec (λ r. r.key ≡ label_key) other.0 one.0 other.1 one.1 other.2)
+  labels_apart rules.Length rules.Serial less one other = one.3 (at_rec (λ r. length r.body ≡ 80) other.0 one.0 other.1 one.1 other.3)
+  labels_apart rules.Serial rules.Serial less one other = absurd (omega (arith, less))
+
+  pub one_label_fault : (a b : ℕ) → IsLabelFault head recs (BadLabel a) → IsLabelFault head recs (BadLabel b) → a ≡ b
+  one_label_fault a b one other =
+      one.1 ∙ one_number number_of (IsFirstBroken head recs) labels_apart one.0 other.0 one.2 other.2 ∙ sym other.1

@@ -1,8 +1,8 @@
 //! Volume serials.
 
-ghost use Rattle.std.specs.Prelude.{◌≡◌, ℕ, ◌<◌, ◌≤◌, ◌↔◌, Some, length, IsTrue, IfSome, IfNone, IfOk, IfErr, slice_index};
+ghost use Rattle.std.specs.Prelude.{◌≡◌, ℕ, ◌<◌, ◌≤◌, ◌↔◌, Some, IsTrue, IfSome, IfNone, IfOk, IfErr, slice_index};
 ghost use Rattle.vol_label.specs.CodePage.{ascii_of};
-ghost use Rattle.vol_label.specs.Serial.{IsSerialCharacter, IsSerialByte, IsSerialName, Spells, IsSerial, HasCharacters, IsSerialFault};
+ghost use Rattle.vol_label.specs.Serial.{IsSerialCharacter, IsSerialByte, IsSerialName, Spells, IsSerial, IsSerialFault};
 
 use crate::code_page::{to_ascii, to_ebcdic};
 use crate::fault::{LabelFault, LabelRule, broken};

@@ -1,5 +1,5 @@
 -- A slot spells one track text at most, at any address, and at one address.
-use Rattle.std.proofs.Common.{◌≡◌, ℕ, ◌/◌, ◌%◌, ◌≤◌, List, [], ◌∷◌, ◌++◌, length, ap, sym, ◌∙◌, arith}
+use Rattle.std.proofs.Common.{◌≡◌, ℕ, ◌+◌, ◌*◌, ◌/◌, ◌%◌, ◌≤◌, List, [], ◌∷◌, ◌++◌, length, refl, ap, sym, ◌∙◌, arith}
 use Rattle.std.specs.List.{flat_map}
 use Rattle.ckd_image.specs.declared.device.Device.{Device}
 use Rattle.ckd_image.specs.declared.device.Device.TheVariants.{D3390, D3380}
@@ -58,6 +58,11 @@ one_address a b slot s t p q one other =
     same_address a b (same_two _ _ p.0 q.0 c1 c0) (same_two _ _ p.1 q.1 h1 h0)
 
 -- the address of a track of an image fits its bytes
+-- both devices have 15 heads
+pub track_is : (device : Device) (at : TrackAt) → at.cylinder * 15 + at.head ≡ track_at (heads_of device) at
+track_is D3390 at = refl
+track_is D3380 at = refl
+
 pub address_fits : (device : Device) (at : TrackAt) → track_at (heads_of device) at ≤ 65535 → IsAddress at
 address_fits D3390 at small = (omega (arith, small), omega (arith, small))
 address_fits D3380 at small = (omega (arith, small), omega (arith, small))

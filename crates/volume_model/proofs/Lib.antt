@@ -10,3 +10,4 @@ pub mod OneVtoc
 pub mod OneCheck
 pub mod NameOrder
 pub mod Units
+pub mod OneLabelled

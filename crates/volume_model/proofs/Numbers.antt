@@ -3,9 +3,12 @@ use Rattle.std.proofs.Common.{◌≡◌, inl, inr, ℕ, zero, suc, ◌+◌, ◌<
 use Rattle.std.specs.List.{fold}
 use Rattle.std.proofs.lemmas.Bool.Decides.{nat_tests}
 use Rattle.std.proofs.lemmas.List.Elements.{All-nil, All-cons, All-append, All-map}
+use Rattle.ckd_image.proofs.Bools.{and_second}
 use Rattle.free_map.specs.declared.run.Run.{Run}
 use Rattle.free_map.specs.Runs.{InRuns}
+use Rattle.volume_model.specs.declared.place.Place.{Place}
 use Rattle.volume_model.specs.Dscbs.{numbers_below}
+use Rattle.volume_model.specs.Directory.{same_place}
 use Rattle.volume_model.specs.Check.{same_bytes}
 use Rattle.volume_model.specs.Space.{end_of}
 use Rattle.volume_model.specs.Unit.{Extent, run_in, tracks_in, tracks_of}
@@ -38,18 +41,17 @@ pub bytes_itself : (a : List ℕ) → same_bytes a a ≡ true
 bytes_itself [] = refl
 bytes_itself (x ∷ a) = (λ i. eq-eqb x x refl i && bytes_itself a i)
 
+pub place_itself : (a : Place) → same_place a a ≡ true
+place_itself a = (λ i. eq-eqb a.track a.track refl i && eq-eqb a.record_number a.record_number refl i)
+
 pub bytes_equal : (a b : List ℕ) → same_bytes a b ≡ true → a ≡ b
 bytes_equal [] [] e = refl
 bytes_equal [] (y ∷ b) e = let q : false ≡ true = e in cc
 bytes_equal (x ∷ a) [] e = let q : false ≡ true = e in cc
 bytes_equal (x ∷ a) (y ∷ b) e =
     let head : x ≡ y = first x y (same_bytes a b) e in
-    let tail : a ≡ b = bytes_equal a b (second (x == y) (same_bytes a b) e) in
+    let tail : a ≡ b = bytes_equal a b (and_second (x == y) (same_bytes a b) e) in
     (λ i. head i ∷ tail i)
   where
     first : (m n : ℕ) (t : Bool) → ((m == n) && t) ≡ true → m ≡ n
     first m n t e = grind (arith, nat_tests)
-
-    second : (s t : Bool) → (s && t) ≡ true → t ≡ true
-    second true t e = e
-    second false t e = let q : false ≡ true = e in cc

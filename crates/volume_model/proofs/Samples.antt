@@ -276,10 +276,11 @@ way_back_is_told = refl
 
 -- ---- addresses that are no track's
 
--- Two cylinders, and a VTOC on track 16, which is head 1 of cylinder 1: record 1 is its format 4, and these come behind it.
+-- a format 4 of two cylinders whose VTOC is on track 16, head 1 of cylinder 1
 abbrev pub format_4_on_16 : ℕ → List ℕ
 format_4_on_16 indicators = format_4_with 0 indicators 2 15 (1 ∷ 0 ∷ 0 ∷ 1 ∷ 0 ∷ 1 ∷ 0 ∷ 1 ∷ 0 ∷ 1 ∷ [])
 
+-- that volume: record 1 of its track is that format 4, and these come behind it
 abbrev pub on_16 : ℕ → List (List ℕ) → Vtoc
 on_16 indicators behind = record {
   heads = 15;
@@ -490,7 +491,7 @@ format_4_stands bytes key body whole four =
       format = four;
     }
 
--- all of them hold for the volumes above
+-- the format 4 with a VTOC on track 1 keeps the three, and so does the extent of the VTOC on tracks 1 and 2
 pub format_4_is_named : IsFormat4 15 (slots_with format_4) pointer format_4
 format_4_is_named = format_4_stands format_4 refl refl refl refl
 

@@ -9,12 +9,13 @@ use Rattle.volume_model.specs.Directory.{same_place}
 use Rattle.volume_model.proofs.Filters.{filter_skip, filter_keep}
 use Rattle.vtoc_layout.specs.Layout.{AreDistinct}
 use Rattle.vtoc_layout.proofs.Distinct.{first_or_later, at_first, in_none, in_later, in_front, in_back, distinct_front, distinct_back, not_both, distinct_append, no_more, in_filter, from_filter, filter_all, from_map, one_of_map}
-use Rattle.vtoc_layout.proofs.FiveChains.{one_place, itself}
+use Rattle.vtoc_layout.proofs.FiveChains.{one_place}
 use Rattle.vtoc_allot.specs.declared.held.Held.{Held}
 use Rattle.vtoc_allot.specs.declared.held.Wanted.{Wanted}
 use Rattle.vtoc_allot.specs.Allotted.{listed, one_if, is_at, held_places, held_count, wanted_count, given_back, new_ones, new_threes, new_fives, free_count, pool_of, without, TakesFirst, wants_first, IsHeld}
 use Rattle.vtoc_allot.proofs.Parts.{in_drop, distinct_drop}
 use Rattle.volume_model.specs.Dscbs.{is_free_record}
+use Rattle.volume_model.proofs.Numbers.{place_itself}
 use Rattle.ckd_image.proofs.Lists.{contains_map}
 
 abbrev place_of : Placed → Place
@@ -27,7 +28,7 @@ at_there [] place h = absurd (in_none place h)
 at_there (x ∷ places) place h = by (first_or_later x place places h) (λ later. at_there places place later)
   where
     by : ((x ≡ place) ⊎ Contains places place) → (Contains places place → is_at places place ≡ true) → is_at (x ∷ places) place ≡ true
-    by (inl here) more = ap (λ (b : Bool). b || is_at places place) (ap (same_place place) here ∙ itself place)
+    by (inl here) more = ap (λ (b : Bool). b || is_at places place) (ap (same_place place) here ∙ place_itself place)
     by (inr later) more = either (same_place place x) (is_at places place) (more later)
       where
         either : (a b : Bool) → b ≡ true → (a || b) ≡ true

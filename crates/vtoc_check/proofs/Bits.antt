@@ -13,7 +13,7 @@ use Rattle.vtoc_check.specs.Reach.{is_marked}
 use Rattle.vtoc_check.specs.Tracks.{HasTracks, AreTracksOf, AreMarkedUpTo}
 use Rattle.vtoc_check.proofs.Steps.{later_push}
 use Rattle.vtoc_check.proofs.Marks.{any_passes, passes_any}
-use Rattle.std.proofs.Math.Bool.{or-false, or-true}
+use Rattle.std.proofs.Math.Bool.{or-false, or-true, or_assoc}
 
 -- ---- one run
 
@@ -108,9 +108,12 @@ hits run others before after hit marks some here h = by hit (list_any (overlap r
 
 -- ---- runs, one after another
 
-or_assoc : (a b c : Bool) → ((a || b) || c) ≡ (a || (b || c))
-or_assoc true b c = refl
-or_assoc false b c = refl
+pub or_turn : (a b c : Bool) → ((a || b) || c) ≡ ((a || c) || b)
+or_turn true b c = refl
+or_turn false true true = refl
+or_turn false true false = refl
+or_turn false false true = refl
+or_turn false false false = refl
 
 pub or_swap : (a b c d : Bool) → ((a || b) || (c || d)) ≡ ((a || c) || (b || d))
 or_swap true b c d = refl

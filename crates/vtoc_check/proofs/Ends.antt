@@ -1,17 +1,18 @@
 -- The ends of runs, noted where they begin.
-use Rattle.std.proofs.Common.{◌≡◌, ◌⊎◌, ℕ, zero, suc, ◌+◌, ◌<◌, ◌≤◌, max, List, [], ◌∷◌, ◌++◌, length, take, get_or, set, Bool, true, false, refl, sym, ap, ◌∙◌, arith, inl, inr, All, replicate}
+use Rattle.std.proofs.Common.{◌≡◌, ◌⊎◌, ℕ, zero, suc, ◌+◌, ◌<◌, ◌≤◌, max, List, [], ◌∷◌, ◌++◌, length, take, get_or, set, Bool, false, refl, sym, ap, ◌∙◌, arith, inl, inr, All, replicate}
 use Rattle.std.specs.Prelude.{◌&&◌, ◌||◌, nat_le, nat_lt}
 use Rattle.std.specs.List.{list_any}
 use Rattle.std.proofs.lemmas.Bool.{cases_lt, and_right, lt-ltb, le-ltb, le-leb, lt-leb}
 use Rattle.std.proofs.lemmas.List.{get_or_append_left, get_or_past}
 use Rattle.std.proofs.lemmas.List.Elements.{All-head, All-tail}
 use Rattle.std.proofs.lemmas.List.Folds.{list_any_more}
+use Rattle.std.proofs.Math.Bool.{or_assoc}
 use Rattle.std.proofs.Math.Seq.{get_or-append_seam}
 use Rattle.free_map.specs.declared.run.Run.{Run}
 use Rattle.volume_model.specs.Space.{end_of, has_track}
 use Rattle.vtoc_check.specs.Reach.{is_marked}
 use Rattle.vtoc_check.specs.Tracks.{AreEndsOf, AreTracksOf}
-use Rattle.vtoc_check.proofs.Bits.{no_run}
+use Rattle.vtoc_check.proofs.Bits.{no_run, or_turn}
 
 -- the greater of two numbers is past a track where one of them is
 lt_max : (track a b : ℕ) → nat_lt track (max a b) ≡ (nat_lt track a || nat_lt track b)
@@ -22,21 +23,6 @@ lt_max track a b = by (cases_lt track a) (cases_lt track b)
     by (inr p) (inl q) = lt-ltb track (max a b) (omega arith) ∙ sym (λ i. le-ltb track a p i || lt-ltb track b q i)
     by (inr p) (inr q) = le-ltb track (max a b) (omega arith) ∙ sym (λ i. le-ltb track a p i || le-ltb track b q i)
 
-or_turn : (a b c : Bool) → (a || (b || c)) ≡ ((a || c) || b)
-or_turn true b c = refl
-or_turn false true true = refl
-or_turn false true false = refl
-or_turn false false true = refl
-or_turn false false false = refl
-
-or_last : (a b c : Bool) → ((a || b) || c) ≡ (a || (b || c))
-or_last true b c = refl
-or_last false b c = refl
-
-or_false : (b : Bool) → b ≡ (b || false)
-or_false true = refl
-or_false false = refl
-
 -- one number among others is raised
 raised : (track : ℕ) (ends : List ℕ) (n first end : ℕ) → first < length ends
     → list_any (nat_lt track) (take n (set ends first (max (get_or ends first 0) end))) ≡ (list_any (nat_lt track) (take n ends) || (nat_lt first n && nat_lt track end))
@@ -44,18 +30,11 @@ raised track [] n first end lt = absurd (omega (arith, lt))
 raised track (x ∷ ends) zero first end lt = sym (ap (λ (b : Bool). b && nat_lt track end) (le-ltb first 0 (omega arith)))
 raised track (x ∷ ends) (suc n) zero end lt =
     ap (λ (b : Bool). b || list_any (nat_lt track) (take n ends)) (lt_max track x end)
-    ∙ or_swapped (nat_lt track x) (nat_lt track end) (list_any (nat_lt track) (take n ends))
+    ∙ or_turn (nat_lt track x) (nat_lt track end) (list_any (nat_lt track) (take n ends))
     ∙ sym (ap (λ (b : Bool). (nat_lt track x || list_any (nat_lt track) (take n ends)) || (b && nat_lt track end)) (lt-ltb 0 (suc n) (omega arith)))
-  where
-    or_swapped : (a b c : Bool) → ((a || b) || c) ≡ ((a || c) || b)
-    or_swapped true b c = refl
-    or_swapped false true true = refl
-    or_swapped false true false = refl
-    or_swapped false false true = refl
-    or_swapped false false false = refl
 raised track (x ∷ ends) (suc n) (suc first) end lt =
     ap (λ (b : Bool). nat_lt track x || b) (raised track ends n first end (omega (arith, lt)))
-    ∙ sym (or_last (nat_lt track x) (list_any (nat_lt track) (take n ends)) (nat_lt first n && nat_lt track end))
+    ∙ sym (or_assoc (nat_lt track x) (list_any (nat_lt track) (take n ends)) (nat_lt first n && nat_lt track end))
     ∙ ap (λ (b : Bool). (nat_lt track x || list_any (nat_lt track) (take n ends)) || (b && nat_lt track end)) (same (cases_lt first n))
   where
     same : ((first < n) ⊎ (n ≤ first)) → nat_lt first n ≡ nat_lt (suc first) (suc n)

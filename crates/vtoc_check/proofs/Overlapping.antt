@@ -17,7 +17,7 @@ use Rattle.vtoc_check.specs.Places.{blank}
 use Rattle.vtoc_check.specs.Reach.{record_in}
 use Rattle.vtoc_check.specs.Tracks.{HasTracks}
 use Rattle.vtoc_check.proofs.ByPlace.{AreFound}
-use Rattle.vtoc_check.proofs.Bits.{or_swap}
+use Rattle.vtoc_check.proofs.Bits.{or_swap, or_turn}
 use Rattle.vtoc_check.proofs.FirstFound.{filter_found, later_found, both_found}
 
 -- ---- the runs of a record
@@ -81,13 +81,6 @@ overlap_append (run ∷ runs) xs ys =
 overlap_flat : (runs : List Run) (own : Placed → List Run) (others : List Placed) → any_overlap runs (flat_map own others) ≡ list_any (λ other. any_overlap runs (own other)) others
 overlap_flat runs own [] = overlap_none runs
 overlap_flat runs own (other ∷ others) = overlap_append runs (own other) (flat_map own others) ∙ ap (λ (b : Bool). any_overlap runs (own other) || b) (overlap_flat runs own others)
-
-or_turn : (a b c : Bool) → ((a || b) || c) ≡ ((a || c) || b)
-or_turn true b c = refl
-or_turn false true true = refl
-or_turn false true false = refl
-or_turn false false true = refl
-or_turn false false false = refl
 
 -- a record breaks the rule: by the fixed runs, by its own, or by an earlier record
 abbrev pub breaks : ℕ → ℕ → Run → List Placed → ℕ → Bool

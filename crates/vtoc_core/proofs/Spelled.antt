@@ -1,5 +1,5 @@
 -- Names in the code page: the name that 44 bytes are, and bytes that are none.
-use Rattle.std.proofs.Common.{◌≡◌, ◌≢◌, inl, inr, ℕ, ◌+◌, ◌-◌, ◌<◌, ◌≤◌, List, [], ◌∷◌, ◌++◌, length, take, replicate, get_or, Option, Some, refl, sym, ap, subst, ◌∙◌, arith, below_more, get_or-set_other, get_or-set_same, Result, Ok, Err}
+use Rattle.std.proofs.Common.{◌≡◌, ◌≢◌, inl, inr, ℕ, ◌+◌, ◌-◌, ◌<◌, ◌≤◌, List, [], ◌∷◌, ◌++◌, length, take, replicate, get_or, Option, Some, sym, ap, subst, ◌∙◌, arith, below_more, get_or-set_other, get_or-set_same, Result, Ok, Err}
 use Rattle.std.specs.Prelude.{IfOk, IfErr, IfSome, IfNone}
 use Rattle.std.specs.Result.{result_ok}
 use Rattle.std.specs.Char.{to_ascii_uppercase}
@@ -10,7 +10,7 @@ use Rattle.std.proofs.lemmas.Bool.Decides.{nat_tests}
 use Rattle.std.proofs.lemmas.Grind.{same_number_lists}
 use Rattle.std.proofs.lemmas.List.{length-take-le, length-map, get_or-take, get_or-map, get_or_append_left}
 use Rattle.std.proofs.lemmas.List.Elements.{recursion_from_All, All-from_recursion, All-weaker, All-get_or}
-use Rattle.std.proofs.lemmas.Str.Ascii.{uppercase_is, uppercase-uppercase}
+use Rattle.std.proofs.lemmas.Str.Ascii.{uppercase_is}
 use Rattle.dsn_filter.specs.declared.dsn.Dsn.{Dsn}
 use Rattle.dsn_filter.specs.declared.fault.NameFault.{NameFault}
 use Rattle.dsn_filter.specs.declared.fault.NameFault.TheVariants.{BadName, BadPattern, NoMemory}
@@ -18,6 +18,7 @@ use Rattle.dsn_filter.specs.Dsn.{dsn_of, IsNameText, IsDsn}
 use Rattle.dsn_filter.specs.NameFault.{IsNameFault}
 use Rattle.dsn_filter.specs.Qualifier.{IsLetter, IsInner, IsQualifier}
 use Rattle.dsn_filter.specs.Text.{capitals, dotted}
+use Rattle.dsn_filter.proofs.Named.{capitals_again}
 use Rattle.vol_label.specs.CodePage.{ascii_of}
 use Rattle.volume_model.specs.Pinned.{IsNameOf}
 
@@ -65,13 +66,9 @@ capitals_name text name = (
     each = name.1.each;
     some = name.1.some;
     short = omega (arith, name.1.short, length-map text to_ascii_uppercase);
-    joins = twice text ∙ name.1.joins;
+    joins = capitals_again text ∙ name.1.joins;
   },
 )
-  where
-    twice : (bytes : List ℕ) → capitals (capitals bytes) ≡ capitals bytes
-    twice [] = refl
-    twice (b ∷ bytes) = λ i. uppercase-uppercase b i ∷ twice bytes i
 
 abbrev pub AreCharacters : List ℕ → List ℕ → ℕ → Type 0
 AreCharacters name text len = (k : ℕ) → k < len → ascii_of (get_or name k 0) ≡ Some (get_or text k 0)

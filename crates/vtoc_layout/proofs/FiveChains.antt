@@ -2,7 +2,7 @@
 use Rattle.std.proofs.Common.{◌≡◌, ◌⊎◌, inl, inr, ℕ, zero, suc, ◌+◌, ◌≤◌, List, [], ◌∷◌, ◌++◌, length, filter, find, Bool, true, false, cond, not, Option, Some, None, refl, sym, ap, subst, ◌∙◌, arith, append_assoc}
 use Rattle.std.specs.Prelude.{◌&&◌, ◌||◌, ◌==◌, nat_lt, if◌then◌else◌}
 use Rattle.std.specs.List.{list_any}
-use Rattle.std.proofs.lemmas.Bool.{and_parts, cases_Bool, eqb-true, eq-eqb, both_ways, or_right, or_left}
+use Rattle.std.proofs.lemmas.Bool.{and_parts, cases_Bool, eqb-true, both_ways, or_right, or_left}
 use Rattle.std.proofs.lemmas.List.{append-nil}
 use Rattle.std.proofs.lemmas.List.Folds.{list_any-append}
 use Rattle.ckd_image.specs.declared.track.Cchhr.{Cchhr}
@@ -13,6 +13,7 @@ use Rattle.volume_model.specs.Dscbs.{format_of, is_f5, pointer_in}
 use Rattle.volume_model.specs.Directory.{named_place, named_record, record_at, same_place}
 use Rattle.volume_model.specs.Check.{FiveChain, five_chain, chain_from, goes_on, linked, points as points_in, named_by, records_of, fives_of, is_among, first_of, or_else, first_five, same_target}
 use Rattle.volume_model.specs.FiveChain.{Names, EndsAt, IsFiveChain, walk_of}
+use Rattle.volume_model.proofs.Numbers.{place_itself}
 use Rattle.volume_model.proofs.Filters.{filter_skip, filter_keep}
 
 -- ---- places
@@ -23,9 +24,6 @@ one_place a b same =
     let track : a.track ≡ b.track = eqb-true a.track b.track parts.0 in
     let number : a.record_number ≡ b.record_number = eqb-true a.record_number b.record_number parts.1 in
     (λ i. record { track = track i; record_number = number i })
-
-pub itself : (a : Place) → same_place a a ≡ true
-itself a = (λ i. eq-eqb a.track a.track refl i && eq-eqb a.record_number a.record_number refl i)
 
 or_neither : (a b : Bool) → a ≡ false → b ≡ false → (a || b) ≡ false
 or_neither a b p q = (λ i. p i || q i)
@@ -67,7 +65,7 @@ left_fewer earlier five (one ∷ fives) inside new = by (left_fewer earlier five
     by next (inl here) =
         let same : one.place ≡ five.place = one_place one.place five.place here in
         let fresh : is_among earlier one ≡ false = among_at earlier one five same ∙ new in
-        let again : same_place five.place one.place ≡ true = ap (λ (place : Place). same_place five.place place) same ∙ itself five.place in
+        let again : same_place five.place one.place ≡ true = ap (λ (place : Place). same_place five.place place) same ∙ place_itself five.place in
         let now : is_among (earlier ++ five ∷ []) one ≡ true =
         among_last earlier five one ∙ or_right (is_among earlier one) (same_place five.place one.place || false) (or_left (same_place five.place one.place) false again) in
         omega (arith, left_more earlier five fives, ap length (filter_skip (is_left (earlier ++ five ∷ [])) one fives (ap not now)), ap length (filter_keep (is_left earlier) one fives (ap not fresh)))
@@ -298,7 +296,7 @@ found_there test (one ∷ records) next is five = by (λ on. found_there test re
     by rest (inl passed) (inl kept) =
         let same : one.place ≡ next.place = ap (λ (placed : Placed). placed.place) (here passed) in
         ap (λ (list : List Placed). is_among list next) (filter_keep is_five one records kept)
-        ∙ or_left (same_place one.place next.place) (is_among (filter is_five records) next) (ap (λ (place : Place). same_place place next.place) same ∙ itself next.place)
+        ∙ or_left (same_place one.place next.place) (is_among (filter is_five records) next) (ap (λ (place : Place). same_place place next.place) same ∙ place_itself next.place)
     by rest (inl passed) (inr gone) = absurd (both_ways (is_five next) (sym (ap is_five (here passed)) ∙ gone) five)
     by rest (inr other) (inl kept) =
         ap (λ (list : List Placed). is_among list next) (filter_keep is_five one records kept) ∙ or_right (same_place one.place next.place) (is_among (filter is_five records) next) (rest (on other))
@@ -324,7 +322,7 @@ first_there test (one ∷ fives) five is = by (first_there test fives five) (cas
     by later (inl passed) =
         let e : Some one ≡ Some five = sym (ap first_of (filter_keep test one fives passed)) ∙ is in
         let same : one ≡ five = cc in
-        or_left (same_place one.place five.place) (is_among fives five) (ap (λ (placed : Placed). same_place placed.place five.place) same ∙ itself five.place)
+        or_left (same_place one.place five.place) (is_among fives five) (ap (λ (placed : Placed). same_place placed.place five.place) same ∙ place_itself five.place)
     by later (inr gone) = or_right (same_place one.place five.place) (is_among fives five) (later (sym (ap first_of (filter_skip test one fives gone)) ∙ is))
 
 head_there : (fives : List Placed) (five : Placed) → first_of fives ≡ Some five → is_among fives five ≡ true
@@ -332,7 +330,7 @@ head_there [] five is = (let e : None ≡ Some five = is in cc)
 head_there (one ∷ fives) five is =
     let e : Some one ≡ Some five = is in
     let same : one ≡ five = cc in
-    or_left (same_place one.place five.place) (is_among fives five) (ap (λ (placed : Placed). same_place placed.place five.place) same ∙ itself five.place)
+    or_left (same_place one.place five.place) (is_among fives five) (ap (λ (placed : Placed). same_place placed.place five.place) same ∙ place_itself five.place)
 
 either_there : (first other : Option Placed) (fives : List Placed) (five : Placed) → (first ≡ Some five → is_among fives five ≡ true) → (other ≡ Some five → is_among fives five ≡ true)
     → or_else first other ≡ Some five → is_among fives five ≡ true

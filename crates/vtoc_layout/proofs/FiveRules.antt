@@ -18,7 +18,8 @@ use Rattle.vtoc_layout.specs.Layout.{AreDistinct, IsLinked, AreLinkedFives, Layo
 use Rattle.vtoc_layout.proofs.Distinct.{first_or_later, at_first, in_later, in_none, in_front, in_middle, not_both, filter_nothing}
 use Rattle.vtoc_layout.proofs.FiveChains.{one_chain}
 use Rattle.vtoc_layout.proofs.Links.{Precedes, second_later, first_there, has_before, precedes_split, leads_on, leads_to_next, last_ends}
-use Rattle.vtoc_layout.proofs.Uses.{itself, among, same_record, five_there, five_format, distinct_fives, same_fives}
+use Rattle.volume_model.proofs.Numbers.{place_itself}
+use Rattle.vtoc_layout.proofs.Uses.{among, same_record, five_there, five_format, distinct_fives, same_fives}
 
 -- the first that a test keeps is the only one that it keeps
 only_first : (test : Placed → Bool) (xs : List Placed) (x : Placed) → Contains xs x → test x ≡ true → ((y : Placed) → Contains xs y → test y ≡ true → y ≡ x) → first_of (filter test xs) ≡ Some x
@@ -90,7 +91,7 @@ module _ (vtoc : Vtoc) (layout : Layout) (sized : IsSized vtoc) (is : IsLayoutOf
         by (inr later) =
             let before = has_before first more placed later in
             let named : named_by vtoc before.0 ≡ Some placed = leads_on vtoc.heads records first more before.0 placed linked before.1 in
-            let test : names_it placed before.0 ≡ true = ap (λ (x : Option Placed). same_target x (Some placed)) named ∙ itself placed in
+            let test : names_it placed before.0 ≡ true = ap (λ (x : Option Placed). same_target x (Some placed)) named ∙ place_itself placed.place in
             let some : list_any (names_it placed) (fives_of vtoc) ≡ true = passes_any (names_it placed) (fives_of vtoc) before.0 (kept before.0 (first_there (first ∷ more) before.0 placed before.1)) test in
             absurd (both_ways (unnamed placed) (ap not some) e)
 

@@ -12,7 +12,8 @@ use Rattle.volume_model.specs.Check.{breach, records_of, same_bytes, bad_tracks,
 use Rattle.vtoc_check.specs.Sized.{IsSized}
 use Rattle.vtoc_layout.specs.Layout.{Layout, IsLayoutOf, name_of}
 use Rattle.vtoc_layout.proofs.Distinct.{filter_nothing, from_map, one_of_map, no_later_ones}
-use Rattle.vtoc_layout.proofs.Uses.{itself, one_of, is_four, none_broken, ones, distinct_f1s, same_ones}
+use Rattle.volume_model.proofs.Numbers.{place_itself}
+use Rattle.vtoc_layout.proofs.Uses.{one_of, is_four, none_broken, ones, distinct_f1s, same_ones}
 use Rattle.volume_model.proofs.Numbers.{bytes_equal}
 
 pub no_bad_tracks : (track : ℕ) (tracks : List (Option (List (List ℕ)))) → All (λ dscbs. dscbs ≢ None) tracks → bad_tracks track tracks ≡ []
@@ -28,7 +29,7 @@ module _ (vtoc : Vtoc) (layout : Layout) (sized : IsSized vtoc) (is : IsLayoutOf
       by false e = refl
       by true e =
           let at : placed.place ≡ vtoc.format_4 = ap (λ (p : Placed). p.place) (is_four vtoc layout sized is placed c e) ∙ is.four_at in
-          ap not (ap (λ (place : Place). same_place placed.place place) (sym at) ∙ itself placed)
+          ap not (ap (λ (place : Place). same_place placed.place place) (sym at) ∙ place_itself placed.place)
 
   pub no_bad_dscbs : bad_dscbs vtoc ≡ []
   no_bad_dscbs =

@@ -1,8 +1,8 @@
 -- What each record of a VTOC is used for.
-use Rattle.std.proofs.Common.{◌≡◌, ◌⊎◌, ℕ, zero, suc, ◌+◌, ◌*◌, ◌<◌, List, [], ◌∷◌, ◌++◌, length, map, filter, get_or, Bool, true, false, Contains, refl, sym, ap, subst, ◌∙◌, arith, inl, inr}
-use Rattle.std.specs.Prelude.{◌&&◌}
+use Rattle.std.proofs.Common.{◌≡◌, ◌⊎◌, ℕ, ◌+◌, ◌*◌, List, [], ◌∷◌, ◌++◌, map, filter, get_or, Bool, true, false, Contains, refl, sym, ap, subst, ◌∙◌, arith, inl, inr}
 use Rattle.std.specs.List.{flat_map}
-use Rattle.std.proofs.lemmas.Bool.{both_ways, eq-eqb}
+use Rattle.std.proofs.lemmas.List.{get_or_default}
+use Rattle.std.proofs.lemmas.Bool.{both_ways}
 use Rattle.std.proofs.lemmas.List.Elements.{All-contains, Contains-append_cases}
 use Rattle.volume_model.specs.declared.format.Format.{Format}
 use Rattle.volume_model.specs.declared.format.Format.TheVariants.{Free, F1, F3, F4, F5}
@@ -15,6 +15,7 @@ use Rattle.vtoc_check.specs.Places.{number_of, IsAscending, blank}
 use Rattle.vtoc_check.specs.Reach.{record_in}
 use Rattle.vtoc_check.specs.Sized.{IsSized}
 use Rattle.vtoc_check.proofs.Order.{ascending, above, in_order_from}
+use Rattle.volume_model.proofs.Numbers.{place_itself}
 use Rattle.vtoc_check.proofs.Marks.{any_passes, passes_any, same_number, one_index}
 use Rattle.vtoc_layout.specs.Layout.{AreDistinct, SetRecords, Layout, AreSetRecords, IsLayoutOf, records_in_set, records_used}
 use Rattle.vtoc_layout.proofs.Distinct.{first_or_later, at_first, in_later, in_front, in_back, distinct_front, distinct_back, distinct_filter, in_filter, from_filter, from_flat, in_flat, from_map, HaveSame}
@@ -36,19 +37,11 @@ one_record from records up a b p q e =
     let k : p.0 ≡ q.0 = one_index records (in_order_from from records up) p.0 q.0 p.1 q.1 numbers in
     sym at_a ∙ ap (λ (n : ℕ). get_or records n blank) k ∙ at_b
   where
-    any_default : (xs : List Placed) (k : ℕ) (d e : Placed) → k < length xs → get_or xs k d ≡ get_or xs k e
-    any_default [] k d e lt = absurd (omega (arith, lt))
-    any_default (x ∷ xs) zero d e lt = refl
-    any_default (x ∷ xs) (suc k) d e lt = any_default xs k d e (omega (arith, lt))
-
     at : {x : Placed} → (c : Contains records x) → get_or records c.0 blank ≡ x
-    at {x} c = any_default records c.0 blank x c.1 ∙ c.2
-
-pub itself : (placed : Placed) → same_place placed.place placed.place ≡ true
-itself placed = (λ i. eq-eqb placed.place.track placed.place.track refl i && eq-eqb placed.place.record_number placed.place.record_number refl i)
+    at {x} c = get_or_default records c.0 blank x c.1 ∙ c.2
 
 pub among : (placeds : List Placed) (placed : Placed) → Contains placeds placed → is_among placeds placed ≡ true
-among placeds placed c = passes_any (λ other. same_place other.place placed.place) placeds placed c (itself placed)
+among placeds placed c = passes_any (λ other. same_place other.place placed.place) placeds placed c (place_itself placed.place)
 
 -- ---- the parts of the records of data sets
 

@@ -4,7 +4,7 @@ use Rattle.std.specs.Prelude.{◌&&◌, ◌||◌, not, nat_lt}
 use Rattle.std.specs.Option.{is_some}
 use Rattle.std.specs.List.{flat_map, list_any}
 use Rattle.std.proofs.lemmas.Bool.{cases_order}
-use Rattle.std.proofs.lemmas.List.{get_or-take, length-take}
+use Rattle.std.proofs.lemmas.List.{get_or-take, get_or_default, length-take}
 use Rattle.std.proofs.lemmas.List.Elements.{All-nil, All-cons, All-weaker, All-contains, Contains-get_or}
 use Rattle.ckd_image.specs.declared.track.Cchhr.{Cchhr}
 use Rattle.volume_model.specs.declared.format.Format.{Format}
@@ -24,7 +24,8 @@ use Rattle.vtoc_check.proofs.FirstFound.{later_found}
 use Rattle.vtoc_layout.specs.Layout.{AreDistinct}
 use Rattle.vtoc_layout.proofs.Distinct.{in_none, no_more, distinct_append, in_filter, from_filter, distinct_filter, from_flat}
 use Rattle.vtoc_layout.proofs.Finds.{found_passes}
-use Rattle.vtoc_layout.proofs.Uses.{distinct_records, one_record, itself}
+use Rattle.volume_model.proofs.Numbers.{place_itself}
+use Rattle.vtoc_layout.proofs.Uses.{distinct_records, one_record}
 use Rattle.vtoc_load.specs.Chained.{AreEachOnce, threes_of}
 use Rattle.ckd_image.proofs.Lists.{left_nil, right_nil, map_nil}
 
@@ -245,15 +246,10 @@ is_naming vtoc a x n e =
 pub none_related : (related : Placed → Placed → Bool) (xs : List Placed) → later_ones related xs ≡ [] → (i j : ℕ) → i < j → j < length xs → related (record_in xs j) (record_in xs i) ≡ true → ⊥
 none_related related xs none i j lt less e =
     let earlier : Contains (take j xs) (record_in xs i) =
-    (i, omega (arith, lt, less, length-take j xs), any_default (take j xs) i (record_in xs i) blank (omega (arith, lt, less, length-take j xs)) ∙ get_or-take j xs i blank lt) in
+    (i, omega (arith, lt, less, length-take j xs), get_or_default (take j xs) i (record_in xs i) blank (omega (arith, lt, less, length-take j xs)) ∙ get_or-take j xs i blank lt) in
     let any : list_any (related (record_in xs j)) (take j xs) ≡ true = passes_any (related (record_in xs j)) (take j xs) (record_in xs i) earlier e in
     let P : List Placed → Type 0 = λ found. Contains found (record_in xs j) in
     in_none (record_in xs j) (subst P none ((later_found related xs).each j less any))
-  where
-    any_default : (ys : List Placed) (k : ℕ) (d e : Placed) → k < length ys → get_or ys k d ≡ get_or ys k e
-    any_default [] k d e lt = absurd (omega (arith, lt))
-    any_default (y ∷ ys) zero d e lt = refl
-    any_default (y ∷ ys) (suc k) d e lt = any_default ys k d e (omega (arith, lt))
 
 pub one_namer : (vtoc : Vtoc) → breaches_of vtoc ≡ [] → OneNamer vtoc.heads (records_of vtoc)
 one_namer vtoc none a b x p q to_a to_b =
@@ -264,22 +260,17 @@ one_namer vtoc none a b x p q to_a to_b =
     related : Placed → Placed → Bool
     related = λ later earlier. same_target (named_by vtoc later) (named_by vtoc earlier)
 
-    any_default : (ys : List Placed) (k : ℕ) (d e : Placed) → k < length ys → get_or ys k d ≡ get_or ys k e
-    any_default [] k d e lt = absurd (omega (arith, lt))
-    any_default (y ∷ ys) zero d e lt = refl
-    any_default (y ∷ ys) (suc k) d e lt = any_default ys k d e (omega (arith, lt))
-
     both : (m n : Placed) → named_by vtoc m ≡ Some x → named_by vtoc n ≡ Some x → related m n ≡ true
-    both m n e f = (λ i. same_target (e i) (f i)) ∙ itself x
+    both m n e f = (λ i. same_target (e i) (f i)) ∙ place_itself x.place
 
     by : Contains (naming vtoc) a → Contains (naming vtoc) b → named_by vtoc a ≡ Some x → named_by vtoc b ≡ Some x → a ≡ b
     by c d e f = order (cases_order c.0 d.0)
       where
         at_a : record_in (naming vtoc) c.0 ≡ a
-        at_a = any_default (naming vtoc) c.0 blank a c.1 ∙ c.2
+        at_a = get_or_default (naming vtoc) c.0 blank a c.1 ∙ c.2
 
         at_b : record_in (naming vtoc) d.0 ≡ b
-        at_b = any_default (naming vtoc) d.0 blank b d.1 ∙ d.2
+        at_b = get_or_default (naming vtoc) d.0 blank b d.1 ∙ d.2
 
         order : ((c.0 ≡ d.0) ⊎ ((c.0 < d.0) ⊎ (d.0 < c.0))) → a ≡ b
         order (inl same) = sym at_a ∙ ap (record_in (naming vtoc)) same ∙ at_b

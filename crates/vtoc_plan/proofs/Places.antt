@@ -8,7 +8,6 @@ use Rattle.volume_model.specs.declared.place.Placed.{Placed}
 use Rattle.volume_model.specs.Directory.{same_place}
 use Rattle.vtoc_layout.specs.Layout.{AreDistinct}
 use Rattle.vtoc_layout.proofs.Distinct.{first_or_later, in_front, in_back, distinct_front, distinct_back, not_both, distinct_append, distinct_filter, in_filter, from_filter, from_map, one_of_map}
-use Rattle.vtoc_layout.proofs.FiveChains.{itself}
 use Rattle.layout_edit.specs.Change.{place_of}
 use Rattle.vtoc_allot.specs.declared.held.Held.{Held}
 use Rattle.vtoc_allot.specs.declared.held.Wanted.{Wanted}
@@ -17,6 +16,7 @@ use Rattle.vtoc_allot.specs.Allotted.{listed, one_if, is_at, held_places, kept_o
 use Rattle.vtoc_allot.proofs.Pools.{at_there, there_at, given_distinct, given_held, distinct_map_filter}
 use Rattle.vtoc_plan.proofs.Lists.{swapped, with_back, middle_there, middle_turned, six_there, six_turned, six_back}
 use Rattle.volume_model.specs.Dscbs.{is_free_record}
+use Rattle.volume_model.proofs.Numbers.{place_itself}
 use Rattle.ckd_image.proofs.Lists.{contains_map}
 
 -- ---- what a first format 5 takes
@@ -26,7 +26,7 @@ taken_distinct second false pool first rest d takes = let D : List Place → Typ
 taken_distinct second true pool first rest d (inl takes) =
     let D : List Place → Type 0 = λ xs. AreDistinct xs in
     subst D (sym (λ i. takes.1 i ++ takes.2 i))
-    ((λ c. both_ways (not (same_place second second)) (ap not (itself second)) (from_filter (λ (other : Place). not (same_place second other)) pool second c).1), distinct_filter (λ (other : Place). not (same_place second other)) pool d)
+    ((λ c. both_ways (not (same_place second second)) (ap not (place_itself second)) (from_filter (λ (other : Place). not (same_place second other)) pool second c).1), distinct_filter (λ (other : Place). not (same_place second other)) pool d)
 taken_distinct second true pool first rest d (inr takes) =
     let D : List Place → Type 0 = λ xs. AreDistinct xs in
     subst D (takes.1.2 ∙ sym (ap (λ (xs : List Place). xs ++ rest) takes.1.1)) d

@@ -11,10 +11,11 @@ use Rattle.volume_model.specs.declared.place.Vtoc.{Vtoc}
 use Rattle.volume_model.specs.Check.{records_of}
 use Rattle.volume_model.specs.Directory.{same_place}
 use Rattle.volume_model.specs.Dscbs.{format_of, is_f1}
+use Rattle.volume_model.proofs.Numbers.{place_itself}
 use Rattle.vtoc_check.specs.Sized.{IsSized}
 use Rattle.vtoc_layout.specs.Layout.{SetRecords, Layout, IsLayoutOf, AreSetRecords, records_in_set}
 use Rattle.vtoc_layout.proofs.Distinct.{first_or_later, at_first, in_later, in_front, in_back, in_none, from_map, in_flat, from_flat}
-use Rattle.vtoc_layout.proofs.FiveChains.{one_place, itself}
+use Rattle.vtoc_layout.proofs.FiveChains.{one_place}
 use Rattle.vtoc_layout.proofs.Uses.{one_of, is_one}
 use Rattle.vtoc_write.specs.Edited.{edit_of, placed_with, after_edits}
 use Rattle.vtoc_allot.specs.Allotted.{listed}
@@ -63,7 +64,7 @@ there_is None place c = absurd (in_none place c)
 there_is (Some one) place c = by (first_or_later one place [] c)
   where
     by : ((one ≡ place) ⊎ Contains [] place) → same_place one place ≡ true
-    by (inl same) = subst (λ (p : Place). same_place one p ≡ true) same (itself one)
+    by (inl same) = subst (λ (p : Place). same_place one p ≡ true) same (place_itself one)
     by (inr later) = absurd (in_none place later)
 
 no_edit : (edit : Placed) (found : Option Placed) → found ≡ Some edit → found ≡ None → ⊥

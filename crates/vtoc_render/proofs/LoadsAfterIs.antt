@@ -27,7 +27,8 @@ use Rattle.vtoc_render.specs.Next.{MayChange}
 use Rattle.vtoc_render.specs.Steps.{IsAimOf, wanted_for}
 use Rattle.vtoc_render.specs.Written.{IsWritten, second_of}
 use Rattle.vtoc_render.proofs.Known.{rows_named}
-use Rattle.vtoc_render.proofs.LoadsPlan.{parts_with, length_parts, so_many_fives}
+use Rattle.vtoc_render.proofs.LoadsPlan.{parts_with, length_parts}
+use Rattle.vtoc_render.proofs.PutPlaces.{so_many_fives}
 use Rattle.vtoc_render.proofs.NextRows.{named_after}
 use Rattle.vtoc_render.proofs.NextVolume.{put_named, put_written}
 

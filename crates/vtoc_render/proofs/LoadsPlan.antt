@@ -1,8 +1,7 @@
 -- A change that was written is a planned one.
-use Rattle.std.proofs.Common.{◌≡◌, ◌≢◌, ℕ, zero, suc, ◌≤◌, nat_lt, List, [], ◌∷◌, ◌++◌, length, map, take, drop, filter, All, Contains, Bool, Option, Some, None, IfSome, refl, sym, ap, subst, ◌∙◌, arith, length-append}
+use Rattle.std.proofs.Common.{◌≡◌, ◌≢◌, ℕ, zero, suc, ◌≤◌, nat_lt, List, [], ◌∷◌, ◌++◌, length, map, take, drop, filter, All, Contains, Bool, Option, Some, None, IfSome, refl, sym, ap, subst, ◌∙◌, arith}
 use Rattle.std.specs.Prelude.{option_to_list, is_some, find}
 use Rattle.std.specs.List.{flat_map}
-use Rattle.std.proofs.lemmas.List.{length-take}
 use Rattle.std.proofs.lemmas.List.Elements.{All-nil, All-cons}
 use Rattle.ckd_image.specs.declared.head.Head.{Head}
 use Rattle.ckd_image.specs.declared.track.Cchhr.{Cchhr}
@@ -27,7 +26,6 @@ use Rattle.vtoc_layout.proofs.Distinct.{among_others, distinct_others, one_of_ma
 use Rattle.vtoc_layout.specs.Layout.{SetRecords, AreDistinct, name_of, sets_of, records_in_set}
 use Rattle.layout_edit.specs.Change.{place_of, zeroed, LayoutChange, edits_of}
 use Rattle.vtoc_allot.specs.declared.held.Held.{Held}
-use Rattle.vtoc_allot.specs.declared.held.Wanted.{Wanted}
 use Rattle.vtoc_allot.specs.declared.places.Allotment.{Allotment}
 use Rattle.vtoc_allot.specs.Allotted.{listed, IsAllotted}
 use Rattle.dscb_made.specs.Made.{IsFormat1With, IsFormat3With, IsStatedFormat4}
@@ -49,6 +47,7 @@ use Rattle.vtoc_render.proofs.Holds.{named_split, one_gone}
 use Rattle.vtoc_render.proofs.May.{IsFit, put_fits}
 use Rattle.vtoc_layout.proofs.Finds.{found_passes, none_passes}
 use Rattle.vtoc_render.proofs.NextVolume.{put_named}
+use Rattle.vtoc_render.proofs.PutPlaces.{so_many_fives}
 use Rattle.volume_model.proofs.Numbers.{bytes_itself, bytes_equal}
 use Rattle.layout_edit.proofs.Changes.{distinct_of_map}
 use Rattle.vtoc_layout.proofs.Apart.{all_from}
@@ -78,17 +77,6 @@ edits_same four fives set allotment = ap (λ (records : List Placed). four ∷ (
 pub length_parts : (count : ℕ) (entries : List Entry5) → length (parts_of count entries) ≡ count
 length_parts zero entries = refl
 length_parts (suc count) entries = ap suc (length_parts count (drop 26 entries))
-
-pub so_many_fives : (records : List Placed) (second : Place) (held : Held) (wanted : Wanted) (allotment : Allotment) → IsAllotted records second held wanted allotment → length allotment.fives ≡ wanted.fives
-so_many_fives records second held wanted allotment is =
-    omega (
-      arith,
-      ap length is.fives_are,
-      length-append (take wanted.fives held.fives) (listed is.first ++ is.fives),
-      length-append (listed is.first) is.fives,
-      length-take wanted.fives held.fives,
-      is.parts.so_many_fives,
-    )
 
 one_of_put : (put : Option Row) → length (putting_of put) ≤ 1
 one_of_put None = omega arith

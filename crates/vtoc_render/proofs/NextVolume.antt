@@ -1,5 +1,6 @@
 -- The volume after a change that was written, and what a refusal says.
 use Rattle.std.proofs.Common.{◌≡◌, ◌≢◌, ℕ, ◌+◌, List, length, take, false, Option, Some, None, IfSome, refl, sym, ap, subst, ◌∙◌, arith}
+use Rattle.std.proofs.lemmas.Option.{same_Some}
 use Rattle.std.specs.Prelude.{option_to_list, Result, Ok, Err, IfOk, IfErr}
 use Rattle.free_map.specs.declared.run.Run.{Run}
 use Rattle.free_map.specs.Free.{Free}
@@ -41,13 +42,10 @@ put_written heads None allotment set row named set_is row_is = subst (λ (row : 
 put_written heads (Some given) allotment set row named set_is row_is =
     let put = row_is.1 in
     let is : IsRowPut given put = row_is.4 in
-    let same : set_is.1 ≡ row_is.0 = one (sym set_is.3 ∙ row_is.2) in
+    let same : set_is.1 ≡ row_is.0 = same_Some set_is.1 row_is.0 (sym set_is.3 ∙ row_is.2) in
     let bytes : set_is.1.one.bytes ≡ put.f1 = ap (λ (set : SetWritten). set.one.bytes) same ∙ sym row_is.5 in
     subst (λ (row : Option Row). IsPutAs (Some given) row) (sym row_is.3)
     (is, is.name_is ∙ named ∙ sym set_is.4.one_is.name ∙ ap (take 44) bytes)
-  where
-    one : {a b : SetWritten} → Some a ≡ Some b → a ≡ b
-    one e = cc
 
 -- a row that would stand, were there room
 abbrev pub row_for : Option Row → Option Row

@@ -1,5 +1,6 @@
 -- What is put takes tracks that it may, and the volume afterwards is that of its layout.
 use Rattle.std.proofs.Common.{◌≡◌, ℕ, List, [], ◌∷◌, ◌++◌, length, map, take, Bool, Option, Some, None, refl, sym, ap, subst, ◌∙◌, arith, length-append}
+use Rattle.std.proofs.lemmas.Option.{same_Some}
 use Rattle.std.specs.List.{flat_map}
 use Rattle.std.specs.Prelude.{option_to_list}
 use Rattle.std.proofs.lemmas.List.{length-take}
@@ -72,7 +73,7 @@ put_pair heads (Some given) allotment set row set_is row_is long extents =
     let put = row_is.1 in
     let is : IsRowPut given put = row_is.4 in
     let records : SetRecords = record { one = written.one; threes = listed written.three } in
-    let same : set_is.1 ≡ written = one (sym set_is.3 ∙ row_is.2) in
+    let same : set_is.1 ≡ written = same_Some set_is.1 written (sym set_is.3 ∙ row_is.2) in
     let of_set : flat_map extents_in_set (records ∷ []) ≡ map field_of given.extents ++ [] =
     subst (λ (set : Option SetWritten). flat_map extents_in_set (sets_put set) ≡ map field_of given.extents ++ []) row_is.2 extents in
     let extents_are : extents_in_set records ≡ map field_of put.extents =
@@ -81,9 +82,6 @@ put_pair heads (Some given) allotment set row set_is row_is long extents =
     sym (ap (λ (set : SetWritten). length (listed set.three)) same) ∙ three_same given.extents allotment.three set_is.1.three set_is.4.three_is ∙ long ∙ sym is.threes_are in
     subst (λ (row : Option Row). ArePair row (sets_put set)) (sym row_is.3)
     (records, ap sets_put row_is.2, λ i. record { format_1 = sym row_is.5 i; extents = extents_are i; threes = threes_are i })
-  where
-    one : {a b : SetWritten} → Some a ≡ Some b → a ≡ b
-    one e = cc
 
 module _ {head : Head} {label : Label} {unit : Slots} {before : Bool} {slots : List ℕ} {volume : Volume} {vtoc : Vtoc} {four : Placed}
     (was : WasLoaded head label unit before slots volume vtoc four) where

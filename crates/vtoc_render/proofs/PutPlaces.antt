@@ -1,5 +1,6 @@
 -- The places of a VTOC's records, and those that a change allots.
-use Rattle.std.proofs.Common.{◌≡◌, ℕ, zero, suc, ◌+◌, ◌-◌, ◌*◌, ◌<◌, ◌≤◌, List, [], ◌∷◌, ◌++◌, length, map, take, not, true, refl, All, Contains, Option, Some, None, IfSome, ap, subst, arith, length-append}
+use Rattle.std.proofs.Common.{◌≡◌, ℕ, ◌+◌, ◌-◌, ◌*◌, ◌<◌, ◌≤◌, List, [], ◌∷◌, ◌++◌, length, map, take, not, true, refl, All, Contains, Option, Some, None, IfSome, ap, subst, arith, length-append}
+use Rattle.std.proofs.lemmas.List.{length-take}
 use Rattle.std.proofs.lemmas.List.Elements.{All-nil, All-cons, All-head, All-tail, All-append, All-weaker, All-contains}
 use Rattle.std.proofs.lemmas.List.Filters.{length-filter_both}
 use Rattle.volume_model.specs.declared.place.Place.{Place}
@@ -74,11 +75,6 @@ few_fives runs few = omega (arith, few)
 
 -- ---- what is allotted
 
-taken : (count : ℕ) (xs : List Place) → length (take count xs) + (count - length xs) ≡ count
-taken zero xs = omega arith
-taken (suc count) [] = omega arith
-taken (suc count) (x ∷ xs) = omega (arith, taken count xs)
-
 pub so_many_fives : (records : List Placed) (second : Place) (held : Held) (wanted : Wanted) (allotment : Allotment) → IsAllotted records second held wanted allotment → length allotment.fives ≡ wanted.fives
 so_many_fives records second held wanted allotment is =
     omega (
@@ -86,8 +82,8 @@ so_many_fives records second held wanted allotment is =
       ap length is.fives_are,
       length-append (take wanted.fives held.fives) (listed is.first ++ is.fives),
       length-append (listed is.first) is.fives,
+      length-take wanted.fives held.fives,
       is.parts.so_many_fives,
-      taken wanted.fives held.fives,
     )
 
 module _ (records : List Placed) (second : Place) (held : Held) (wanted : Wanted) (allotment : Allotment) (is : IsHeld records held) (apart : AreDistinct (map place_of records))

@@ -1,15 +1,9 @@
-use Rattle.std.proofs.Common.{◌≡◌, ℕ, ◌+◌, ◌-◌, ◌*◌, take, drop, refl, sym, ap, ◌∙◌, arith}
-use Rattle.ckd_image.specs.declared.device.Device.{Device}
-use Rattle.ckd_image.specs.declared.device.Device.TheVariants.{D3390, D3380}
-use Rattle.ckd_image.specs.declared.track.TrackAt.{TrackAt}
+use Rattle.std.proofs.Common.{◌≡◌, ℕ, ◌+◌, ◌-◌, ◌*◌, take, drop, sym, ap, ◌∙◌, arith}
 use Rattle.ckd_image.specs.Device.{heads_of, slot_of}
 use Rattle.volume_model.specs.Space.{track_at}
+use Rattle.volume_model.proofs.Addresses.{track_is}
 use Rattle.vtoc_check.specs.Slots.{slot_in}
 use Rattle.bench_vtoc.proofs.loaded.Goals as goal
-
-track_is : (device : Device) (at : TrackAt) → at.cylinder * 15 + at.head ≡ track_at (heads_of device) at
-track_is D3390 at = refl
-track_is D3380 at = refl
 
 first : (n size : ℕ) → (n - n) * size ≡ 0
 first n size = let zero : n - n ≡ 0 = omega arith in ap (λ (m : ℕ). m * size) zero ∙ nothing size

@@ -9,7 +9,8 @@ use Rattle.vtoc_check.specs.Slots.{AreSlotsOf}
 use Rattle.vtoc_load.specs.LoadedVtoc.{IsLoadedVtoc}
 use Rattle.unit_load.proofs.Keeping.{read_slots, run_stands, slots_of_vtoc, from_slots}
 use Rattle.unit_load.proofs.Reading.{reads_then}
-use Rattle.unit_load.proofs.Runs.{track_is, said_slot, run_blocks}
+use Rattle.unit_load.proofs.Runs.{said_slot, run_blocks}
+use Rattle.volume_model.proofs.Addresses.{track_is}
 use Rattle.unit_load.proofs.load.volume_of.Goals as goal
 
 pub returns-in_err-run-clause-stop : goal.returns-in_err-run-clause-stop

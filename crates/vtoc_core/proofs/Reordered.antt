@@ -1,3 +1,0 @@
--- Names that are the same bytes.
-
--- ---- the same bytes, as a test
