@@ -12,7 +12,7 @@ use Rattle.move_core.specs.Facts.{Facts}
 use Rattle.move_core.specs.Stands.{Means, Stands, IsSettled}
 use Rattle.move_core.specs.Resuming.{new_reading}
 
-pub formatted_settled : (facts : Facts) (old new : State) (units : List UnitModel) → MayFormat facts.shape old.contents facts.names → IsFormatted facts.shape old facts.names facts.room new
+pub formatted_settled : (facts : Facts) (old new : State) (units : List UnitModel) → MayFormat facts.shape old.contents facts.names facts.room → IsFormatted facts.shape old facts.names facts.room new
     → Means facts.shape (new_reading old.contents facts.names facts.room) units → IsSettled facts new units
 formatted_settled facts old new units allowed formatted means = record {
   stands = record {

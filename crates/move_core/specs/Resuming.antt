@@ -17,7 +17,7 @@ new_reading volumes names room = record { volumes = volumes; names = names; room
 -- A pool whose journal was made stands for what its volumes mean, and is settled.
 abbrev pub FormattedIsSettled : Type 0
 FormattedIsSettled =
-    (facts : Facts) (old new : State) (units : List UnitModel) → MayFormat facts.shape old.contents facts.names → IsFormatted facts.shape old facts.names facts.room new
+    (facts : Facts) (old new : State) (units : List UnitModel) → MayFormat facts.shape old.contents facts.names facts.room → IsFormatted facts.shape old facts.names facts.room new
     → Means facts.shape (new_reading old.contents facts.names facts.room) units → IsSettled facts new units
 
 -- What a stop left is settled when it is handed in again: all of it is synced then.

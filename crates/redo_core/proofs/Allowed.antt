@@ -1,4 +1,4 @@
--- An opening against which nothing stands.
+-- An opening, and a making, against which nothing stands.
 use Rattle.std.proofs.Common.{◌≡◌, ◌⊎◌, ⊎_elim, inl, inr, ℕ, List, Some, refl, sym, subst, ◌∙◌, arith}
 use Rattle.std.specs.Prelude.{slice_get}
 use Rattle.dasd_pool.specs.Disk.{Image, Shape}
@@ -8,7 +8,7 @@ use Rattle.redo_core.specs.declared.fault.JournalFault.TheVariants.{Pool, BadJou
 use Rattle.redo_core.specs.declared.fault.JournalRule.{JournalRule}
 use Rattle.redo_core.specs.declared.fault.JournalRule.TheVariants as rules
 use Rattle.redo_core.specs.Reading.{Reading, Obeys, HasBody}
-use Rattle.redo_core.specs.Faults.{zeroed, IsFirstBroken, IsBusy, IsOpenFault, MayOpen}
+use Rattle.redo_core.specs.Faults.{zeroed, IsFirstBroken, IsBusy, IsFormatFault, IsOpenFault, MayFormat, MayOpen}
 use Rattle.redo_core.proofs.Closed.{same_busy}
 
 -- two readings of one image
@@ -51,3 +51,13 @@ only_faults shape image names (WrongUnit unit kept found) may is =
     other.other (no_others found kept (sym other.found_is ∙ there)))
     (λ labelled. labelled.1.other (no_others found kept (sym (may.labels unit found labelled.1.within labelled.1.found_is) ∙ labelled.1.kept_is)))
     is.3)
+
+-- of making one
+pub only_faults_making : (shape : Shape) (image : Image) (names : List Serial) (room : ℕ) (fault : JournalFault) → MayFormat shape image names room → IsFormatFault shape image names room fault
+    → (fault ≡ Pool) ⊎ (fault ≡ NoMemory)
+only_faults_making shape image names room Pool may is = inl refl
+only_faults_making shape image names room NoMemory may is = inr refl
+only_faults_making shape image names room (BadJournal why) may is = absurd (⊎_elim (λ head. head.1 may.head) (λ used. may.unused used.2) is)
+only_faults_making shape image names room (JournalSmall need have) may is = absurd (omega (arith, may.long, is.3, is.4, is.5))
+only_faults_making shape image names room (WrongUnit unit kept found) may is =
+    absurd (is.2.other (no_others found kept (sym (may.labels unit found is.2.within is.2.found_is) ∙ is.2.kept_is)))

@@ -10,17 +10,17 @@ use Rattle.redo_core.specs.declared.entries.Entry.{Entry}
 use Rattle.redo_core.specs.Format.{is_open}
 use Rattle.redo_core.specs.Reading.{among, placed}
 use Rattle.redo_core.specs.Phases.{targets, of_commit}
-use Rattle.redo_core.specs.Steps.{HoldsEither, IsShut, IsDone, HasEntries, IsMove, of_body}
+use Rattle.redo_core.specs.Steps.{HoldsEither, IsShut, IsDone, HasEntries, IsPlaced, of_body}
 use Rattle.redo_core.proofs.Crash.{not_place, other_block, not_gate, not_gate_block, not_body, low_not_body, body_same, placed_agree, staging_crash, opening_crash, placing_crash, closing_crash, IsReady}
 
 -- no entry is a block of the journal, apart from the control
-unlisted_by : (shape : Shape) (journal : ℕ) (entries : List Entry) → AllByRecursion (IsMove shape journal) entries → (b : ℕ) → (b ≡ 2 → ⊥) → among (targets entries) journal b ≡ false
+unlisted_by : (shape : Shape) (journal : ℕ) (entries : List Entry) → AllByRecursion (IsPlaced shape journal) entries → (b : ℕ) → (b ≡ 2 → ⊥) → among (targets entries) journal b ≡ false
 unlisted_by shape journal [] all b other = refl
 unlisted_by shape journal (entry ∷ entries) all b other =
     ap (λ (t : Bool). t || among (targets entries) journal b) (not_place journal entry.unit entry.block b all.0.place other) ∙ unlisted_by shape journal entries all.1 b other
 
-pub unlisted : (shape : Shape) (journal : ℕ) (entries : List Entry) → All (IsMove shape journal) entries → (b : ℕ) → (b ≡ 2 → ⊥) → among (targets entries) journal b ≡ false
-unlisted shape journal entries all = unlisted_by shape journal entries (recursion_from_All (IsMove shape journal) entries all)
+pub unlisted : (shape : Shape) (journal : ℕ) (entries : List Entry) → All (IsPlaced shape journal) entries → (b : ℕ) → (b ≡ 2 → ⊥) → among (targets entries) journal b ≡ false
+unlisted shape journal entries all = unlisted_by shape journal entries (recursion_from_All (IsPlaced shape journal) entries all)
 
 module _ (size : ℕ → ℕ) (journal : ℕ) (entries : List Entry) where
   abbrev Outcome : State → Image → Type 0

@@ -13,10 +13,10 @@ pub err_weaker : {T : Type 0} (P Q : JournalFault → Type 0) → ((f : JournalF
 err_weaker P Q implies (Ok t) h = h
 err_weaker P Q implies (Err f) h = implies f h
 
--- what holds whatever the answer
-pub ok_always : {T : Type 0} (X : Type 0) (r : Result T JournalFault) → X → OnOk r X
-ok_always X (Ok t) x = x
-ok_always X (Err f) x = tt
+-- what follows from what holds at Ok
+pub ok_weaker : {T : Type 0} (X Y : Type 0) (r : Result T JournalFault) → (X → Y) → OnOk r X → OnOk r Y
+ok_weaker X Y (Ok t) implies h = implies h
+ok_weaker X Y (Err f) implies h = tt
 
 -- a broken rule
 pub breaks_rule : (shape : Shape) (image : Image) (rule : JournalRule) (broken : Type 0) → (broken → IsFirstBroken shape image rule) → (f : JournalFault) → Breaks rule broken f → IsRuleFault shape image f

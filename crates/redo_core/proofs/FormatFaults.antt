@@ -1,5 +1,5 @@
 -- The refusals of a format, in their order.
-use Rattle.std.proofs.Common.{◌≡◌, ℕ, ◌+◌, List, sym, subst, arith}
+use Rattle.std.proofs.Common.{◌≡◌, ◌≤◌, ℕ, ◌+◌, List, sym, subst, arith}
 use Rattle.dasd_pool.specs.Disk.{Image, Shape, State}
 use Rattle.vol_label.specs.declared.serial.Serial.{Serial}
 use Rattle.redo_core.specs.declared.fault.JournalFault.{JournalFault}
@@ -43,3 +43,7 @@ labels_are_at shape other state was names journal one_shape one_state unit h =
 pub short_at : (shape other : Shape) (need journal : ℕ) (f : JournalFault) → other ≡ shape → journal_of shape ≡ journal → IsShort need (other.blocks journal) f → IsShort need (shape.blocks (journal_of shape)) f
 short_at shape other need journal f one_shape unit h =
     subst (λ (j : ℕ). IsShort need (shape.blocks j) f) (sym unit) (subst (λ (x : Shape). IsShort need (x.blocks journal) f) one_shape h)
+
+pub long_at : (shape other : Shape) (need journal : ℕ) → other ≡ shape → journal_of shape ≡ journal → need ≤ other.blocks journal → need ≤ shape.blocks (journal_of shape)
+long_at shape other need journal one_shape unit h =
+    subst (λ (j : ℕ). need ≤ shape.blocks j) (sym unit) (subst (λ (x : Shape). need ≤ x.blocks journal) one_shape h)

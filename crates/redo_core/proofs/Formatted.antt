@@ -46,6 +46,7 @@ pub is_formatted : (shape : Shape) (journal : ℕ) (names : List Serial) (room :
     → IsSynced new.state → Runs (of_journal journal) old new → IsFormatted shape old.state names room new.state
 is_formatted shape journal names room rest old new unit head are least most long registration gate control all run = record {
   all = all;
+  closed = ap (λ (j : ℕ). is_open (new.state.contents j 1)) unit ∙ ap is_open gate;
   reads = reads_as shape names room new.state.contents rest head are least most (subst (λ (j : ℕ). 4 + room ≤ shape.blocks j) (sym unit) long)
       (ap (λ (j : ℕ). new.state.contents j 0) unit ∙ registration) (ap (λ (j : ℕ). new.state.contents j 1) unit ∙ gate) (ap (λ (j : ℕ). new.state.contents j 2) unit ∙ control)
       old.state.contents (λ u b less. run.touches.contents u b (ne_eqb u journal (λ same. omega (arith, same, less, unit))));

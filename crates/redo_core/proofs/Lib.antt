@@ -5,16 +5,17 @@ pub mod Directory
 pub mod CommitMoments
 pub mod Controls
 pub mod Readings
-pub mod ControlTexts
+mod ControlTexts
 pub mod Redoing
 mod Surveying
 mod Faulting
-pub mod Heads
+mod Heads
 pub mod Openings
 pub mod Closed
 mod Refusals
 mod Samples
 mod Formatting
 mod Formatted
+mod Making
 mod FormatFaults
 pub mod Allowed

@@ -12,7 +12,7 @@ use Rattle.redo_core.specs.Format.{is_open, control_in, is_filling, room_in, dir
 use Rattle.redo_core.specs.Reading.{journal_of, is_place, placed, overlay, control_block, fills_of, Reading, Reads, IsRegistration, IsControl, IsTarget, IsDirectory}
 use Rattle.redo_core.specs.Phases.{targets, of_commit, IsEntry, ReadsNew, OldOrNew, IsCommitted, IsAtRest, IsStatusAfter}
 use Rattle.redo_core.specs.Opening.{IsSure, ReadsSame}
-use Rattle.redo_core.specs.Steps.{HoldsOld, HoldsNew, HoldsEither, IsShut, IsDone, IsMove}
+use Rattle.redo_core.specs.Steps.{HoldsOld, HoldsNew, HoldsEither, IsShut, IsDone, IsPlaced}
 use Rattle.redo_core.proofs.Crash.{closed_overlay, placed_agree, other_unit}
 use Rattle.redo_core.proofs.Transitions.{length-targets}
 use Rattle.redo_core.proofs.CommitMoments.{each_image}
@@ -28,8 +28,8 @@ module _ (shape : Shape) where
   pub place_control : is_place (journal_of shape) (journal_of shape) 2 ≡ true
   place_control = or_right (nat_lt journal journal) (is_at journal 2 journal 2) (and_from (journal == journal) (2 == 2) (eq-eqb journal journal refl) refl)
 
-  pub moves : (entries : List Entry) → All (IsEntry shape) entries → All (IsMove shape (journal_of shape)) entries
-  moves entries each = All-weaker (IsEntry shape) (IsMove shape journal) (λ entry is. record { place = is.place; there = is.there; slot = is.slot }) entries each
+  pub all_placed : (entries : List Entry) → All (IsEntry shape) entries → All (IsPlaced shape (journal_of shape)) entries
+  all_placed entries each = All-weaker (IsEntry shape) (IsPlaced shape journal) (λ entry is. record { place = is.place; there = is.there; slot = is.slot }) entries each
 
   targets_there : (entries : List Entry) → All (IsEntry shape) entries → All (IsTarget shape journal) (targets entries)
   targets_there entries each =
@@ -156,8 +156,8 @@ module _ (shape : Shape) (unit : ℕ) (last : unit + 1 ≡ shape.units) (entries
   last_unit : journal_of shape ≡ unit
   last_unit = omega (arith, last)
 
-  pub moves_at : All (IsMove shape unit) entries
-  moves_at = subst (λ (j : ℕ). All (IsMove shape j) entries) last_unit (moves shape entries each)
+  pub all_placed_at : All (IsPlaced shape unit) entries
+  all_placed_at = subst (λ (j : ℕ). All (IsPlaced shape j) entries) last_unit (all_placed shape entries each)
 
   either_at : (old : State) → IsShut unit old → length entries ≤ room_in (old.contents unit 0) → (image : Image) → HoldsEither shape.block_size unit old entries image → OldOrNew shape old entries image
   either_at old = subst (λ (j : ℕ). IsShut j old → length entries ≤ room_in (old.contents j 0) → (image : Image) → HoldsEither shape.block_size j old entries image → OldOrNew shape old entries image) last_unit

@@ -157,10 +157,13 @@ pub record IsInUse (shape : Shape) (image : Image) : Type 0 where
   pub «open» : (is_open (image (journal_of shape) 1) ≡ true) ⊎ ((is_open (image (journal_of shape) 2) ≡ true)
       ⊎ ((u : ℕ) × (u < 64) × (is_filling (image (journal_of shape) 2) u ≡ true)))
 
--- Nothing stands against making a journal: none is in use, and each label that reads has its name.
-pub record MayFormat (shape : Shape) (image : Image) (names : List Serial) : Type 0 where
+-- Nothing stands against making a journal of this room: the head is that of a journal, none is in use, each label that reads has its name, and
+-- the blocks suffice.
+pub record MayFormat (shape : Shape) (image : Image) (names : List Serial) (room : ℕ) : Type 0 where
+  pub head : HasHead shape
   pub unused : ¬ IsInUse shape (zeroed shape image)
   pub labels : LabelsAre shape image names (journal_of shape)
+  pub long : 4 + room ≤ shape.blocks (journal_of shape)
 
 -- Why a format refuses: the head, a journal in use, the labels, and then the length.
 abbrev pub IsFormatFault : Shape → Image → List Serial → ℕ → JournalFault → Type 0

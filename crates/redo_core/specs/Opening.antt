@@ -1,12 +1,12 @@
 -- What an opening keeps, and what a format makes.
-use Rattle.std.specs.Prelude.{◌≡◌, ◌≢◌, ◌<◌, ◌≤◌, ◌⊎◌, ℕ, List, length, All, AllPairs, Bool, true, false, ◌&&◌, ◌||◌}
-use Rattle.dasd_pool.specs.Disk.{Image, Shape, State, IsSynced, is_at}
+use Rattle.std.specs.Prelude.{◌≡◌, ◌≢◌, ◌<◌, ◌≤◌, ◌⊎◌, ℕ, List, length, replicate, All, AllPairs, Bool, true, false, ◌&&◌, ◌||◌}
+use Rattle.dasd_pool.specs.Disk.{Image, Shape, State, IsSynced, Spares, is_at}
 use Rattle.vol_label.specs.declared.serial.Serial.{Serial}
 use Rattle.vol_label.specs.Serial.{IsSerial}
 use Rattle.redo_core.specs.declared.control.Control.{Control}
 use Rattle.redo_core.specs.declared.target.Target.{Target}
 use Rattle.redo_core.specs.declared.control.Control.TheVariants.{Idle}
-use Rattle.redo_core.specs.Format.{is_open, directory_in}
+use Rattle.redo_core.specs.Format.{wide, is_open, directory_in}
 use Rattle.redo_core.specs.Reading.{journal_of, among, fills_of, Reading, Reads}
 
 -- names for the volumes of a pool: from 1 to 64 serials, which differ
@@ -52,7 +52,16 @@ pub record IsOpened (shape : Shape) (old : State) (names : List Serial) (room : 
 abbrev pub SparesVolumes : Shape → State → Image → Type 0
 SparesVolumes shape old image = (u b : ℕ) → u < journal_of shape → old.synced u b ≡ true → image u b ≡ old.contents u b
 
--- A format ended well: the volumes are as they were, under these names, nothing is under way, and all is synced.
+-- What a stop leaves while a journal is made: what was synced is as it was, apart from the registration, or no registration stands, or gate and
+-- control say that nothing is open.
+abbrev pub MakingLeaves : Shape → State → Image → Type 0
+MakingLeaves shape old image =
+    let journal = journal_of shape in
+    Spares (is_at journal 0) old image
+    ⊎ ((image journal 0 ≡ replicate wide 0) ⊎ ((image journal 1 ≡ replicate wide 0) × (image journal 2 ≡ replicate wide 0)))
+
+-- A format ended well: the volumes are as they were, under these names, no body is open, nothing is under way, and all is synced.
 pub record IsFormatted (shape : Shape) (old : State) (names : List Serial) (room : ℕ) (new : State) : Type 0 where
   pub all : IsSynced new
+  pub closed : is_open (new.contents (journal_of shape) 1) ≡ false
   pub reads : Reads shape new.contents (record { volumes = old.contents; names = names; room = room; control = Idle; fills = λ u. false })

@@ -1,6 +1,6 @@
 -- The steps of a commit and of a redo, in terms of blocks.
-use Rattle.std.specs.Prelude.{◌<◌, ◌≡◌, ◌⊎◌, ℕ, ◌+◌, ◌≤◌, List, [], length, take, Option, Some, None, Bool, true, false, ◌==◌, ◌&&◌, nat_le}
-use Rattle.dasd_pool.specs.Disk.{Image, Shape, State, IsSynced}
+use Rattle.std.specs.Prelude.{◌<◌, ◌≡◌, ◌⊎◌, ℕ, ◌+◌, ◌≤◌, List, [], length, take, Option, Some, None, Bool, true, false, ◌==◌, ◌&&◌, ◌||◌, nat_le}
+use Rattle.dasd_pool.specs.Disk.{Image, Shape, State, IsSynced, is_at}
 use Rattle.redo_core.specs.declared.entries.Entry.{Entry}
 use Rattle.redo_core.specs.declared.target.Target.{Target}
 use Rattle.redo_core.specs.Format.{wide, is_open, directory_in}
@@ -16,7 +16,7 @@ pub record IsJournal (shape : Shape) (journal room : ℕ) : Type 0 where
   pub few : room ≤ 8191
 
 -- an entry for a place that is there
-pub record IsMove (shape : Shape) (journal : ℕ) (entry : Entry) : Type 0 where
+pub record IsPlaced (shape : Shape) (journal : ℕ) (entry : Entry) : Type 0 where
   pub place : is_place journal entry.unit entry.block ≡ true
   pub there : entry.block < shape.blocks entry.unit
   pub slot : length entry.slot ≡ shape.block_size entry.unit
@@ -24,6 +24,10 @@ pub record IsMove (shape : Shape) (journal : ℕ) (entry : Entry) : Type 0 where
 -- whether a block may be of the body
 abbrev pub of_body : ℕ → ℕ → ℕ → Bool
 of_body journal u b = (u == journal) && nat_le 3 b
+
+-- whether a block is the gate or the control
+abbrev pub of_status : ℕ → ℕ → ℕ → Bool
+of_status journal u b = is_at journal 1 u b || is_at journal 2 u b
 
 -- whether a block is of the journal
 abbrev pub of_journal : ℕ → ℕ → ℕ → Bool

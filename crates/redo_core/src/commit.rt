@@ -1,13 +1,13 @@
 //! The steps of a commit, over a pool that is lent.
 
-ghost use Rattle.std.specs.Prelude.{◌≡◌, ◌≢◌, ◌<◌, ◌≤◌, ◌+◌, ℕ, List, Bool, All, AllPairs, length, OnOk};
+ghost use Rattle.std.specs.Prelude.{◌≡◌, ◌≢◌, ◌<◌, ◌≤◌, ◌+◌, ℕ, List, [], Bool, All, AllPairs, length, OnOk};
 ghost use Rattle.dasd_pool.specs.Count.{HasCause};
-ghost use Rattle.dasd_pool.specs.Disk.{Image, IsSynced, LeavesOnly, Runs};
+ghost use Rattle.dasd_pool.specs.Disk.{Image, IsSynced, LeavesOnly, Runs, none};
 ghost use Rattle.redo_core.specs.declared.control.Control.{Control};
 ghost use Rattle.redo_core.specs.Format.{wide, room_in};
 ghost use Rattle.redo_core.specs.Reading.{journal_of, among, placed, body_for};
 ghost use Rattle.redo_core.specs.Phases.{targets, of_commit, IsEntry, IsAtRest, IsStatusAfter, OldOrNew, IsCommitted};
-ghost use Rattle.redo_core.specs.Steps.{of_body, IsJournal, IsMove, IsShut, HasEntries, HoldsEither, IsDone};
+ghost use Rattle.redo_core.specs.Steps.{of_body, IsJournal, IsPlaced, IsShut, HasEntries, HoldsEither, IsDone};
 
 use crate::blocks::{put_block, put_directory, set_gate};
 use crate::entries::Entry;
@@ -22,7 +22,7 @@ fn stage<P: Pool>(
 ) -> Result<(), PoolFault>
     requires journal { IsJournal (P.shape pool.old) journal (length entries.now) }
     requires size { length buffer.old ≡ wide }
-    requires entries { All (IsMove (P.shape pool.old) journal) entries.now }
+    requires entries { All (IsPlaced (P.shape pool.old) journal) entries.now }
     ensures shape { P.shape pool.new ≡ P.shape pool.old }
     ensures images { P.tells → OnOk result (body_for (P.shape pool.old).block_size journal (P.disk pool.new).state.contents (targets entries.now) ≡ entries.now) }
     ensures runs { P.tells → Runs (of_body journal) (P.disk pool.old) (P.disk pool.new) }
@@ -46,7 +46,7 @@ fn write_body<P: Pool>(
 ) -> Result<(), PoolFault>
     requires journal { IsJournal (P.shape pool.old) journal (length entries.now) }
     requires size { length buffer.old ≡ wide }
-    requires entries { All (IsMove (P.shape pool.old) journal) entries.now }
+    requires entries { All (IsPlaced (P.shape pool.old) journal) entries.now }
     ensures shape { P.shape pool.new ≡ P.shape pool.old }
     ensures body { P.tells → OnOk result (HasEntries (P.shape pool.old).block_size journal (P.disk pool.new).state.contents entries.now) }
     ensures synced { P.tells → OnOk result (IsSynced (P.disk pool.new).state) }
@@ -63,7 +63,7 @@ fn write_body<P: Pool>(
 /// Writes the targets, and syncs them.
 fn place<P: Pool>(pool: &mut P, journal: u32, entries: &[Entry]) -> Result<(), PoolFault>
     requires journal { IsJournal (P.shape pool.old) journal (length entries.now) }
-    requires entries { All (IsMove (P.shape pool.old) journal) entries.now }
+    requires entries { All (IsPlaced (P.shape pool.old) journal) entries.now }
     ensures shape { P.shape pool.new ≡ P.shape pool.old }
     ensures placed { P.tells → OnOk result ((u b : ℕ) → (P.disk pool.new).state.contents u b ≡ placed (P.disk pool.old).state.contents entries.now u b) }
     ensures synced { P.tells → OnOk result (IsSynced (P.disk pool.new).state) }
@@ -86,7 +86,7 @@ fn apply_steps<P: Pool>(
 ) -> Result<(), PoolFault>
     requires journal { IsJournal (P.shape pool.old) journal (length entries.now) }
     requires size { length buffer.old ≡ wide }
-    requires entries { All (IsMove (P.shape pool.old) journal) entries.now }
+    requires entries { All (IsPlaced (P.shape pool.old) journal) entries.now }
     requires some { 1 ≤ length entries.now }
     requires shut { P.tells → IsShut journal (P.disk pool.old).state }
     ensures shape { P.shape pool.new ≡ P.shape pool.old }
@@ -112,13 +112,14 @@ fn apply_all<P: Pool>(
 ) -> Result<(), PoolFault>
     requires journal { IsJournal (P.shape pool.old) journal (length entries.now) }
     requires size { length buffer.old ≡ wide }
-    requires entries { All (IsMove (P.shape pool.old) journal) entries.now }
+    requires entries { All (IsPlaced (P.shape pool.old) journal) entries.now }
     requires shut { P.tells → IsShut journal (P.disk pool.old).state }
     ensures shape { P.shape pool.new ≡ P.shape pool.old }
     ensures any_moment { P.tells → LeavesOnly (P.disk pool.old) (P.disk pool.new)
         (HoldsEither (P.shape pool.old).block_size journal (P.disk pool.old).state entries.now) }
     ensures runs { P.tells → Runs (of_commit journal entries.now) (P.disk pool.old) (P.disk pool.new) }
     ensures done { P.tells → OnOk result (IsDone journal (P.disk pool.old).state entries.now (P.disk pool.new).state) }
+    ensures still { P.tells → entries.now ≡ [] → Runs none (P.disk pool.old) (P.disk pool.new) }
     ensures cause { HasCause (P.faults pool.old) (P.faults pool.new) result }
 {
     if entries.is_empty() {
@@ -146,6 +147,7 @@ pub fn apply<P: Pool>(
     ensures each_image { P.tells → (image : Image) → (P.disk pool.new).left_since (P.disk pool.old).moment image
         → OldOrNew (P.shape pool.old) (P.disk pool.old).state entries.now image }
     ensures runs { P.tells → Runs (of_commit (journal_of (P.shape pool.old)) entries.now) (P.disk pool.old) (P.disk pool.new) }
+    ensures still { P.tells → entries.now ≡ [] → Runs none (P.disk pool.old) (P.disk pool.new) }
     ensures at_rest { P.tells → OnOk result ((room : ℕ) (control after : Control) (fills later : List Bool) → IsAtRest (P.shape pool.old) (P.disk pool.old).state room control fills
         → IsStatusAfter (P.shape pool.old) entries.now control fills after later → IsAtRest (P.shape pool.old) (P.disk pool.new).state room after later) }
     ensures committed { P.tells → OnOk result (IsCommitted (P.shape pool.old) (P.disk pool.old).state entries.now (P.disk pool.new).state) }

@@ -2,12 +2,12 @@
 
 ghost use Rattle.std.specs.Prelude.{◌≡◌, ◌⊎◌, ◌<◌, ◌≤◌, ◌+◌, ◌-◌, ◌*◌, ◌↔◌, ◌==◌, ◌++◌, ℕ, length, replicate, true, IsTrue, IfOk, IfErr, OnOk};
 ghost use Rattle.dasd_pool.specs.Count.{Rose, HasCause};
-ghost use Rattle.dasd_pool.specs.Disk.{IsSynced, LeavesOnly, Runs, none};
+ghost use Rattle.dasd_pool.specs.Disk.{IsSynced, LeavesOnly, Runs, none, is_at};
 ghost use Rattle.vol_label.specs.declared.serial.Serial.{Serial};
-ghost use Rattle.redo_core.specs.Opening.{AreNames, IsFormatted, SparesVolumes};
+ghost use Rattle.redo_core.specs.Opening.{AreNames, IsFormatted, MakingLeaves, SparesVolumes};
 ghost use Rattle.redo_core.specs.Faults.{zeroed, IsInUse, IsShort, IsFormatFault, MayFormat};
 ghost use Rattle.redo_core.specs.Reading.{HasHead};
-ghost use Rattle.redo_core.specs.Steps.{IsJournal, of_journal};
+ghost use Rattle.redo_core.specs.Steps.{IsJournal, of_journal, of_status};
 ghost use Rattle.byteorder.specs.Endian.{big_bytes};
 ghost use Rattle.redo_core.specs.Format.{wide, registration_magic, registration_text, is_open, is_filling};
 
@@ -72,13 +72,12 @@ fn write_journal<P: Pool>(
     ensures control { P.tells → OnOk result ((P.disk pool.new).state.contents journal 2 ≡ replicate wide 0) }
     ensures synced { P.tells → OnOk result (IsSynced (P.disk pool.new).state) }
     ensures runs { P.tells → Runs (of_journal journal) (P.disk pool.old) (P.disk pool.new) }
+    ensures left { P.tells → LeavesOnly (P.disk pool.old) (P.disk pool.new) (MakingLeaves (P.shape pool.old) (P.disk pool.old).state) }
     ensures cause { HasCause (P.faults pool.old) (P.faults pool.new) result }
 {
     clear_registration(pool, journal, buffer)?;
     clear_status(pool, journal, buffer)?;
-    put_registration(buffer, names, room);
-    pool.write(journal, 0, buffer)?;
-    pool.sync()?;
+    write_registration(pool, journal, names, room, buffer)?;
     Ok(())
 }
 
@@ -93,12 +92,12 @@ fn clear_registration<P: Pool>(
     ensures shape { P.shape pool.new ≡ P.shape pool.old }
     ensures cleared { P.tells → OnOk result ((P.disk pool.new).state.contents journal 0 ≡ replicate wide 0) }
     ensures synced { P.tells → OnOk result (IsSynced (P.disk pool.new).state) }
-    ensures runs { P.tells → Runs (of_journal journal) (P.disk pool.old) (P.disk pool.new) }
+    ensures runs { P.tells → Runs (is_at journal 0) (P.disk pool.old) (P.disk pool.new) }
     ensures cause { HasCause (P.faults pool.old) (P.faults pool.new) result }
 {
     fill(buffer, &[]);
     pool.write(journal, 0, buffer)?;
-    pool.sync()?;
+    pool.sync()?; // before gate and control are cleared
     Ok(())
 }
 
@@ -109,12 +108,37 @@ fn clear_status<P: Pool>(pool: &mut P, journal: u32, buffer: &mut [u8]) -> Resul
     ensures shape { P.shape pool.new ≡ P.shape pool.old }
     ensures gate { P.tells → OnOk result ((P.disk pool.new).state.contents journal 1 ≡ replicate wide 0) }
     ensures control { P.tells → OnOk result ((P.disk pool.new).state.contents journal 2 ≡ replicate wide 0) }
-    ensures runs { P.tells → Runs (of_journal journal) (P.disk pool.old) (P.disk pool.new) }
+    ensures synced { P.tells → OnOk result (IsSynced (P.disk pool.new).state) }
+    ensures runs { P.tells → Runs (of_status journal) (P.disk pool.old) (P.disk pool.new) }
     ensures cause { HasCause (P.faults pool.old) (P.faults pool.new) result }
 {
     fill(buffer, &[]);
     pool.write(journal, 1, buffer)?;
     pool.write(journal, 2, buffer)?;
+    pool.sync()?; // before the registration stands
+    Ok(())
+}
+
+/// Writes the registration, and syncs it.
+fn write_registration<P: Pool>(
+    pool: &mut P,
+    journal: u32,
+    names: &[Serial],
+    room: u32,
+    buffer: &mut [u8],
+) -> Result<(), PoolFault>
+    requires journal { IsJournal (P.shape pool.old) journal 0 }
+    requires size { length buffer.old ≡ wide }
+    requires few { length names.now ≤ 64 }
+    ensures shape { P.shape pool.new ≡ P.shape pool.old }
+    ensures registration { P.tells → OnOk result ((P.disk pool.new).state.contents journal 0
+        ≡ registration_text names.now room ++ replicate (wide - (16 + 6 * length names.now)) 0) }
+    ensures synced { P.tells → OnOk result (IsSynced (P.disk pool.new).state) }
+    ensures runs { P.tells → Runs (is_at journal 0) (P.disk pool.old) (P.disk pool.new) }
+    ensures cause { HasCause (P.faults pool.old) (P.faults pool.new) result }
+{
+    put_registration(buffer, names, room);
+    pool.write(journal, 0, buffer)?;
     pool.sync()?;
     Ok(())
 }
@@ -175,7 +199,7 @@ fn may_format<P: Pool>(
     ensures shape { P.shape pool.new ≡ P.shape pool.old }
     ensures head { OnOk result (HasHead (P.shape pool.old)) }
     ensures long { OnOk result (4 + room ≤ (P.shape pool.old).blocks journal) }
-    ensures allowed { P.tells → OnOk result (MayFormat (P.shape pool.old) (P.disk pool.old).state.contents names.now) }
+    ensures allowed { P.tells → OnOk result (MayFormat (P.shape pool.old) (P.disk pool.old).state.contents names.now room) }
     ensures refused { P.tells → IfErr result (IsFormatFault (P.shape pool.old) (P.disk pool.old).state.contents names.now room) }
     ensures same { P.tells → (P.disk pool.new).state ≡ (P.disk pool.old).state }
     ensures runs { P.tells → Runs none (P.disk pool.old) (P.disk pool.new) }
@@ -225,11 +249,13 @@ pub fn format_on<P: Pool>(
     requires most { room ≤ 8191 }
     ensures shape { P.shape pool.new ≡ P.shape pool.old }
     ensures formatted { P.tells → OnOk result (IsFormatted (P.shape pool.old) (P.disk pool.old).state names.now room (P.disk pool.new).state) }
-    ensures allowed { P.tells → OnOk result (MayFormat (P.shape pool.old) (P.disk pool.old).state.contents names.now) }
+    ensures allowed { P.tells → OnOk result (MayFormat (P.shape pool.old) (P.disk pool.old).state.contents names.now room) }
     ensures refused { P.tells → IfErr result (IsFormatFault (P.shape pool.old) (P.disk pool.old).state.contents names.now room) }
     ensures unwritten { P.tells → IfErr result (λ fault. (fault ≡ JournalFault.Pool → ⊥) → (P.disk pool.new).state ≡ (P.disk pool.old).state) }
     ensures untouched { P.tells → IfErr result (λ fault. (fault ≡ JournalFault.Pool → ⊥) → Runs none (P.disk pool.old) (P.disk pool.new)) }
     ensures any_moment { P.tells → LeavesOnly (P.disk pool.old) (P.disk pool.new) (SparesVolumes (P.shape pool.old) (P.disk pool.old).state) }
+    ensures left { P.tells → LeavesOnly (P.disk pool.old) (P.disk pool.new) (MakingLeaves (P.shape pool.old) (P.disk pool.old).state) }
+    ensures faults { P.faults pool.old ≤ P.faults pool.new }
     ensures cause { IfErr result (λ fault. fault ≡ JournalFault.Pool → Rose (P.faults pool.old) (P.faults pool.new)) }
 {
     match may_format(alloc, pool, journal, names, room, buffer) {

@@ -1,6 +1,6 @@
 //! The journal of a pool, between two commits.
 
-ghost use Rattle.std.specs.Prelude.{◌≡◌, ◌≢◌, ◌≤◌, ◌<◌, ℕ, All, AllPairs, length, false, IfOk, IfErr, OnOk};
+ghost use Rattle.std.specs.Prelude.{◌≡◌, ◌≢◌, ◌≤◌, ◌<◌, ℕ, [], All, AllPairs, length, false, IfOk, IfErr, OnOk};
 ghost use Rattle.dasd_pool.specs.Calls.{size_in};
 ghost use Rattle.dasd_pool.specs.Count.{Rose, HasCause};
 ghost use Rattle.dasd_pool.specs.Disk.{Image, LeavesOnly, Runs, IsSynced, none, is_at};
@@ -8,7 +8,7 @@ ghost use Rattle.redo_core.specs.declared.control.Control.TheVariants.{Idle};
 ghost use Rattle.redo_core.specs.Reading.{journal_of, fills_of};
 ghost use Rattle.redo_core.specs.Steps.{IsJournal};
 ghost use Rattle.redo_core.specs.Phases.{targets, of_commit, IsAtRest, IsEntry, IsStatusAfter, OldOrNew, IsCommitted};
-ghost use Rattle.redo_core.specs.Opening.{AreNames, IsFormatted, IsJournalSynced, IsOpened, ReadsSame, SparesVolumes, of_opening};
+ghost use Rattle.redo_core.specs.Opening.{AreNames, IsFormatted, IsJournalSynced, IsOpened, MakingLeaves, ReadsSame, SparesVolumes, of_opening};
 ghost use Rattle.redo_core.specs.Faults.{IsFormatFault, IsOpenFault, MayFormat, MayOpen};
 ghost use Rattle.redo_core.specs.Stops.{pool_after, pool_of, IsStatusOf};
 
@@ -31,7 +31,7 @@ pub struct JournalStop<P> {
     pub cause: JournalFault,
 }
 
-/// A pool whose journal is at rest. Each change of its volumes is a commit.
+/// A pool whose journal is at rest. A commit changes its volumes through the journal, and `write` past it.
 #[derive(Drop)]
 pub struct Journal<P: Pool> {
     pool: P,
@@ -47,7 +47,7 @@ impl<P: Pool> Model for Journal<P> {
     ghost use Rattle.redo_core.specs.Format.{wide};
     ghost use Rattle.redo_core.specs.Phases.{IsAtRest};
     ghost use Rattle.redo_core.specs.Steps.{IsJournal};
-    ghost use Rattle.redo_core.specs.Opening.{AreNames, IsFormatted, IsJournalSynced, IsOpened, ReadsSame, SparesVolumes};
+    ghost use Rattle.redo_core.specs.Opening.{AreNames, IsFormatted, IsJournalSynced, IsOpened, MakingLeaves, ReadsSame, SparesVolumes};
     ghost use Rattle.redo_core.specs.Faults.{IsFormatFault, IsOpenFault, MayFormat, MayOpen};
     ghost use Rattle.redo_core.specs.Stops.{JournalView};
 
@@ -80,13 +80,15 @@ impl<P: Pool> Journal<P> {
         ensures formatted { P.tells → IfOk result (λ new. IsFormatted (P.shape pool) (P.disk pool).state names.now room (P.disk new).state) }
 
         // It is made only where nothing stands against it. A refusal names the first cause, and at no moment was anything written.
-        ensures allowed { P.tells → OnOk result (MayFormat (P.shape pool) (P.disk pool).state.contents names.now) }
+        ensures allowed { P.tells → OnOk result (MayFormat (P.shape pool) (P.disk pool).state.contents names.now room) }
         ensures refused { P.tells → IfErr result (λ stop. IsFormatFault (P.shape pool) (P.disk pool).state.contents names.now room stop.cause) }
         ensures unwritten { P.tells → IfErr result (λ stop. (stop.cause ≡ JournalFault.Pool → ⊥) → (P.disk stop.pool).state ≡ (P.disk pool).state) }
         ensures untouched { P.tells → IfErr result (λ stop. (stop.cause ≡ JournalFault.Pool → ⊥) → Runs none (P.disk pool) (P.disk stop.pool)) }
 
         // At every moment, whatever the answer.
         ensures any_moment { P.tells → LeavesOnly (P.disk pool) (P.disk (pool_of result)) (SparesVolumes (P.shape pool) (P.disk pool).state) }
+        ensures left { P.tells → LeavesOnly (P.disk pool) (P.disk (pool_of result)) (MakingLeaves (P.shape pool) (P.disk pool).state) }
+        ensures faults { P.faults pool ≤ P.faults (pool_of result) }
         ensures cause { IfErr result (λ stop. stop.cause ≡ JournalFault.Pool → Rose (P.faults pool) (P.faults stop.pool)) }
     {
         let unit = pool.units() - 1;
@@ -279,6 +281,9 @@ impl<P: Pool> Journal<P> {
         ensures each_image { P.tells → (image : Image) → (P.disk (pool_after result)).left_since (P.disk self.pool).moment image
             → OldOrNew (P.shape self.pool) (P.disk self.pool).state entries image }
         ensures runs { P.tells → Runs (of_commit (journal_of (P.shape self.pool)) entries) (P.disk self.pool) (P.disk (pool_after result)) }
+
+        // With no entries nothing is written.
+        ensures still { P.tells → entries ≡ [] → Runs none (P.disk self.pool) (P.disk (pool_after result)) }
         ensures rest { P.tells → IfOk result (λ journal. IsAtRest (P.shape self.pool) (P.disk journal.pool).state journal.room journal.control journal.fills) }
         ensures committed { P.tells → IfOk result (λ journal. IsCommitted (P.shape self.pool) (P.disk self.pool).state entries (P.disk journal.pool).state) }
         ensures same { IfOk result (λ journal. journal.room ≡ self.room) }

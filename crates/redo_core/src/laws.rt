@@ -1,10 +1,15 @@
-//! What holds of journals, whatever opens them.
+//! What holds of journals, whatever opens or makes them.
 
-ghost use Rattle.redo_core.specs.Laws.{OnlyFaultsRefuse, AddedIsEntry};
+ghost use Rattle.redo_core.specs.Laws.{OnlyFaultsRefuse, OnlyFaultsRefuseMaking, AddedIsEntry};
 
 /// A journal against which nothing stands is opened, unless the pool fails or memory runs out.
 pub fn opening_laws()
     ensures { OnlyFaultsRefuse }
+{}
+
+/// A journal against which nothing stands is made, unless the pool fails or memory runs out.
+pub fn making_laws()
+    ensures { OnlyFaultsRefuseMaking }
 {}
 
 /// What `Entries::push_control` adds is an entry such as a commit takes.

@@ -22,7 +22,7 @@ pub use entries::{Entries, Entry};
 pub use fault::{JournalFault, JournalRule};
 pub use head::journal_head;
 pub use journal::{Journal, JournalStop};
-pub use laws::{control_laws, opening_laws};
+pub use laws::{control_laws, making_laws, opening_laws};
 pub use opening::is_same;
 pub use survey::{are_apart, are_serials};
 pub use target::Target;

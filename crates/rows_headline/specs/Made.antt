@@ -46,7 +46,7 @@ MakesNoJournal _ = Unit {0}
 pub record IsMade (shape : Shape) (old new : State) : Type 0 where
   pub names : List Serial
   pub room : ℕ
-  pub allowed : MayFormat shape old.contents names
+  pub allowed : MayFormat shape old.contents names room
   pub formatted : IsFormatted shape old names room new
 
 -- a loader finds a volume on unit 0, by the blocks that the pool has

@@ -1,8 +1,8 @@
-use Rattle.redo_core.proofs.Readings.{moves_at, moments_read, reads_since, committed_at, rest_at, runs_at}
+use Rattle.redo_core.proofs.Readings.{all_placed_at, moments_read, reads_since, committed_at, rest_at, runs_at}
 use Rattle.redo_core.proofs.commit.apply.Goals as goal
 
 pub apply_all-requires-clause-entries : goal.apply_all-requires-clause-entries
-apply_all-requires-clause-entries g c = moves_at (g.P.Pool.shape c.args.pool.now) c.args.journal c.requires.journal.last c.args.entries.now c.requires.each c.requires.apart
+apply_all-requires-clause-entries g c = all_placed_at (g.P.Pool.shape c.args.pool.now) c.args.journal c.requires.journal.last c.args.entries.now c.requires.each c.requires.apart
 
 pub returns-in_err-apply_all-clause-any_moment : goal.returns-in_err-apply_all-clause-any_moment
 returns-in_err-apply_all-clause-any_moment g c = λ told.

@@ -5,7 +5,7 @@ use Rattle.std.proofs.lemmas.List.Elements.{All-get_or}
 use Rattle.dasd_pool.specs.Disk.{Shape, is_at}
 use Rattle.dasd_pool.proofs.Moments.{runs_then}
 use Rattle.redo_core.specs.declared.entries.Entry.{Entry}
-use Rattle.redo_core.specs.Steps.{IsMove, of_body}
+use Rattle.redo_core.specs.Steps.{IsPlaced, of_body}
 use Rattle.redo_core.proofs.Transitions.{body_within, images_more}
 use Rattle.redo_core.proofs.commit.stage.Goals as goal
 
@@ -16,11 +16,11 @@ loop-entry-preserved g c =
     let entries = c.args.entries.now in
     let i = c.loop-entry.entry-index in
     let entry = c.entry-item.result in
-    let move : IsMove shape c.args.journal entry =
-    subst (λ (e : Entry). IsMove shape c.args.journal e) (sym c.entry-item.is) (All-get_or (IsMove shape c.args.journal) entries i entry c.loop-entry-test.true c.requires.entries) in
+    let placed : IsPlaced shape c.args.journal entry =
+    subst (λ (e : Entry). IsPlaced shape c.args.journal e) (sym c.entry-item.is) (All-get_or (IsPlaced shape c.args.journal) entries i entry c.loop-entry-test.true c.requires.entries) in
     let size : c.block_size-size.result ≡ shape.block_size entry.unit = c.block_size-size.ensures.value ∙ ap (λ (s : Shape). s.block_size entry.unit) inv.shape in
     let text : take c.block_size-size.result c.as_slice.result.now ≡ entry.slot =
-    ap (λ (l : List ℕ). take c.block_size-size.result l) c.as_slice.ensures.same ∙ take_all c.block_size-size.result entry.slot (omega (arith, size, move.slot)) in
+    ap (λ (l : List ℕ). take c.block_size-size.result l) c.as_slice.ensures.same ∙ take_all c.block_size-size.result entry.slot (omega (arith, size, placed.slot)) in
     record {
       shape = c.put_block.ensures.shape ∙ inv.shape;
       next = omega (arith, inv.next);
@@ -32,7 +32,7 @@ loop-entry-preserved g c =
           (omega (arith, inv.next, length-take-le i entries (omega arith)))
           ((c.put_block.ensures.runs told).touches)
           (c.in_ok-put_block.ensures.written told ∙ ap (λ (l : List ℕ). l ++ replicate (length c.loop-entry.buffer - length (take c.block_size-size.result c.as_slice.result.now)) 0) text)
-          move.slot
+          placed.slot
           (take_more entries i entry c.loop-entry-test.true ∙ ap (λ (e : Entry). take i entries ++ e ∷ []) (sym c.entry-item.is))
           (inv.images told);
     }

@@ -3,8 +3,6 @@ use Rattle.std.specs.Prelude.{replicate}
 use Rattle.redo_core.specs.Format.{wide}
 use Rattle.dasd_pool.specs.Disk.{is_at, none}
 use Rattle.dasd_pool.proofs.Moments.{runs_then}
-use Rattle.redo_core.specs.Steps.{of_journal}
-use Rattle.redo_core.proofs.Formatting.{in_journal}
 use Rattle.redo_core.proofs.format.clear_registration.Goals as goal
 
 sized : {n : ℕ} → n ≡ wide → n - 0 ≡ wide
@@ -12,11 +10,11 @@ sized is = omega (arith, is)
 
 pub returns-in_err-sync-clause-runs : goal.returns-in_err-sync-clause-runs
 returns-in_err-sync-clause-runs g c = λ told.
-    runs_then (of_journal c.args.journal) (is_at c.args.journal 0) none (g.P.Pool.disk c.args.pool.now) (g.P.Pool.disk c.write.new.self) (g.P.Pool.disk c.sync.new.self) (λ u b apart. in_journal c.args.journal 0 u b apart) (λ u b apart. refl) (c.write.ensures.runs told) (c.sync.ensures.runs told)
+    runs_then (is_at c.args.journal 0) (is_at c.args.journal 0) none (g.P.Pool.disk c.args.pool.now) (g.P.Pool.disk c.write.new.self) (g.P.Pool.disk c.sync.new.self) (λ u b apart. apart) (λ u b apart. refl) (c.write.ensures.runs told) (c.sync.ensures.runs told)
 
 pub returns-clause-runs : goal.returns-clause-runs
 returns-clause-runs g c = λ told.
-    runs_then (of_journal c.args.journal) (is_at c.args.journal 0) none (g.P.Pool.disk c.args.pool.now) (g.P.Pool.disk c.write.new.self) (g.P.Pool.disk c.sync.new.self) (λ u b apart. in_journal c.args.journal 0 u b apart) (λ u b apart. refl) (c.write.ensures.runs told) (c.sync.ensures.runs told)
+    runs_then (is_at c.args.journal 0) (is_at c.args.journal 0) none (g.P.Pool.disk c.args.pool.now) (g.P.Pool.disk c.write.new.self) (g.P.Pool.disk c.sync.new.self) (λ u b apart. apart) (λ u b apart. refl) (c.write.ensures.runs told) (c.sync.ensures.runs told)
 
 pub returns-clause-cleared : goal.returns-clause-cleared
 returns-clause-cleared g c = λ told. (c.sync.ensures.runs told).touches.contents c.args.journal 0 refl ∙ c.in_ok-write.ensures.written told ∙ c.fill.ensures ∙ ap (λ (n : ℕ). replicate n 0) (sized c.requires.size)

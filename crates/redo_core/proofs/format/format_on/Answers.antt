@@ -6,6 +6,7 @@ use Rattle.redo_core.specs.Format.{wide}
 use Rattle.redo_core.specs.Reading.{journal_of}
 use Rattle.redo_core.specs.Steps.{of_journal}
 use Rattle.redo_core.proofs.Formatted.{is_formatted, volumes_spared}
+use Rattle.redo_core.proofs.Making.{left_after}
 use Rattle.redo_core.proofs.format.format_on.Goals as goal
 
 pub returns-in-Ok-write_journal-clause-formatted : goal.returns-in-Ok-write_journal-clause-formatted
@@ -37,3 +38,13 @@ returns-in-Err-write_journal-clause-any_moment g c = λ told.
     let new = g.P.Pool.disk c.write_journal.new.pool in
     volumes_spared shape c.args.journal old new (omega (arith, c.requires.last))
     (runs_then all none all old (g.P.Pool.disk c.may_format.new.pool) new (λ u b apart. refl) (λ u b apart. apart) (c.may_format.ensures.runs told) (c.write_journal.ensures.runs told))
+
+pub returns-in-Ok-write_journal-clause-left : goal.returns-in-Ok-write_journal-clause-left
+returns-in-Ok-write_journal-clause-left g c = λ told.
+    left_after (g.P.Pool.shape c.args.pool.now) (g.P.Pool.shape c.may_format.new.pool) (g.P.Pool.disk c.args.pool.now) (g.P.Pool.disk c.may_format.new.pool) (g.P.Pool.disk c.write_journal.new.pool)
+    c.in-Ok.ensures.shape (c.in-Ok.ensures.same told) (c.may_format.ensures.runs told) (c.write_journal.ensures.left told)
+
+pub returns-in-Err-write_journal-clause-left : goal.returns-in-Err-write_journal-clause-left
+returns-in-Err-write_journal-clause-left g c = λ told.
+    left_after (g.P.Pool.shape c.args.pool.now) (g.P.Pool.shape c.may_format.new.pool) (g.P.Pool.disk c.args.pool.now) (g.P.Pool.disk c.may_format.new.pool) (g.P.Pool.disk c.write_journal.new.pool)
+    c.in-Ok.ensures.shape (c.in-Ok.ensures.same told) (c.may_format.ensures.runs told) (c.write_journal.ensures.left told)

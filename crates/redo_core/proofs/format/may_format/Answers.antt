@@ -1,12 +1,12 @@
-use Rattle.std.proofs.Common.{◌≡◌, ◌+◌, inl, refl, sym, ◌∙◌, subst, arith}
+use Rattle.std.proofs.Common.{◌≡◌, ◌≤◌, ◌+◌, inl, refl, sym, ◌∙◌, subst, arith}
 use Rattle.std.proofs.lemmas.Bool.{false≢true}
 use Rattle.dasd_pool.specs.Disk.{none}
 use Rattle.dasd_pool.proofs.Moments.{runs_then}
 use Rattle.redo_core.specs.declared.fault.JournalFault.{JournalFault}
 use Rattle.redo_core.specs.Reading.{journal_of}
 use Rattle.redo_core.specs.Faults.{IsShort, IsFormatFault, MayFormat}
-use Rattle.redo_core.proofs.Faulting.{err_weaker, ok_always}
-use Rattle.redo_core.proofs.FormatFaults.{IsFree, labels_format, short_format, labels_fault_at, labels_are_at, short_at}
+use Rattle.redo_core.proofs.Faulting.{err_weaker, ok_weaker}
+use Rattle.redo_core.proofs.FormatFaults.{IsFree, labels_format, short_format, labels_fault_at, labels_are_at, short_at, long_at}
 use Rattle.redo_core.proofs.format.may_format.Goals as goal
 
 pub returns-then-not-has_head-clause-refused : goal.returns-then-not-has_head-clause-refused
@@ -47,7 +47,11 @@ returns-in-Ok-clause-allowed g c = λ told.
     let shape = g.P.Pool.shape c.args.pool.now in
     let state = (g.P.Pool.disk c.args.pool.now).state in
     let unit : journal_of shape ≡ c.args.journal = omega (arith, c.requires.last) in
-    ok_always (MayFormat shape state.contents c.args.names.now) c.check_length.result (record {
+    ok_weaker (4 + c.args.room ≤ (g.P.Pool.shape c.check_labels.new.pool).blocks c.args.journal) (MayFormat shape state.contents c.args.names.now c.args.room) c.check_length.result
+    (λ long. record {
+      head = c.if-not-has_head.ensures.0 refl;
       unused = λ used. false≢true (sym c.if-branch.false ∙ (c.in_ok-is_in_use.ensures.used told).1 used);
       labels = labels_are_at shape (g.P.Pool.shape c.is_in_use.new.pool) state (g.P.Pool.disk c.is_in_use.new.pool).state c.args.names.now c.args.journal c.in_ok-is_in_use.ensures.shape (c.in_ok-is_in_use.ensures.same told) unit (c.in-Ok.ensures.labels told);
+      long = long_at shape (g.P.Pool.shape c.check_labels.new.pool) (4 + c.args.room) c.args.journal (c.in-Ok.ensures.shape ∙ c.in_ok-is_in_use.ensures.shape) unit long;
     })
+    c.check_length.ensures.long
