@@ -1,7 +1,6 @@
 -- What an image says of its units is one list, and so is what it stands for where no slide is open.
-use Rattle.std.proofs.Common.{◌≡◌, ℕ, ◌<◌, ◌≤◌, List, [], length, get_or, Bool, Some, refl, sym, subst, ◌∙◌, arith}
-use Rattle.std.specs.Prelude.{nat_lt, if◌then◌else◌, slice_get}
-use Rattle.std.proofs.lemmas.Bool.{cond_both, ltb-true, lt-ltb, both_ways}
+use Rattle.std.proofs.Common.{◌≡◌, ℕ, ◌<◌, List, get_or, Bool, Some, sym, subst, ◌∙◌, arith}
+use Rattle.std.specs.Prelude.{slice_get}
 use Rattle.std.proofs.lemmas.List.{same_lists}
 use Rattle.std.proofs.lemmas.Option.{slice_get-get_or}
 use Rattle.dasd_pool.specs.Disk.{Image}
@@ -13,25 +12,9 @@ use Rattle.volume_model.specs.Sound.{Slots}
 use Rattle.volume_model.specs.Unit.{UnitModel}
 use Rattle.move_core.specs.Facts.{Facts}
 use Rattle.move_core.specs.Stands.{is_sliding, place_in, IsAfterSlide, Stands}
-use Rattle.move_core.proofs.Frames.{unit_moves}
 use Rattle.move_core.proofs.OneUnit.{one_unit}
-use Rattle.move_core.proofs.Standing.{place_down, stands_down}
 
--- the slots of the tracks that are there
-abbrev clipped : ℕ → Slots → Slots
-clipped blocks slots track = if nat_lt track blocks then slots track else []
-
-clipped_there : (blocks : ℕ) (slots : Slots) (track : ℕ) → track < blocks → clipped blocks slots track ≡ slots track
-clipped_there blocks slots track less =
-    cond_both (nat_lt track blocks) (slots track) [] (λ slot. slot ≡ slots track) (λ there. refl)
-    (λ past. absurd (both_ways (nat_lt track blocks) past (lt-ltb track blocks less)))
-
-clipped_short : (blocks : ℕ) (slots : Slots) → ((track : ℕ) → track < blocks → length (slots track) ≤ 65536) → (track : ℕ) → length (clipped blocks slots track) ≤ 65536
-clipped_short blocks slots short track =
-    cond_both (nat_lt track blocks) (slots track) [] (λ slot. length slot ≤ 65536) (λ there. short track (ltb-true track blocks there)) (λ past. omega arith)
-
-module _ (facts : Facts) (image : Image) (a b : List UnitModel) (one : Stands facts image a) (other : Stands facts image b)
-    (short : (u track : ℕ) → u < journal_of facts.shape → track < facts.shape.blocks u → length (one.reading.volumes u track) ≤ 65536) where
+module _ (facts : Facts) (image : Image) (a b : List UnitModel) (one : Stands facts image a) (other : Stands facts image b) where
   control_is : other.reading.control ≡ one.reading.control
   control_is = other.reads.obeys.control_is ∙ sym one.reads.obeys.control_is
 
@@ -46,16 +29,11 @@ module _ (facts : Facts) (image : Image) (a b : List UnitModel) (one : Stands fa
       let head = facts.shape.head u in
       let blocks = facts.shape.blocks u in
       let r = one.reading in
-      let down = place_down r.control (stands_down facts image a one) u in
-      let slots : Slots = clipped blocks (r.volumes u) in
       let F : Bool → Type 0 = λ f. IsUnit f (is_sliding other.reading.control u) (place_in other.reading.control u) head blocks (other.reading.volumes u) y in
       let C : Control → Type 0 = λ c. IsUnit (r.fills u) (is_sliding c u) (place_in c u) head blocks (other.reading.volumes u) y in
       let V : Slots → Type 0 = λ v. IsUnit (r.fills u) (is_sliding r.control u) (place_in r.control u) head blocks v y in
       let moved = subst V (volumes_are u less) (subst C control_is (subst F (fills_are u less) (other.means.found_are.each u y there))) in
-      let same = λ (block : ℕ) (within : block < blocks). clipped_there blocks (r.volumes u) block within in
-      one_unit (is_sliding r.control u) (place_in r.control u) head blocks slots (clipped_short blocks (r.volumes u) (λ track within. short u track less within)) down (r.fills u) x y
-      (unit_moves (r.fills u) (is_sliding r.control u) (place_in r.control u) head blocks (r.volumes u) slots down x (λ block within vital. same block within) (one.means.found_are.each u x at))
-      (unit_moves (r.fills u) (is_sliding r.control u) (place_in r.control u) head blocks (r.volumes u) slots down y (λ block within vital. same block within) moved)
+      one_unit (is_sliding r.control u) (place_in r.control u) head blocks (r.volumes u) (r.fills u) x y (one.means.found_are.each u x at) moved
 
   pub found_is : one.means.found ≡ other.means.found
   found_is =

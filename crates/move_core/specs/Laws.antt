@@ -1,5 +1,5 @@
 -- What a stop, an opening and a commit leave of the units that a pool stands for.
-use Rattle.std.specs.Prelude.{◌≡◌, ◌⊎◌, ℕ, ◌<◌, ◌≤◌, List, length, Bool}
+use Rattle.std.specs.Prelude.{◌≡◌, ◌⊎◌, ℕ, ◌<◌, List, Bool}
 use Rattle.dasd_pool.specs.Disk.{Image, Shape, State, MayLeave}
 use Rattle.vol_label.specs.declared.serial.Serial.{Serial}
 use Rattle.redo_core.specs.declared.control.Control.{Control}
@@ -59,10 +59,9 @@ CommittedIsSettled =
     → (settled : IsSettled facts old before) → WillStand facts settled.stands.reading entries after
     → IsCommitted facts.shape old entries new → IsSettled facts new after
 
--- Where its slots are no longer than a block can be, an image says at most one list of units, with the texts of an open slide at their places.
+-- However long its blocks are, an image says at most one list of units, with the texts of an open slide at their places.
 -- So it stands for at most one where no slide is open.
 abbrev pub OneMeaning : Type 0
 OneMeaning =
     (facts : Facts) (image : Image) (a b : List UnitModel) → (one : Stands facts image a) → (other : Stands facts image b)
-    → ((u track : ℕ) → u < journal_of facts.shape → track < facts.shape.blocks u → length (one.reading.volumes u track) ≤ 65536)
     → (one.means.found ≡ other.means.found) × (one.reading.control ≡ Idle → a ≡ b)

@@ -7,7 +7,7 @@ use Rattle.free_map.specs.Runs.{HasTrack, InRuns}
 use Rattle.vol_label.specs.declared.serial.Serial.{Serial}
 use Rattle.volume_model.specs.Changed.{threes_for, ChangesSets}
 use Rattle.volume_model.specs.Pinned.{AreByCylinders, IsNameOf}
-use Rattle.volume_model.specs.Unit.{Text, good, Extent, DataSet, OnlineVolume, UnitModel, online, run_in, tracks_of, IsFreeTrack}
+use Rattle.volume_model.specs.Unit.{Text, good, Extent, DataSet, AreByName, OnlineVolume, UnitModel, online, run_in, tracks_of, IsFreeTrack}
 use Rattle.move_core.specs.declared.steps.Origin.{Origin}
 use Rattle.move_core.specs.declared.steps.Origin.TheVariants.{Row, Part}
 use Rattle.move_core.specs.declared.steps.Step.{Step}
@@ -24,12 +24,13 @@ pub record Replaces {X : Type 0} (place : ℕ) (old new : X) (before after : Lis
   pub before_is : before ≡ front ++ (old ∷ back)
   pub after_is : after ≡ front ++ (new ∷ back)
 
--- on the online volume of one unit some data sets go, and others come; all other units stay
+-- On the online volume of one unit some data sets go, and others come. They stand in the order of their names then. All other units stay.
 pub record ChangesUnit (unit : ℕ) (before after : List UnitModel) (gone put : List DataSet) : Type 0 where
   pub old : OnlineVolume
   pub new : OnlineVolume
   pub unit_is : Replaces unit (online old) (online new) before after
   pub changes : ChangesSets old new gone put
+  pub order : AreByName new.sets
 
 -- the heads of the unit's device
 abbrev pub heads_in : OnlineVolume → ℕ

@@ -9,7 +9,8 @@ ghost use Rattle.move_core.specs.RunLaws.{RunThen, RunStill, RunQuiet, RunBehind
 
 use dasd_pool::{Pool, PoolFault};
 
-/// A stop, an opening and a commit leave what a pool stands for, or what the commit makes of it. An image stands for at most one list of units.
+/// A stop, an opening and a commit leave what a pool stands for, or what the commit makes of it. An image says at most one list of units, and stands for
+/// at most one where no slide is open.
 pub fn standing_laws()
     ensures meaning { KeepsMeaning }
     ensures image { EachImageStands }

@@ -1,5 +1,5 @@
 -- On a volume that passes the VTOC check one extent at most has given tracks.
-use Rattle.std.proofs.Common.{◌≡◌, ℕ, ◌+◌, ◌<◌, ◌≤◌, ◌==◌, ◌&&◌, List, [], ◌∷◌, ◌++◌, length, map, filter, Bool, true, false, if◌then◌else◌, Contains, inl, inr, refl, sym, ap, subst, ◌∙◌, arith}
+use Rattle.std.proofs.Common.{◌≡◌, ℕ, ◌+◌, ◌≤◌, ◌==◌, ◌&&◌, List, [], ◌∷◌, ◌++◌, map, filter, Bool, true, false, if◌then◌else◌, Contains, inl, inr, refl, sym, ap, subst, ◌∙◌, arith}
 use Rattle.std.specs.List.{AllByRecursion, flat_map, sum_by}
 use Rattle.std.proofs.lemmas.Bool.{and_parts, both_ways, cases_Bool, eqb-true, lt-ltb}
 use Rattle.std.proofs.lemmas.List.Elements.{All-contains, recursion_from_All}
@@ -25,7 +25,7 @@ use Rattle.vtoc_layout.specs.Layout.{IsLayoutOf, AreApart, AreExtentsApart, exte
 use Rattle.vtoc_layout.proofs.Distinct.{in_later, in_back, distinct_back}
 use Rattle.layout_found.proofs.Extents.{extents_apart}
 use Rattle.layout_found.proofs.Uses.{layout_right}
-use Rattle.move_core.proofs.Frames.{vtoc_below, pointer_held}
+use Rattle.volume_model.proofs.OneText.{one_text_on}
 use Rattle.unit_change.proofs.FormatFour.{four_there}
 
 module _ (from len : ℕ) where
@@ -122,8 +122,7 @@ module _ (from len : ℕ) where
 
 -- ---- a volume
 
-module _ (sliding : Bool) (place : ℕ → ℕ) (head : List ℕ) (blocks : ℕ) (slots : Slots) (volume : OnlineVolume) (on : IsOnline sliding place head blocks slots volume)
-    (short : (track : ℕ) → track < blocks → length (slots track) ≤ 65536) where
+module _ (sliding : Bool) (place : ℕ → ℕ) (head : List ℕ) (blocks : ℕ) (slots : Slots) (volume : OnlineVolume) (on : IsOnline sliding place head blocks slots volume) where
   abbrev image : Head
   image = on.stands.image
 
@@ -142,9 +141,7 @@ module _ (sliding : Bool) (place : ℕ → ℕ) (head : List ℕ) (blocks : ℕ)
   four_here : Contains (records_of vtoc) four
   four_here =
       let home = track_at (heads_of image.device) pointer.at in
-      let below : home < image.tracks = vtoc_below image pointer slots sliding vtoc is home (pointer_held image pointer slots sliding vtoc is) in
-      four_there image slots pointer sliding vtoc is on.stands.sound (omega (arith, on.stands.tracks_are, on.stands.head_stands.cylinders.1))
-      (short home (omega (arith, below, on.stands.tracks_are)))
+      four_there image slots pointer sliding vtoc is on.stands.sound (omega (arith, on.stands.tracks_are, on.stands.head_stands.cylinders.1)) (one_text_on image.device home (slots home))
 
   laid_out : IsLayoutOf vtoc (layout_of vtoc four)
   laid_out = layout_right vtoc four (are_short (heads_of image.device) slots vtoc.run vtoc.tracks is.reading) four_here is.format_4.format refl on.stands.sound

@@ -1,11 +1,10 @@
 -- What an image stands for is one list of units, whether or not a slide is open.
-use Rattle.std.proofs.Common.{◌≡◌, ℕ, ◌<◌, ◌≤◌, List, ◌∷◌, ◌++◌, length, Some, refl, sym, ap, subst, ◌∙◌, arith, length-append}
+use Rattle.std.proofs.Common.{◌≡◌, ℕ, List, ◌∷◌, ◌++◌, Some, refl, sym, ap, subst, ◌∙◌}
 use Rattle.std.specs.Prelude.{slice_get}
 use Rattle.dasd_pool.specs.Disk.{Image}
 use Rattle.dasd_pool.proofs.Slices.{get_there}
 use Rattle.redo_core.specs.declared.control.Control.{Control}
 use Rattle.redo_core.specs.declared.control.Control.TheVariants.{Idle, Slide}
-use Rattle.redo_core.specs.Reading.{journal_of}
 use Rattle.volume_model.specs.Unit.{OnlineVolume, UnitModel, online}
 use Rattle.move_core.specs.Facts.{Facts}
 use Rattle.move_core.specs.Stands.{is_sliding, place_in, Slides, IsAfterSlide, Stands}
@@ -19,10 +18,9 @@ abbrev volume_of : OnlineVolume → UnitModel → OnlineVolume
 volume_of other (online volume) = volume
 volume_of other unit = other
 
-module _ (facts : Facts) (image : Image) (a b : List UnitModel) (one : Stands facts image a) (other : Stands facts image b)
-    (short : (u track : ℕ) → u < journal_of facts.shape → track < facts.shape.blocks u → length (one.reading.volumes u track) ≤ 65536) where
+module _ (facts : Facts) (image : Image) (a b : List UnitModel) (one : Stands facts image a) (other : Stands facts image b) where
   found_same : one.means.found ≡ other.means.found
-  found_same = found_is facts image a b one other short
+  found_same = found_is facts image a b one other
 
   last_after : IsAfterSlide one.reading.room one.reading.control one.means.found b
   last_after =
@@ -43,21 +41,18 @@ module _ (facts : Facts) (image : Image) (a b : List UnitModel) (one : Stands fa
       let at : slice_get one.means.found unit ≡ Some (online before) =
       subst (λ (units : List UnitModel). slice_get units unit ≡ Some (online before)) (sym replaces.before_is)
       (subst (λ (n : ℕ). slice_get (replaces.front ++ (online before ∷ replaces.back)) n ≡ Some (online before)) replaces.long (get_there replaces.front replaces.back (online before))) in
-      let less : unit < journal_of facts.shape =
-      omega (arith, one.means.found_are.count, ap length replaces.before_is, length-append replaces.front (online before ∷ replaces.back), replaces.long) in
       let on = (one.means.found_are.each unit (online before) at).1 in
       let once =
-      sets_once (is_sliding r.control unit) (place_in r.control unit) (facts.shape.head unit) (facts.shape.blocks unit) (r.volumes unit) before on
-      (λ track below. short unit track less below) from len in
+      sets_once (is_sliding r.control unit) (place_in r.control unit) (facts.shape.head unit) (facts.shape.blocks unit) (r.volumes unit) before on from len in
       let after_same : after ≡ others_after =
       slides_same r.room from to len before after others_after once slides (subst (λ (volume : OnlineVolume). Slides r.room from to len volume others_after) (sym before_same) slides_too) in
       replaces.after_is ∙ (λ i. split.0 i ++ (online (after_same i) ∷ split.2 i)) ∙ sym replaces_too.after_is
 
   by_control : (control : Control) → one.reading.control ≡ control → a ≡ b
-  by_control Idle is = one_meaning facts image a b one other short is
+  by_control Idle is = one_meaning facts image a b one other is
   by_control (Slide unit from to len done) is =
       by_slide unit from to len done (subst (λ (c : Control). IsAfterSlide one.reading.room c one.means.found a) is one.means.after)
       (subst (λ (c : Control). IsAfterSlide one.reading.room c one.means.found b) is last_after)
 
 pub one_list : OneList
-one_list facts image a b one other short = by_control facts image a b one other short one.reading.control refl
+one_list facts image a b one other = by_control facts image a b one other one.reading.control refl

@@ -1,5 +1,5 @@
 -- The format 4 that a label's pointer names is one of the records of the VTOC.
-use Rattle.std.proofs.Common.{◌≡◌, ◌≢◌, ℕ, ◌+◌, ◌-◌, ◌<◌, ◌≤◌, ◌==◌, List, [], ◌++◌, length, find, Bool, true, All, Contains, Option, Some, None, refl, sym, ap, subst, ◌∙◌, arith}
+use Rattle.std.proofs.Common.{◌≡◌, ◌≢◌, ℕ, ◌+◌, ◌-◌, ◌<◌, ◌≤◌, ◌==◌, List, [], ◌++◌, find, Bool, true, All, Contains, Option, Some, None, refl, sym, ap, subst, ◌∙◌, arith}
 use Rattle.std.specs.Prelude.{nat_le, nat_lt, slice_index_or}
 use Rattle.std.proofs.lemmas.Bool.{and_parts, leb-true, ltb-true}
 use Rattle.std.proofs.lemmas.List.Elements.{All-get_or}
@@ -20,7 +20,8 @@ use Rattle.volume_model.specs.Space.{end_of, has_track, run_of, track_at}
 use Rattle.volume_model.specs.Sound.{Slots, dscb_of, IsTrackReading, IsFormat4, IsVtoc, limit_of}
 use Rattle.vtoc_check.proofs.Overlapping.{run_facts}
 use Rattle.vtoc_core.proofs.Placed.{numbered_from}
-use Rattle.volume_model.proofs.Addresses.{address_fits, one_address, one_text_anywhere}
+use Rattle.volume_model.proofs.Addresses.{address_fits, one_address}
+use Rattle.volume_model.proofs.OneText.{SpellsOne}
 use Rattle.ckd_image.proofs.Lists.{left_nil}
 use Rattle.ckd_image.proofs.Devices.{is_address}
 use Rattle.vtoc_render.proofs.render_laws.Before.{tracks_are}
@@ -75,7 +76,7 @@ run_inside head slots pointer sliding vtoc is =
     (omega (arith, first, is.extent.not_track_0), omega (arith, same, facts.0))
 
 module _ (head : Head) (slots : Slots) (pointer : Cchhr) (sliding : Bool) (vtoc : Vtoc) (is : IsVtoc head slots pointer sliding vtoc) (sound : breaches_of vtoc ≡ [])
-    (small : head.tracks ≤ 65535) (short : length (slots (home_of head pointer)) ≤ 65536) where
+    (small : head.tracks ≤ 65535) (spells : SpellsOne (address_of (heads_of head.device) (home_of head pointer)) (slots (home_of head pointer))) where
   abbrev heads : ℕ
   heads = heads_of head.device
 
@@ -94,7 +95,7 @@ module _ (head : Head) (slots : Slots) (pointer : Cchhr) (sliding : Bool) (vtoc 
       one_address pointer.at (address_of heads home) (slots home) is.format_4.text reads.text (address_fits head.device pointer.at home_small) (is_address head.device home home_small)
       is.format_4.stands reads.stands in
       let text : is.format_4.text ≡ reads.text =
-      one_text_anywhere (address_of heads home) (slots home) is.format_4.text reads.text short
+      spells is.format_4.text reads.text
       (subst (λ (at : TrackAt). IsTrackText at (slots home) is.format_4.text) same is.format_4.stands) reads.stands in
       let found : find (λ x. x.r == pointer.r) reads.text.recs ≡ Some is.format_4.rec = ap (λ (t : Track). find (λ x. x.r == pointer.r) t.recs) (sym text) ∙ is.format_4.numbered in
       let placed = at_place home pointer.r (dscb_of is.format_4.rec) in

@@ -6,6 +6,7 @@ use Rattle.std.proofs.lemmas.List.Elements.{All-contains}
 use Rattle.std.proofs.lemmas.List.Folds.{flat_map-map}
 use Rattle.std.proofs.lemmas.List.Sorted.{list_any-IsPermutation, Contains-permutation, IsPermutation-sym, IsPermutation-trans, IsPermutation-map}
 use Rattle.ckd_image.specs.declared.head.Head.{Head}
+use Rattle.ckd_image.specs.Address.{address_of}
 use Rattle.ckd_image.specs.Device.{heads_of}
 use Rattle.free_map.specs.declared.run.Run.{Run}
 use Rattle.free_map.specs.Free.{IsFree}
@@ -38,6 +39,7 @@ use Rattle.vtoc_render.specs.Next.{runs_of_rows, used_by}
 use Rattle.vtoc_render.proofs.LoadsPlan.{nothing_more}
 use Rattle.vtoc_render.proofs.NextCounts.{one_four}
 use Rattle.vtoc_render.proofs.PlacedTracks.{IsUnused, unused_free, free_unused, none_shared}
+use Rattle.volume_model.proofs.Addresses.{one_text_anywhere}
 use Rattle.unit_change.proofs.FormatFour.{home_of, four_there}
 use Rattle.unit_change.proofs.OneOrder.{name_in, distinct_moved}
 
@@ -76,7 +78,8 @@ module _ {head : Head} {label : Label} {slots : Slots} {sliding : Bool} {loaded 
   pub four_here : Contains (records_of is.vtoc) four
   four_here =
       subst (λ (bytes : List ℕ). Contains (records_of vtoc) (record { place = vtoc.format_4; bytes = bytes })) (sym is.stands.four_is)
-      (four_there head slots label.vtoc sliding vtoc is.stands.stands is.sound small short)
+      (four_there head slots label.vtoc sliding vtoc is.stands.stands is.sound small
+      (λ a b one other. one_text_anywhere (address_of (heads_of head.device) (home_of head label.vtoc)) (slots (home_of head label.vtoc)) a b short one other))
 
   four_format : format_of is.four ≡ F4
   four_format = ap format_of is.stands.four_is ∙ is.stands.stands.format_4.format

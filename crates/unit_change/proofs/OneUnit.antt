@@ -1,5 +1,5 @@
 -- A unit on which head and label pass is online, or offline for what its VTOC breaks.
-use Rattle.std.proofs.Common.{◌≡◌, ℕ, ◌≤◌, List, [], length, false, refl, subst, ◌∙◌, arith}
+use Rattle.std.proofs.Common.{◌≡◌, ℕ, List, [], false, refl, subst, ◌∙◌}
 use Rattle.std.proofs.lemmas.Bool.{false≢true}
 use Rattle.ckd_image.specs.declared.fault.CkdFault.TheVariants.{BadHead}
 use Rattle.ckd_image.specs.declared.head.Head.{Head}
@@ -23,15 +23,12 @@ use Rattle.ckd_image.proofs.OneHead.{no_head}
 -- ---- a unit whose label stands
 
 module _ (head : List ℕ) (blocks : ℕ) (slots : Slots) (image : Head) (label : Label) (short : AreShort blocks slots) (labelled : HasLabelOf head blocks slots image label) where
-  first_short : length (slots 0) ≤ 65536
-  first_short = short 0 (omega (arith, labelled.head_stands.stands.cylinders.0))
-
   -- no other head and label stand there, and none is refused
   pub same_labelled : (i : Head) (l : Label) → HasLabelOf head blocks slots i l → (i ≡ image) × (l ≡ label)
-  same_labelled i l has = one_labelled head blocks slots first_short image i label l labelled has
+  same_labelled i l has = one_labelled head blocks slots image i label l labelled has
 
   pub no_bad_label : (why : ℕ) → ¬ HasBadLabel head blocks slots why
-  no_bad_label = labels.no_bad_label head blocks slots first_short image label labelled
+  no_bad_label = labels.no_bad_label head blocks slots image label labelled
 
   pub same_fault : (track number why : ℕ) (bad : HasBadVtoc false head blocks slots track number why) → IsCheckFault image slots label.vtoc false bad.told
   same_fault track number why bad =

@@ -51,11 +51,8 @@ module _ (head : List ℕ) (blocks : ℕ) (slots : Slots) where
   -- ---- the label fails
 
   module _ (short : AreShort blocks slots) where
-    first_short : (image : Head) → HasImage head blocks image → length (slots 0) ≤ 65536
-    first_short image has = short 0 (omega (arith, has.stands.cylinders.0))
-
     not_labelled : (why : ℕ) (image : Head) (label : Label) → HasBadLabel head blocks slots why → HasLabelOf head blocks slots image label → ⊥
-    not_labelled why image label bad stands = no_bad_label head blocks slots (first_short image stands.head_stands) image label stands why bad
+    not_labelled why image label bad stands = no_bad_label head blocks slots image label stands why bad
 
     bad_label : (why : ℕ) → HasBadLabel head blocks slots why → (model : UnitModel) → IsUnit false false own_place head blocks slots model
         → (kept : List (List ℕ)) × (model ≡ offline (whys.Label why) kept)
@@ -63,7 +60,7 @@ module _ (head : List ℕ) (blocks : ℕ) (slots : Slots) where
     bad_label why bad (offline (whys.Head other) kept) is = absurd (no_image head blocks other bad.image is.0 bad.head_stands)
     bad_label why bad (offline whys.Filling kept) is = absurd (false≢true is.0)
     bad_label why bad (offline (whys.Label other) kept) is =
-        let same : other ≡ why = one_bad_label head blocks slots (first_short bad.image bad.head_stands) other why is.1 bad in
+        let same : other ≡ why = one_bad_label head blocks slots other why is.1 bad in
         (kept, λ i. offline (whys.Label (same i)) kept)
     bad_label why bad (offline (whys.Vtoc track number other) kept) is = absurd (not_labelled why is.1.image is.1.label bad is.1.labelled)
 

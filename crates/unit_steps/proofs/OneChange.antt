@@ -94,6 +94,7 @@ to_unit {before} t gone put gone_is put_is = record {
   new = t.after;
   unit_is = t.replaces;
   changes = changes_to gone put gone_is put_is t.changes;
+  order = t.order;
 }
 
 -- what is put is this data set

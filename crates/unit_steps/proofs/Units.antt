@@ -13,7 +13,8 @@ use Rattle.volume_model.specs.Check.{records_of}
 use Rattle.volume_model.specs.Directory.{rows_of}
 use Rattle.volume_model.specs.Reads.{AreTexts, AreDataSets, IsOnline, IsUnit, fields_of_1}
 use Rattle.volume_model.specs.Sound.{Slots}
-use Rattle.volume_model.specs.Unit.{Text, DataSet, OnlineVolume, UnitModel, online, tracks_of}
+use Rattle.volume_model.proofs.NameOrder.{online_by_name}
+use Rattle.volume_model.specs.Unit.{Text, DataSet, AreByName, OnlineVolume, UnitModel, online, tracks_of}
 use Rattle.vtoc_check.specs.Slots.{AreSlotsOf}
 use Rattle.vtoc_core.specs.declared.volume.Row.{Row}
 use Rattle.vtoc_core.specs.declared.volume.Volume.{Volume}
@@ -160,6 +161,7 @@ pub record IsTaken (shape : Shape) (contents : Image) (unit : ℕ) (volume : Vol
   pub after : OnlineVolume
   pub gone : List DataSet
   pub changes : ChangesSets before after gone (sets_put (heads_of volume.device) change texts)
+  pub order : AreByName after.sets
   pub gone_are : AreGone change gone
   pub models_after : List UnitModel
   pub replaces : Replaces unit (online before) (online after) models models_after
@@ -199,6 +201,7 @@ module _ (shape : Shape) (units : List UnitState) (vtocs : List (List ℕ)) (con
     after = stood.0;
     gone = stood.1;
     changes = stood.4;
+    order = online_by_name stood.2;
     gone_are = stood.5;
     models_after = in_place.models_after;
     replaces = in_place.replaces;

@@ -12,6 +12,7 @@ use Rattle.ckd_image.specs.Track.{end_mark, track_text, IsTrackText}
 use Rattle.ckd_image.proofs.OneText.{one_text, same_two}
 use Rattle.ckd_image.proofs.Records.{same_address}
 use Rattle.volume_model.specs.Space.{track_at}
+use Rattle.volume_model.proofs.OneText.{SpellsOne}
 
 -- ---- an address as its bytes have it
 
@@ -46,6 +47,9 @@ pub one_text_anywhere : (at : TrackAt) (slot : List ℕ) (a b : Track) → lengt
 one_text_anywhere at slot a b short one other =
     one_text (as_spelled at) slot a b (omega arith, omega arith) short (spelled at slot a one) (spelled at slot b other)
 
+pub short_spells : (at : TrackAt) (slot : List ℕ) → length slot ≤ 65536 → SpellsOne at slot
+short_spells at slot short a b one other = one_text_anywhere at slot a b short one other
+
 -- ---- one address
 
 pub one_address : (a b : TrackAt) (slot : List ℕ) (s t : Track) → IsAddress a → IsAddress b → IsTrackText a slot s → IsTrackText b slot t → a ≡ b
@@ -57,12 +61,12 @@ one_address a b slot s t p q one other =
     let h0 : a.head % 256 ≡ b.head % 256 = cc in
     same_address a b (same_two _ _ p.0 q.0 c1 c0) (same_two _ _ p.1 q.1 h1 h0)
 
--- the address of a track of an image fits its bytes
 -- both devices have 15 heads
 pub track_is : (device : Device) (at : TrackAt) → at.cylinder * 15 + at.head ≡ track_at (heads_of device) at
 track_is D3390 at = refl
 track_is D3380 at = refl
 
+-- the address of a track of an image fits its bytes
 pub address_fits : (device : Device) (at : TrackAt) → track_at (heads_of device) at ≤ 65535 → IsAddress at
 address_fits D3390 at small = (omega (arith, small), omega (arith, small))
 address_fits D3380 at small = (omega (arith, small), omega (arith, small))

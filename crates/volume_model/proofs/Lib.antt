@@ -5,6 +5,7 @@ pub mod Formats
 pub mod Filters
 mod Samples
 pub mod Numbers
+pub mod OneText
 pub mod Addresses
 pub mod OneVtoc
 pub mod OneCheck

@@ -1,10 +1,8 @@
--- The blocks of a unit say one head and one label, or what fails of it.
-use Rattle.std.proofs.Common.{◌≡◌, ◌⊎◌, inl, inr, ℕ, ◌≤◌, List, Bool, length, sym, subst, ◌∙◌}
+-- The blocks of a unit say one head and one label, or what fails of it, however long the slot of track 0 is.
+use Rattle.std.proofs.Common.{◌≡◌, ◌⊎◌, inl, inr, ℕ, ◌<◌, List, Bool, sym, subst, ◌∙◌, arith}
 use Rattle.ckd_image.specs.declared.fault.CkdFault.TheVariants.{BadHead}
 use Rattle.ckd_image.specs.declared.head.Head.{Head}
 use Rattle.ckd_image.specs.declared.track.Track.{Track}
-use Rattle.ckd_image.specs.Address.{address_of}
-use Rattle.ckd_image.specs.Device.{heads_of}
 use Rattle.ckd_image.specs.Head.{IsHeadFault}
 use Rattle.ckd_image.proofs.Devices.{one_device}
 use Rattle.ckd_image.proofs.OneHead.{no_head}
@@ -15,7 +13,7 @@ use Rattle.vol_label.proofs.OneLabel.{one_label, no_label, one_label_fault}
 use Rattle.volume_model.specs.Reads.{IsOnline, HasImage, IsFirstText, HasBadLabel, HasLabelOf}
 use Rattle.volume_model.specs.Sound.{Slots}
 use Rattle.volume_model.specs.Unit.{OnlineVolume}
-use Rattle.volume_model.proofs.Addresses.{one_text_anywhere}
+use Rattle.volume_model.proofs.OneText.{few_heads, one_text_on}
 
 module _ (head : List ℕ) (blocks : ℕ) where
   pub one_image : (a b : Head) → HasImage head blocks a → HasImage head blocks b → a ≡ b
@@ -38,9 +36,9 @@ module _ (head : List ℕ) (blocks : ℕ) where
     stands = is.stands.label_stands;
   }
 
-  module _ (slots : Slots) (short : length (slots 0) ≤ 65536) where
+  module _ (slots : Slots) where
     pub one_first : (image : Head) (a b : Track) → IsFirstText image slots a → IsFirstText image slots b → a ≡ b
-    one_first image a b one other = one_text_anywhere (address_of (heads_of image.device) 0) (slots 0) a b short one other
+    one_first image a b one other = one_text_on image.device 0 (slots 0) a b one other
 
     pub one_labelled : (image i : Head) (label l : Label) → HasLabelOf head blocks slots image label → HasLabelOf head blocks slots i l → (i ≡ image) × (l ≡ label)
     one_labelled image i label l one other =
@@ -48,6 +46,10 @@ module _ (head : List ℕ) (blocks : ℕ) where
         let moved : HasLabelOf head blocks slots image l = subst (λ (h : Head). HasLabelOf head blocks slots h l) same other in
         let text : moved.text ≡ one.text = one_first image moved.text one.text moved.text_stands one.text_stands in
         (same, one_label image one.text.recs l label (subst (λ (t : Track). IsLabel image t.recs l) text moved.stands) one.stands)
+
+    -- the pointer of a label names a head of the device
+    pub low_pointer : (image : Head) (label : Label) → HasLabelOf head blocks slots image label → label.vtoc.at.head < 65535
+    low_pointer image label has = omega (arith, has.stands.text.inside.0, few_heads image.device)
 
     -- what fails of a label
     abbrev LabelFails : ℕ → Head → Type 0

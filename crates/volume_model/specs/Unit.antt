@@ -1,6 +1,9 @@
 -- What a unit is, whatever bytes say it: an online volume with its data sets, or an offline unit and why.
 use Rattle.std.specs.Prelude.{◌≡◌, ℕ, ◌+◌, ◌<◌, max, Bool, List, map}
+use Rattle.std.specs.Cmp.Lexicographic.{slice_cmp}
 use Rattle.std.specs.List.{flat_map}
+use Rattle.std.specs.List.Sorted.{IsSortedByKey}
+use Rattle.std.specs.Ordering.{nat_cmp}
 use Rattle.ckd_image.specs.declared.device.Device.{Device}
 use Rattle.ckd_image.specs.declared.track.Track.{Track}
 use Rattle.free_map.specs.declared.run.Run.{Run}
@@ -28,6 +31,10 @@ pub record DataSet : Type 0 where
   pub extents : List Extent
   pub texts : List Text
   pub threes : ℕ
+
+-- data sets in the order of their names, byte by byte
+abbrev pub AreByName : List DataSet → Type 0
+AreByName sets = IsSortedByKey (λ set. set.name) (slice_cmp nat_cmp) sets
 
 -- An online volume: its serial and device, how many of its tracks are usable, the run of its VTOC, what stands on track 0, the
 -- fields of its format 4, its data sets in the order of their names, whether its free space is unstated, whether it has an

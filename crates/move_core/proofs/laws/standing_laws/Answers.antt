@@ -21,4 +21,4 @@ pub returns-clause-committed : goal.returns-clause-committed
 returns-clause-committed c = committed_settled
 
 pub returns-clause-one : goal.returns-clause-one
-returns-clause-one c = λ facts image a b one other short. (found_is facts image a b one other short, one_meaning facts image a b one other short)
+returns-clause-one c = λ facts image a b one other. (found_is facts image a b one other, one_meaning facts image a b one other)
