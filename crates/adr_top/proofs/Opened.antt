@@ -109,6 +109,8 @@ module _ {P : Type 0} (pools : Ghosts P) (pool : P) (session : SessionView P) (p
     statements = runs.statements;
     codes = runs.leaves.codes;
     steps_are = runs.leaves.steps_are;
+    none_added = runs.leaves.none_added;
+    none_pending = runs.leaves.none_pending;
     end_is = runs.leaves.end_is;
     printed = runs.leaves.printed;
     earlier = runs.leaves.earlier;

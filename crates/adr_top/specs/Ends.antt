@@ -1,9 +1,9 @@
 -- How a run ends.
-use Rattle.std.specs.Prelude.{◌≡◌, ◌≢◌, ◌⊎◌, ℕ, ◌≤◌, List, [], ◌++◌, All, length, Option, None}
+use Rattle.std.specs.Prelude.{◌≡◌, ◌≢◌, ◌⊎◌, ℕ, ◌≤◌, List, [], ◌++◌, All, length, Option, None, IfNone}
 use Rattle.by_rules.specs.declared.day.Day.{Day}
 use Rattle.dasd_pool.specs.Count.{Rose}
 use Rattle.dasd_pool.specs.Disk.{LeavesOnly, Runs, none}
-use Rattle.dasd_pool.specs.Stream.{Appends, AppendsSome}
+use Rattle.dasd_pool.specs.Stream.{Appends}
 use Rattle.dasd_pool.specs.declared.pool.Pool.{Ghosts}
 use Rattle.dd_names.specs.declared.dd.DdName.{DdName}
 use Rattle.enq_table.specs.declared.hold.Hold.{Hold}
@@ -11,7 +11,7 @@ use Rattle.vol_label.specs.declared.serial.Serial.{Serial}
 use Rattle.volume_model.specs.Unit.{UnitModel}
 use Rattle.redo_core.specs.declared.fault.JournalFault.{JournalFault}
 use Rattle.redo_core.specs.Faults.{IsFormatFault, IsOpenFault, MayFormat, MayOpen}
-use Rattle.redo_core.specs.Opening.{IsFormatted, SparesVolumes, of_opening}
+use Rattle.redo_core.specs.Opening.{IsFormatted, MakingLeaves, SparesVolumes, of_opening}
 use Rattle.redo_core.specs.Reading.{journal_of}
 use Rattle.move_core.specs.declared.steps.Step.{Step}
 use Rattle.move_core.specs.Facts.{Facts, shown}
@@ -24,7 +24,7 @@ use Rattle.run_words.specs.declared.run.Run.TheVariants.{Jobs, Format, Make}
 use Rattle.run_lines.specs.declared.ending.RunEnd.{RunEnd}
 use Rattle.run_lines.specs.declared.ending.RunEnd.TheVariants as ends
 use Rattle.run_lines.specs.Endings.{end_of, last_line}
-use Rattle.run_lines.specs.Texts.{Tells}
+use Rattle.run_lines.specs.Texts.{AppendsLess, Tells}
 use Rattle.job_script.specs.unit_session.Sessions.{IsRefusal}
 use Rattle.dump_fmt.specs.Outs.{FilesSeen}
 use Rattle.job_script.specs.Runs.{Ran, HandsOn, HasGravest, OnlyListed, steps_of, lines_of, RunOn, HasRun, printed_text}
@@ -95,10 +95,10 @@ pub record EndsBefore {P : Type 0} (pools : Ghosts P) (given : Given) (pool : P)
 
 -- it was made, for these serials, and its line was taken, or not all of it
 pub record WasMade {P : Type 0} (pools : Ghosts P) (out : SinkSeen) (pool : P) (serials : List Serial) (room : ℕ) (left : After P) : Type 0 where
-  pub allowed : pools.tells → MayFormat (pools.shape pool) (pools.disk pool).state.contents serials
+  pub allowed : pools.tells → MayFormat (pools.shape pool) (pools.disk pool).state.contents serials room
   pub formatted : pools.tells → IsFormatted (pools.shape pool) (pools.disk pool).state serials room (pools.disk left.pool).state
   pub line : ((left.end ≡ ends.Formatted (length serials) room) × Appends out.before out.after (last_line left.end))
-      ⊎ ((left.end ≡ ends.Sink) × AppendsSome out.before out.after (last_line (ends.Formatted (length serials) room)) × Rose out.faults_before out.faults_after)
+      ⊎ ((left.end ≡ ends.Sink) × AppendsLess out.before out.after (last_line (ends.Formatted (length serials) room)) × Rose out.faults_before out.faults_after)
 
 -- it wasn't, by the first cause; a refusal leaves the pool as it was
 pub record WasNotMade {P : Type 0} (pools : Ghosts P) (out : SinkSeen) (pool : P) (serials : List Serial) (room : ℕ) (left : After P) : Type 0 where
@@ -109,12 +109,14 @@ pub record WasNotMade {P : Type 0} (pools : Ghosts P) (out : SinkSeen) (pool : P
   pub unwritten : pools.tells → left.end ≢ ends.Pool → Runs none (pools.disk pool) (pools.disk left.pool)
   pub did : DidNothing out left
 
--- No block of a volume is written, whatever moment a stop comes at.
+-- No block of a volume is written, whatever moment a stop comes at, and of the journal's own none so that a registration comes to stand over an open gate.
 pub record Formats {P : Type 0} (pools : Ghosts P) (out : SinkSeen) (pool : P) (serials : List Serial) (room : ℕ) (left : After P) : Type 0 where
   pub no_steps : left.steps ≡ []
   pub none_pending : left.pending ≡ None
   pub shape : pools.shape left.pool ≡ pools.shape pool
+  pub later : pools.faults pool ≤ pools.faults left.pool
   pub spares : pools.tells → LeavesOnly (pools.disk pool) (pools.disk left.pool) (SparesVolumes (pools.shape pool) (pools.disk pool).state)
+  pub registers_last : pools.tells → LeavesOnly (pools.disk pool) (pools.disk left.pool) (MakingLeaves (pools.shape pool) (pools.disk pool).state)
   pub made : WasMade pools out pool serials room left ⊎ WasNotMade pools out pool serials room left
 
 pub record EndsFormat {P : Type 0} (pools : Ghosts P) (given : Given) (pool : P) (left : After P) : Type 0 where
@@ -144,7 +146,8 @@ pub record OpensNot {P : Type 0} (pools : Ghosts P) (out : SinkSeen) (pool : P) 
   pub did : DidNothing out left
 
 -- The journal was opened, and the text ran: statements of its plan by their codes, each as it means on the units for which the pool stood, and none began before the lines of
--- all before it were taken. Where they all only list, or no step was done and none is under way, no more than the opening was written.
+-- all before it were taken. Only one that was cut adds steps of its own, and only where the pool failed one is under way. Where they all only list, or no step was done and
+-- none is under way, no more than the opening was written.
 pub record RunsText {P : Type 0} (pools : Ghosts P) (files : FilesSeen) (out : SinkSeen) (pool : P) (serials : List Serial) (table : List Hold) (today : Day) (plan : Plan) (left : After P) : Type 0 where
   pub opened : pools.tells → MayOpen (pools.shape pool) (pools.disk pool).state.contents serials
   pub ran : List Ran
@@ -154,6 +157,8 @@ pub record RunsText {P : Type 0} (pools : Ghosts P) (files : FilesSeen) (out : S
   pub statements : HasRun plan ran under wanted
   pub codes : All HasGravest ran
   pub steps_are : left.steps ≡ steps_of ran ++ added
+  pub none_added : IfNone under (added ≡ [])
+  pub none_pending : left.end ≢ ends.Pool → left.pending ≡ None
   pub end_is : IsEndOf wanted left.end
   pub printed : Prints out left.end (printed_text ran under wanted)
   pub earlier : Took out (lines_of (ended_before ran under))

@@ -27,12 +27,12 @@ pub record Texts : Type 0 where
   pub held : List ℕ
   pub sysin : List ℕ
 
--- the held text is the source's, or empty where the words name no file for it
+-- the held text is what its source had to give, or empty where the words name no file for it
 abbrev pub IsHeldText : Option (List ℕ) → SourceSeen → List ℕ → Type 0
 IsHeldText None held text = text ≡ []
 IsHeldText (Some path) held text = IsTextOf held.before text
 
--- both texts were read to their ends
+-- both texts are what their sources had to give, and no longer than a text may be
 pub record AreRead (path : Option (List ℕ)) (held sysin : SourceSeen) (texts : Texts) : Type 0 where
   pub held_is : IsHeldText path held texts.held
   pub held_short : length texts.held ≤ most_bytes
@@ -63,15 +63,20 @@ IsLong source = IfSome source.before (λ bytes. most_bytes < length bytes)
 abbrev pub HasFailed : SourceSeen → Type 0
 HasFailed source = Rose source.faults_before source.faults_after
 
--- a held text was read that isn't too long
+-- a source isn't called
+pub record IsUncalled (source : SourceSeen) : Type 0 where
+  pub left : source.after ≡ source.before
+  pub faults : source.faults_after ≡ source.faults_before
+
+-- the held text is what its source had to give, and no longer than a text may be
 abbrev pub IsHeldRead : Option (List ℕ) → SourceSeen → Type 0
 IsHeldRead path held = (text : List ℕ) × IsHeldText path held text × (length text ≤ most_bytes)
 
--- The first of these ends a run whose words are right: the held text isn't read, then SYSIN isn't read, then the held text isn't of its grammar, then SYSIN
--- isn't, then a command of it isn't built. Or memory ran out.
+-- The first of these ends a run whose words are right: the held text isn't read, and then SYSIN isn't called; SYSIN isn't read; the held text isn't of its grammar;
+-- SYSIN isn't; a command of it isn't built. Or memory ran out.
 abbrev pub StopsTexts : Option (List ℕ) → SourceSeen → SourceSeen → RunEnd → Type 0
-StopsTexts path held sysin (ends.Source inputs.Held) = (path ≢ None) × HasFailed held
-StopsTexts path held sysin (ends.Long inputs.Held) = (path ≢ None) × IsLong held
+StopsTexts path held sysin (ends.Source inputs.Held) = (path ≢ None) × HasFailed held × IsUncalled sysin
+StopsTexts path held sysin (ends.Long inputs.Held) = (path ≢ None) × IsLong held × IsUncalled sysin
 StopsTexts path held sysin (ends.Source inputs.Sysin) = IsHeldRead path held × HasFailed sysin
 StopsTexts path held sysin (ends.Long inputs.Sysin) = IsHeldRead path held × IsLong sysin
 StopsTexts path held sysin (ends.Wrong inputs.Held line column) =
@@ -85,11 +90,6 @@ StopsTexts path held sysin ends.Memory = Unit {0}
 StopsTexts path held sysin _ = ⊥
 
 -- ---- how much is read
-
--- a source isn't called
-pub record IsUncalled (source : SourceSeen) : Type 0 where
-  pub left : source.after ≡ source.before
-  pub faults : source.faults_after ≡ source.faults_before
 
 -- Of a text at most one byte more is taken than it may have, unless its source failed. The held text's source isn't called where the words name no file.
 pub record TakesTexts (path : Option (List ℕ)) (held sysin : SourceSeen) : Type 0 where

@@ -1,11 +1,11 @@
 -- A run between two statements: what ran so far, and what goes on from there.
-use Rattle.std.proofs.Common.{◌≡◌, ◌≢◌, ◌⊎◌, inl, inr, ℕ, ◌≤◌, List, [], ◌∷◌, ◌++◌, All, Option, Some, None, Err, refl, sym, ap, subst, ◌∙◌, append_assoc, arith}
+use Rattle.std.proofs.Common.{◌≡◌, ◌≢◌, ◌⊎◌, inl, inr, ℕ, ◌≤◌, List, [], ◌∷◌, ◌++◌, All, Option, Some, None, Err, refl, sym, ap, subst, ◌∙◌, append_assoc, arith, length, length-append}
 use Rattle.std.specs.Prelude.{IfSome}
 use Rattle.std.proofs.lemmas.List.{append-nil}
 use Rattle.std.proofs.lemmas.List.Elements.{All-nil, All-cons, All-head, All-tail, All-append}
 use Rattle.by_rules.specs.declared.day.Day.{Day}
 use Rattle.dasd_pool.specs.Count.{Rose}
-use Rattle.dasd_pool.specs.Stream.{Appends, AppendsSome}
+use Rattle.dasd_pool.specs.Stream.{Appends}
 use Rattle.dasd_pool.specs.declared.pool.Pool.{Ghosts}
 use Rattle.dump_fmt.specs.declared.outs.OutDd.{OutDd}
 use Rattle.dump_fmt.specs.Outs.{OutSeen, InSeen, Files, FilesSeen}
@@ -20,7 +20,8 @@ use Rattle.move_core.proofs.Running.{run_idle, run_then}
 use Rattle.run_lines.specs.declared.ending.RunEnd.{RunEnd}
 use Rattle.run_lines.specs.declared.ending.RunEnd.TheVariants as ends
 use Rattle.run_lines.specs.Endings.{last_line}
-use Rattle.run_lines.proofs.Appending.{appends_none}
+use Rattle.run_lines.specs.Texts.{AppendsLess}
+use Rattle.run_lines.proofs.Appending.{appends_none, less_some, appends_less_then}
 use Rattle.sysin_lang.specs.declared.command.Statement.{Statement}
 use Rattle.sysin_lang.specs.Flow.{Codes, Plan, Command, End, zero_codes, next_of, answered, Leaves}
 use Rattle.job_ops.specs.unit_session.Sessions.{SessionView}
@@ -47,6 +48,10 @@ all_front Holds (x ∷ xs) ys all = All-cons Holds x xs (All-head Holds x (xs ++
 all_back : {X : Type 0} (Holds : X → Type 0) (xs ys : List X) → All Holds (xs ++ ys) → All Holds ys
 all_back Holds [] ys all = all
 all_back Holds (x ∷ xs) ys all = all_back Holds xs ys (All-tail Holds x (xs ++ ys) all)
+
+-- a list with an element behind others isn't empty
+not_none : (ran : List Ran) (one : Ran) → (ran ++ (one ∷ [])) ≢ []
+not_none ran one none = absurd (omega (arith, length-append ran (one ∷ []), ap length none))
 
 -- these units were left, and the pool is settled for them
 abbrev pub SettledAfter : {P : Type 0} → Ghosts P → SessionView P → SessionView P → Setting → List Ran → List UnitModel → Type 0
@@ -139,7 +144,7 @@ module _ {P B : Type 0} {Own : B → Type 0} (pools : Ghosts P) (seen : OutDd B 
           goes.quiet (All-head IsListing (ran_of statement goes.added goes.said goes.files) [] (all_back IsListing so_far.ran (ran_of statement goes.added goes.said goes.files ∷ []) listed))
           ∙ so_far.quiet (all_front IsListing so_far.ran (ran_of statement goes.added goes.said goes.files ∷ []) listed);
       handed = hand_join so_far.ran (ran_of statement goes.added goes.said goes.files ∷ []) files_first (seen_files seen now.outs.items ins_now) (seen_files seen next.outs.items ins_new)
-          so_far.handed (goes.found, goes.left);
+          so_far.handed (goes.found, goes.kept, goes.left);
       units = units_more;
     }
       where
@@ -192,7 +197,9 @@ module _ {P B : Type 0} {Own : B → Type 0} (pools : Ghosts P) (seen : OutDd B 
         ])
       ];
       whole = λ code is. join_text (leaves.printed.whole code is);
-      sink = λ is. join_rose (leaves.printed.sink is);
+      sink = λ is.
+          let sink = leaves.printed.sink is in
+          (join_rose sink.0, appends_less_then taken_first taken_now taken_new (lines_of so_far.ran) (printed_text ran under wanted) so_far.taken sink.1);
       later = omega (arith, so_far.later, leaves.printed.later);
     }
 
@@ -208,6 +215,8 @@ module _ {P B : Type 0} {Own : B → Type 0} (pools : Ghosts P) (seen : OutDd B 
       added = leaves.added;
       codes = All-append HasGravest so_far.ran ran so_far.gravest leaves.codes;
       steps_are = leaves.steps_are ∙ ap (λ (l : List Step). l ++ (steps_of ran ++ leaves.added)) so_far.steps_are ∙ steps_all;
+      none_added = leaves.none_added;
+      none_pending = leaves.none_pending;
       end_is = leaves.end_is;
       printed = subst (λ (l : List ℕ). Prints whole_out after.end l) text_all prints_all;
       earlier = took_then taken_first taken_now taken_new faults_first faults_now faults_new so_far.ran ran under so_far.taken leaves.earlier;
@@ -217,6 +226,7 @@ module _ {P B : Type 0} {Own : B → Type 0} (pools : Ghosts P) (seen : OutDd B 
       cut = leaves.cut;
       handed = record {
         found = hand_join so_far.ran ran files_first (seen_files seen now.outs.items ins_now) leaves.cut.before so_far.handed leaves.handed.found;
+        kept = leaves.handed.kept;
         left = leaves.handed.left;
         same = leaves.handed.same;
       };
@@ -237,7 +247,7 @@ module _ {P B : Type 0} {Own : B → Type 0} (pools : Ghosts P) (seen : OutDd B 
       | inl ended ↦
           rw (ended.0.2, ended.1)
           (elim ended.2 [
-            | inl sink ↦ rw sink (refl, front_of ended.0.0 ended.0.1)
+            | inl sink ↦ rw sink (refl, not_none so_far.ran ended.0.0, front_of ended.0.0 ended.0.1)
             | inr memory ↦ rw memory (front_of ended.0.0 ended.0.1)
           ])
       | inr not ↦ elim not [
@@ -267,7 +277,7 @@ module _ {P B : Type 0} {Own : B → Type 0} (pools : Ghosts P) (seen : OutDd B 
 
   module _ {then' : Codes} (end_is : next_of left codes ≡ End then') (code : ℕ) (code_is : code ≡ then'.maxcc) (taken_new : Option (List ℕ)) (faults_new : ℕ) (result : RunEnd)
       (closes : ((result ≡ ends.Whole code) × Appends taken_now taken_new (last_line (ends.Whole code)))
-      ⊎ ((result ≡ ends.Sink) × AppendsSome taken_now taken_new (last_line (ends.Whole code)) × Rose faults_now faults_new))
+      ⊎ ((result ≡ ends.Sink) × AppendsLess taken_now taken_new (last_line (ends.Whole code)) × Rose faults_now faults_new))
       (later : faults_now ≤ faults_new) where
     abbrev now_out : SinkSeen
     now_out = record { before = taken_now; after = taken_new; faults_before = faults_now; faults_after = faults_new }
@@ -281,6 +291,8 @@ module _ {P B : Type 0} {Own : B → Type 0} (pools : Ghosts P) (seen : OutDd B 
       added = [];
       codes = All-nil HasGravest;
       steps_are = sym (append-nil now.steps.items);
+      none_added = refl;
+      none_pending = λ apart. refl;
       end_is = elim closes [
         | inl all ↦ inl all.0
         | inr sink ↦ inr (sink.0, (code, refl))
@@ -294,16 +306,16 @@ module _ {P B : Type 0} {Own : B → Type 0} (pools : Ghosts P) (seen : OutDd B 
           later = later;
         }
         | inr sink ↦ record {
-          some = sink.1;
+          some = less_some taken_now taken_new (last_line (ends.Whole code)) sink.1;
           all = inr (inl sink.2);
           whole = λ other is. absurd (sink_no_whole sink.0 is);
-          sink = λ is. sink.2;
+          sink = λ is. (sink.2, sink.1);
           later = later;
         }
       ];
       earlier = elim closes [
         | inl all ↦ took_none now_out (last_line (ends.Whole code)) (all_some taken_now taken_new (last_line (ends.Whole code)) all.1)
-        | inr sink ↦ took_none now_out (last_line (ends.Whole code)) sink.1
+        | inr sink ↦ took_none now_out (last_line (ends.Whole code)) (less_some taken_now taken_new (last_line (ends.Whole code)) sink.1)
       ];
       run = run_idle (elim closes [
         | inl all ↦ whole_no_pool all.0
@@ -311,7 +323,7 @@ module _ {P B : Type 0} {Own : B → Type 0} (pools : Ghosts P) (seen : OutDd B 
       ]);
       quiet = λ listed. refl;
       cut = record { before = now_files; after = now_files };
-      handed = record { found = refl; left = refl; same = refl };
+      handed = record { found = refl; kept = tt {0}; left = refl; same = refl };
       means = λ told units settled. (units, refl, (refl, refl));
     }
 

@@ -1,5 +1,5 @@
 -- How one statement of a run ends, from how its parts do.
-use Rattle.std.proofs.Common.{◌≡◌, ◌≢◌, ◌⊎◌, inl, inr, ℕ, ◌≤◌, List, [], ◌∷◌, ◌++◌, Option, Some, None, Result, Ok, Err, refl, sym, ap, subst, ◌∙◌, arith}
+use Rattle.std.proofs.Common.{◌≡◌, ◌≢◌, ◌⊎◌, inl, inr, ℕ, ◌≤◌, List, [], ◌∷◌, ◌++◌, map, Option, Some, None, Result, Ok, Err, refl, sym, ap, subst, ◌∙◌, arith}
 use Rattle.std.proofs.lemmas.List.{append-nil}
 use Rattle.std.proofs.lemmas.List.Elements.{All-nil, All-cons, All-head}
 use Rattle.job_lines.specs.Severity.{greatest_code}
@@ -17,7 +17,7 @@ use Rattle.move_core.proofs.Running.{run_idle, run_less}
 use Rattle.run_lines.specs.declared.ending.RunEnd.{RunEnd}
 use Rattle.run_lines.specs.declared.ending.RunEnd.TheVariants as ends
 use Rattle.run_lines.specs.Endings.{last_line}
-use Rattle.run_lines.specs.Texts.{Tells}
+use Rattle.run_lines.specs.Texts.{AppendsLess, Tells}
 use Rattle.run_lines.proofs.Appending.{appends_none}
 use Rattle.sysin_lang.specs.declared.command.Statement.{Statement}
 use Rattle.job_ops.specs.unit_session.Sessions.{SessionView}
@@ -30,7 +30,7 @@ use Rattle.job_script.specs.declared.run.Between.{Between}
 use Rattle.job_script.specs.Ends.{After, after_of, SinkSeen, Prints, LeavesAfter}
 use Rattle.job_script.specs.One.{EndsReport, EndsOne, KeepsOuts, seen_files}
 use Rattle.job_script.proofs.Earlier.{took_none}
-use Rattle.job_script.specs.Runs.{Ran, HasGravest, IsListing, steps_of, started_line, lines_in, lines_of, printed_text, RunOn}
+use Rattle.job_script.specs.Runs.{Ran, HasGravest, IsListing, KeepsFiles, steps_of, started_line, lines_in, lines_of, printed_text, RunOn}
 
 -- ---- ends that differ
 
@@ -74,6 +74,13 @@ pub after_parts : {P B : Type 0} {Own : B → Type 0} (left : Left P B Own) {poo
     → left.pending ≡ pending → left.end ≡ end → record { pool = pool; steps = steps; pending = pending; end = end } ≡ after_of left
 after_parts left p s q e = λ i. record { pool = sym p i; steps = sym s i; pending = sym q i; end = sym e i }
 
+-- ---- outputs and inputs
+
+-- the same of outputs and inputs that stay
+pub keeps_files : {B X C : Type 0} {Own : B → Type 0} (seen : OutDd B Own → OutSeen) (seen_in : X → InSeen) {outs given : List (OutDd B Own)} {new old : List X} → (C → outs ≡ given)
+    → (C → new ≡ old) → C → seen_files seen outs (map seen_in new) ≡ seen_files seen given (map seen_in old)
+keeps_files seen seen_in outs ins none = λ i. seen_files seen (outs none i) (map seen_in (ins none i))
+
 -- ---- units
 
 -- a whole statement, by itself
@@ -116,6 +123,8 @@ module _ {P B : Type 0} {Own : B → Type 0} (pools : Ghosts P) (seen : OutDd B 
       added = [];
       codes = All-nil HasGravest;
       steps_are = sym (append-nil before.steps.items);
+      none_added = refl;
+      none_pending = λ apart. refl;
       end_is = inl refl;
       printed = record {
         some = (0, omega arith, nothing);
@@ -128,7 +137,7 @@ module _ {P B : Type 0} {Own : B → Type 0} (pools : Ghosts P) (seen : OutDd B 
       run = run_idle (memory_no_pool refl);
       quiet = λ listed. refl;
       cut = files_with left.outs.items;
-      handed = record { found = refl; left = refl; same = λ i. seen_files seen (outs i) (ins i) };
+      handed = record { found = refl; kept = tt {0}; left = refl; same = λ i. seen_files seen (outs i) (ins i) };
       means = λ told units settled. (units, refl, (refl, refl));
     }),
   )
@@ -141,7 +150,7 @@ module _ {P B : Type 0} {Own : B → Type 0} (pools : Ghosts P) (seen : OutDd B 
   module _ (session : SessionView P) (outs : List (OutDd B Own)) (said : Report) (steps added : List Step) (steps_are : steps ≡ before.steps.items ++ added) (facts : KeepsFacts pools before.session session)
       (run : IsRun pools.tells (shown pools before.session.pool) (shown pools session.pool) (Unit {0}) added None)
       (means : ForUnits pools before.session (λ units. MeansStatement (setting_of pools before.session held today) statement.command (files_with outs) units added said))
-      (gravest : said.code ≡ greatest_code said.messages) (quiet : OnlyReads statement.command → session.pool ≡ before.session.pool) where
+      (gravest : said.code ≡ greatest_code said.messages) (quiet : OnlyReads statement.command → session.pool ≡ before.session.pool) (kept : KeepsFiles statement (files_with outs)) where
     abbrev one : Ran
     one = record { statement = statement; steps = added; report = said; files = files_with outs }
 
@@ -164,19 +173,22 @@ module _ {P B : Type 0} {Own : B → Type 0} (pools : Ghosts P) (seen : OutDd B 
       added = [];
       codes = All-cons HasGravest one [] gravest (All-nil HasGravest);
       steps_are = steps_all;
+      none_added = refl;
+      none_pending = λ apart. refl;
       end_is = inl refl;
       printed = subst (λ (l : List ℕ). Prints out end l) (text_is end none) prints;
       earlier = took_none out (lines_in statement.number said.messages) prints.some;
       run = ended_all end apart;
       quiet = λ listed. quiet (All-head IsListing one [] listed.0);
       cut = record { before = seen_files seen outs ins_after; after = seen_files seen outs ins_after };
-      handed = record { found = (refl, refl); left = same_after (sym same); same = refl };
+      handed = record { found = (refl, kept, refl); kept = tt {0}; left = same_after (sym same); same = refl };
       means = means_one pools before.session session one (record { before = seen_files seen outs ins_after; after = seen_files seen outs ins_after }) run means;
     }
 
     by_stop : (left : Left P B Own) → left.outs.items ≡ outs → left.pool ≡ session.pool → left.steps.items ≡ steps → left.pending ≡ None
         → AppendsSome taken_before taken_after (lines_in statement.number said.messages) → faults_before ≤ faults_after
-        → ((left.end ≡ ends.Sink) × Rose faults_before faults_after) ⊎ (left.end ≡ ends.Memory) → Ends (Err left)
+        → ((left.end ≡ ends.Sink) × Rose faults_before faults_after × AppendsLess taken_before taken_after (lines_in statement.number said.messages)) ⊎ (left.end ≡ ends.Memory)
+        → Ends (Err left)
     by_stop left same pool at pending some later why = elim why [
       | inl sink ↦ (
         one ∷ [],
@@ -188,7 +200,7 @@ module _ {P B : Type 0} {Own : B → Type 0} (pools : Ghosts P) (seen : OutDd B 
               some = some;
               all = inr (inl sink.1);
               whole = λ code is. absurd (sink_no_whole refl is);
-              sink = λ is. sink.1;
+              sink = λ is. (sink.1, sink.2);
               later = later;
             })),
       )
@@ -223,6 +235,7 @@ module _ {P B : Type 0} {Own : B → Type 0} (pools : Ghosts P) (seen : OutDd B 
       files = files_with outs;
       found = refl;
       left = same_after told.5;
+      kept = kept;
       means = means;
     }
     reported (Err left) told = by_stop left told.6 told.0 told.1 told.2 told.3 told.4 told.5
@@ -240,11 +253,11 @@ module _ {P B : Type 0} {Own : B → Type 0} (pools : Ghosts P) (seen : OutDd B 
     cut_on told units settled = (units, refl, means told units settled)
 
     -- by a pool that failed
-    pub halted_in : (left : Left P B Own) (pool : P) (started : List ℕ) → left.outs.items ≡ outs → started ≡ started_line (Some statement) → left.pool ≡ pool → left.steps.items ≡ before.steps.items ++ added
+    pub halted_in : (left : Left P B Own) (pool : P) (started : List ℕ) → KeepsFiles statement (files_with outs) → left.outs.items ≡ outs → started ≡ started_line (Some statement) → left.pool ≡ pool → left.steps.items ≡ before.steps.items ++ added
         → left.pending ≡ pending → left.end ≡ ends.Pool → IsRun pools.tells (shown pools before.session.pool) (shown pools pool) ⊥ added pending
         → Tells taken_before taken_after faults_before faults_after (started ++ last_line ends.Pool) → faults_before ≤ faults_after
         → (OnlyReads statement.command → ⊥) → Ends (Err left)
-    halted_in left pool started same line at steps under end run tells later changes = (
+    halted_in left pool started kept same line at steps under end run tells later changes = (
       [],
       Some statement,
       ends.Pool,
@@ -253,6 +266,8 @@ module _ {P B : Type 0} {Own : B → Type 0} (pools : Ghosts P) (seen : OutDd B 
         added = added;
         codes = All-nil HasGravest;
         steps_are = refl;
+        none_added = tt {0};
+        none_pending = λ apart. absurd (apart refl);
         end_is = inl refl;
         printed = subst (λ (l : List ℕ). Prints out ends.Pool (l ++ last_line ends.Pool)) line (record {
           some = tells.some;
@@ -268,18 +283,19 @@ module _ {P B : Type 0} {Own : B → Type 0} (pools : Ghosts P) (seen : OutDd B 
         run = run_less (λ apart. apart refl) (λ apart. run.cause (λ never. never)) run;
         quiet = λ listed. absurd (changes listed.1);
         cut = files_with outs;
-        handed = record { found = refl; left = same_after (sym same); same = tt };
+        handed = record { found = refl; kept = kept; left = same_after (sym same); same = tt };
         means = cut_on;
       }),
     )
 
   -- by want of memory
-  pub short_in : (left : Left P B Own) (outs : List (OutDd B Own)) (session : SessionView P) (added : List Step) (started : List ℕ) → left.outs.items ≡ outs → started ≡ started_line (Some statement) → left.pool ≡ session.pool
+  pub short_in : (left : Left P B Own) (outs : List (OutDd B Own)) (session : SessionView P) (added : List Step) (started : List ℕ) → KeepsFiles statement (files_with outs)
+      → left.outs.items ≡ outs → started ≡ started_line (Some statement) → left.pool ≡ session.pool
       → left.steps.items ≡ before.steps.items ++ added → left.pending ≡ None → left.end ≡ ends.Memory
       → IsRun pools.tells (shown pools before.session.pool) (shown pools session.pool) (Unit {0}) added None
       → ForUnits pools before.session (λ units. IsCutCommand (setting_of pools before.session held today) statement.command (files_with outs) units added None)
       → AppendsSome taken_before taken_after started → faults_before ≤ faults_after → (OnlyReads statement.command → session.pool ≡ before.session.pool) → Ends (Err left)
-  short_in left outs session added started same line at steps under end run means some later quiet = (
+  short_in left outs session added started kept same line at steps under end run means some later quiet = (
     [],
     Some statement,
     ends.Memory,
@@ -288,6 +304,8 @@ module _ {P B : Type 0} {Own : B → Type 0} (pools : Ghosts P) (seen : OutDd B 
       added = added;
       codes = All-nil HasGravest;
       steps_are = refl;
+      none_added = tt {0};
+      none_pending = λ apart. refl;
       end_is = inl refl;
       printed = subst (λ (l : List ℕ). Prints out ends.Memory l) (line ∙ sym (append-nil (started_line (Some statement)))) (record {
         some = some;
@@ -300,7 +318,7 @@ module _ {P B : Type 0} {Own : B → Type 0} (pools : Ghosts P) (seen : OutDd B 
       run = run_less (λ apart. tt {0}) (λ not. absurd (not (memory_no_pool refl))) run;
       quiet = λ listed. quiet listed.1;
       cut = files_with outs;
-      handed = record { found = refl; left = same_after (sym same); same = tt };
+      handed = record { found = refl; kept = kept; left = same_after (sym same); same = tt };
       means = cut_on outs added None means;
     }),
   )

@@ -1,11 +1,12 @@
 -- Lines that are written one after the other.
-use Rattle.std.proofs.Common.{◌≡◌, ℕ, ◌+◌, ◌<◌, ◌≤◌, List, ◌++◌, take, drop, length, get_or, Option, sym, ap, subst, ◌∙◌, append_assoc}
-use Rattle.std.proofs.lemmas.List.{drop_more, drop_all, take-append-le}
+use Rattle.std.proofs.Common.{◌≡◌, ℕ, ◌+◌, ◌<◌, ◌≤◌, List, ◌++◌, take, drop, length, get_or, Option, sym, ap, subst, ◌∙◌, append_assoc, arith, length-append}
+use Rattle.std.proofs.lemmas.List.{drop_more, drop_all, take-append-le, length-drop}
 use Rattle.dasd_pool.specs.Stream.{Appends, AppendsSome}
 use Rattle.job_lines.specs.declared.message.Message.{Message}
 use Rattle.job_lines.specs.Lines.{line}
 use Rattle.job_script.specs.Runs.{lines_in}
-use Rattle.run_lines.proofs.Appending.{HasWritten, written_more, written_some, written_all}
+use Rattle.run_lines.specs.Texts.{AppendsLess}
+use Rattle.run_lines.proofs.Appending.{HasWritten, written_more, written_some, written_less, written_all}
 use Rattle.dasd_pool.proofs.Streams.{appends_then}
 
 -- the next piece of a text was written
@@ -22,6 +23,13 @@ written_front old mid new text piece rest h q =
     let P : List ℕ → Type 0 = λ some. Appends mid new some in
     let front : Appends mid new (take q.0 (piece ++ rest)) = subst P (sym (take-append-le q.0 piece rest q.1)) q.2 in
     written_some old new text (drop q.0 (piece ++ rest)) (written_more old mid new text (piece ++ rest) q.0 h front)
+
+-- and not all of it was
+pub written_front_less : (old mid new : Option (List ℕ)) (text piece rest : List ℕ) → HasWritten old mid text (piece ++ rest) → AppendsLess mid new piece → AppendsLess old new text
+written_front_less old mid new text piece rest h (count, less, taken) =
+    let front : Appends mid new (take count (piece ++ rest)) = subst (λ (some : List ℕ). Appends mid new some) (sym (take-append-le count piece rest (omega (arith, less)))) taken in
+    written_less old new text (drop count (piece ++ rest)) (written_more old mid new text (piece ++ rest) count h front)
+    (omega (arith, less, length-append piece rest, length-drop count (piece ++ rest)))
 
 -- from a message on, its line comes first
 pub next_line : (statement : ℕ) (said : List Message) (place : ℕ) (default : Message) → place < length said
@@ -43,6 +51,12 @@ pub lines_front : (old mid new : Option (List ℕ)) (statement : ℕ) (said : Li
 lines_front old mid new statement said place default lt h q =
     let P : List ℕ → Type 0 = λ left. HasWritten old mid (lines_in statement said) left in
     written_front old mid new (lines_in statement said) (line statement (get_or said place default)) (lines_in statement (drop (place + 1) said)) (subst P (next_line statement said place default lt) h) q
+
+pub lines_less : (old mid new : Option (List ℕ)) (statement : ℕ) (said : List Message) (place : ℕ) (default : Message) → place < length said
+    → HasLines old mid statement said place → AppendsLess mid new (line statement (get_or said place default)) → AppendsLess old new (lines_in statement said)
+lines_less old mid new statement said place default lt h q =
+    let P : List ℕ → Type 0 = λ left. HasWritten old mid (lines_in statement said) left in
+    written_front_less old mid new (lines_in statement said) (line statement (get_or said place default)) (lines_in statement (drop (place + 1) said)) (subst P (next_line statement said place default lt) h) q
 
 pub lines_all : (old new : Option (List ℕ)) (statement : ℕ) (said : List Message) (place : ℕ) → length said ≤ place → HasLines old new statement said place → Appends old new (lines_in statement said)
 lines_all old new statement said place le h =

@@ -29,7 +29,7 @@ follow_join setting (one ∷ ran) more units between after first second =
 
 pub hand_join : (ran more : List Ran) (first between last : Files) → HandOn first ran between → HandOn between more last → HandOn first (ran ++ more) last
 hand_join [] more first between last same second = subst (λ (f : Files). HandOn f more last) same second
-hand_join (one ∷ ran) more first between last handed second = (handed.0, hand_join ran more one.files.after between last handed.1 second)
+hand_join (one ∷ ran) more first between last handed second = (handed.0, handed.1, hand_join ran more one.files.after between last handed.2 second)
 
 pub leaves_join : (plan : Plan) (codes : Codes) (ran more : List (Statement × ℕ)) (between : Plan) (then' : Codes) (left : Plan) (after : Codes) → Leaves plan codes ran between then'
     → Leaves between then' more left after → Leaves plan codes (ran ++ more) left after

@@ -1,5 +1,5 @@
 -- How a run of a script over a session ends.
-use Rattle.std.specs.Prelude.{◌≡◌, ◌≢◌, ◌⊎◌, ℕ, ◌≤◌, ◌-◌, List, [], ◌++◌, All, length, take, Option, Some, None}
+use Rattle.std.specs.Prelude.{◌≡◌, ◌≢◌, ◌⊎◌, ℕ, ◌≤◌, ◌-◌, List, [], ◌++◌, All, length, take, Option, Some, None, IfNone}
 use Rattle.by_rules.specs.declared.day.Day.{Day}
 use Rattle.dasd_pool.specs.Count.{Rose}
 use Rattle.dasd_pool.specs.Stream.{Appends, AppendsSome}
@@ -16,6 +16,7 @@ use Rattle.dump_fmt.specs.Outs.{FilesSeen}
 use Rattle.job_ops.specs.Setting.{setting_of}
 use Rattle.run_lines.specs.declared.ending.RunEnd.{RunEnd}
 use Rattle.run_lines.specs.declared.ending.RunEnd.TheVariants as ends
+use Rattle.run_lines.specs.Texts.{AppendsLess}
 use Rattle.job_script.specs.declared.left.Left.{Left}
 use Rattle.job_script.specs.Runs.{Ran, HandsOn, HasGravest, OnlyListed, steps_of, lines_of, RunOn, HasRun, printed_text}
 
@@ -40,12 +41,13 @@ pub record SinkSeen : Type 0 where
 abbrev pub IsEndOf : RunEnd → RunEnd → Type 0
 IsEndOf wanted end = (end ≡ wanted) ⊎ ((end ≡ ends.Sink) × ((code : ℕ) × (wanted ≡ ends.Whole code)))
 
--- A front of a text was taken: all of it, unless the sink's count rose or memory ran out; and in any case where all statements ran.
+-- A front of a text was taken: all of it, unless the sink's count rose or memory ran out; and in any case where all statements ran. Where the run ends with the sink,
+-- its count rose, and it didn't take all.
 pub record Prints (out : SinkSeen) (end : RunEnd) (text : List ℕ) : Type 0 where
   pub some : AppendsSome out.before out.after text
   pub all : Appends out.before out.after text ⊎ (Rose out.faults_before out.faults_after ⊎ (end ≡ ends.Memory))
   pub whole : (code : ℕ) → end ≡ ends.Whole code → Appends out.before out.after text
-  pub sink : end ≡ ends.Sink → Rose out.faults_before out.faults_after
+  pub sink : end ≡ ends.Sink → Rose out.faults_before out.faults_after × AppendsLess out.before out.after text
   pub later : out.faults_before ≤ out.faults_after
 
 -- the sink took this text first, as far as it tells
@@ -58,12 +60,14 @@ ended_before ran (Some statement) = ran
 ended_before ran None = take (length ran - 1) ran
 
 -- What a run leaves that began on a session, after statements that ended and one that was cut, if one was: none of them began before the lines of all before it were
--- taken. The steps of the run before are given.
+-- taken. Only one that was cut adds steps of its own, and only where the pool failed one is under way. The steps of the run before are given.
 pub record LeavesAfter {P : Type 0} (pools : Ghosts P) (session : SessionView P) (held : List Hold) (today : Day) (before : List Step) (files : FilesSeen) (out : SinkSeen)
     (ran : List Ran) (under : Option Statement) (wanted : RunEnd) (left : After P) : Type 0 where
   pub added : List Step
   pub codes : All HasGravest ran
   pub steps_are : left.steps ≡ before ++ (steps_of ran ++ added)
+  pub none_added : IfNone under (added ≡ [])
+  pub none_pending : left.end ≢ ends.Pool → left.pending ≡ None
   pub end_is : IsEndOf wanted left.end
   pub printed : Prints out left.end (printed_text ran under wanted)
   pub earlier : Took out (lines_of (ended_before ran under))

@@ -19,10 +19,11 @@ use Rattle.job_ops.specs.Meaning.{MeansStatement}
 use Rattle.job_ops.specs.Setting.{setting_of}
 use Rattle.run_lines.specs.declared.ending.RunEnd.{RunEnd}
 use Rattle.run_lines.specs.declared.ending.RunEnd.TheVariants as ends
+use Rattle.run_lines.specs.Texts.{AppendsLess}
 use Rattle.job_script.specs.declared.left.Left.{Left}
 use Rattle.job_script.specs.declared.run.Between.{Between}
 use Rattle.job_script.specs.Ends.{LeavesAfter, after_of}
-use Rattle.job_script.specs.Runs.{Ran, lines_in}
+use Rattle.job_script.specs.Runs.{Ran, KeepsFiles, lines_in}
 
 -- the outputs and inputs of a run, as contracts see them
 abbrev pub seen_files : {B : Type 0} {Own : B → Type 0} → (OutDd B Own → OutSeen) → List (OutDd B Own) → List InSeen → Files
@@ -37,7 +38,8 @@ EndsReport before after faults_before faults_after statement said session outs s
 EndsReport before after faults_before faults_after statement said session outs steps (Err left) =
     (left.pool ≡ session.pool) × (left.steps.items ≡ steps) × (left.pending ≡ None)
     × AppendsSome before after (lines_in statement.number said.messages) × (faults_before ≤ faults_after)
-    × (((left.end ≡ ends.Sink) × Rose faults_before faults_after) ⊎ (left.end ≡ ends.Memory)) × (left.outs.items ≡ outs)
+    × (((left.end ≡ ends.Sink) × Rose faults_before faults_after × AppendsLess before after (lines_in statement.number said.messages)) ⊎ (left.end ≡ ends.Memory))
+    × (left.outs.items ≡ outs)
 
 -- The statement ended, with these steps and this report, and the run goes on.
 pub record GoesOn {P B : Type 0} {Own : B → Type 0} (pools : Ghosts P) (seen : OutDd B Own → OutSeen) (ins_before ins_after : List InSeen) (before : Between P B Own) (statement : Statement)
@@ -55,6 +57,7 @@ pub record GoesOn {P B : Type 0} {Own : B → Type 0} (pools : Ghosts P) (seen :
   pub files : FilesSeen
   pub found : files.before ≡ seen_files seen before.outs.items ins_before
   pub left : seen_files seen next.outs.items ins_after ≡ files.after
+  pub kept : KeepsFiles statement files
   pub means : ForUnits pools before.session (λ units. MeansStatement (setting_of pools before.session held today) statement.command files units added said)
 
 -- what a run is to be stopped by within a statement: the statement ended, or it was cut, or it didn't begin

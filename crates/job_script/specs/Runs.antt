@@ -1,5 +1,5 @@
 -- What a run of a script does to units, and what it prints.
-use Rattle.std.specs.Prelude.{◌≡◌, ℕ, List, [], ◌∷◌, ◌++◌, All, map, Option, Some, None, IfSome, IfNone}
+use Rattle.std.specs.Prelude.{◌≡◌, ◌≢◌, ℕ, List, [], ◌∷◌, ◌++◌, All, map, Option, Some, None, IfSome, IfNone}
 use Rattle.std.specs.List.{flat_map}
 use Rattle.volume_model.specs.Unit.{UnitModel}
 use Rattle.dump_fmt.specs.Outs.{Files, FilesSeen}
@@ -13,7 +13,7 @@ use Rattle.job_lines.specs.Lines.{line}
 use Rattle.job_lines.specs.Severity.{greatest_code}
 use Rattle.job_ops.specs.declared.report.Report.{Report}
 use Rattle.job_ops.specs.Ends.{OnlyReads}
-use Rattle.job_ops.specs.Meaning.{verb_of, MeansStatement, IsCutCommand}
+use Rattle.job_ops.specs.Meaning.{verb_of, CallsNoFile, MeansStatement, IsCutCommand}
 use Rattle.job_ops.specs.Setting.{Setting}
 use Rattle.run_lines.specs.declared.ending.RunEnd.{RunEnd}
 use Rattle.run_lines.specs.declared.ending.RunEnd.TheVariants as ends
@@ -30,10 +30,11 @@ pub record Ran : Type 0 where
 abbrev pub HasGravest : Ran → Type 0
 HasGravest one = one.report.code ≡ greatest_code one.report.messages
 
--- statements that ran, and one that was cut, if one was, change nothing
+-- it only reads
 abbrev pub IsListing : Ran → Type 0
 IsListing one = OnlyReads one.statement.command
 
+-- statements that ran, and one that was cut, if one was, change nothing
 abbrev pub OnlyListed : List Ran → Option Statement → Type 0
 OnlyListed ran under = All IsListing ran × IfSome under (λ statement. OnlyReads statement.command)
 
@@ -61,14 +62,19 @@ RunOn setting ran under files added pending units = (after : List UnitModel) × 
 
 -- ---- what became of outputs and inputs
 
+-- a statement that calls none leaves them as it found them
+abbrev pub KeepsFiles : Statement → FilesSeen → Type 0
+KeepsFiles statement files = CallsNoFile statement.command → files.after ≡ files.before
+
 -- each statement finds them as the one before it left them
 abbrev pub HandOn : Files → List Ran → Files → Type 0
 HandOn first [] last = last ≡ first
-HandOn first (one ∷ more) last = (one.files.before ≡ first) × HandOn one.files.after more last
+HandOn first (one ∷ more) last = (one.files.before ≡ first) × KeepsFiles one.statement one.files × HandOn one.files.after more last
 
 -- So does the one that was cut, if one was, and the run leaves them as it left them.
 pub record HandsOn (run : FilesSeen) (ran : List Ran) (under : Option Statement) (cut : FilesSeen) : Type 0 where
   pub found : HandOn run.before ran cut.before
+  pub kept : IfSome under (λ statement. KeepsFiles statement cut)
   pub left : cut.after ≡ run.after
   pub same : IfNone under (cut.after ≡ cut.before)
 
@@ -92,7 +98,7 @@ abbrev pub HasRun : Plan → List Ran → Option Statement → RunEnd → Type 0
 HasRun plan ran under (ends.Whole code) = (under ≡ None) × ((codes : Codes) × IsRun plan (answers_of ran) codes × (code ≡ codes.maxcc))
 HasRun plan ran under ends.Pool = ((statement : Statement) × (under ≡ Some statement)) × IsFront plan ran under
 HasRun plan ran under ends.Memory = IsFront plan ran under
-HasRun plan ran under ends.Sink = (under ≡ None) × IsFront plan ran under
+HasRun plan ran under ends.Sink = (under ≡ None) × (ran ≢ []) × IsFront plan ran under
 HasRun plan ran under _ = ⊥
 
 -- ---- what is printed

@@ -4,6 +4,7 @@ ghost use Rattle.std.specs.Prelude.{◌≡◌, ◌≤◌, OnOk, IfErr};
 ghost use Rattle.dasd_pool.specs.Count.{Rose};
 ghost use Rattle.dasd_pool.specs.Stream.{Appends, AppendsSome};
 ghost use Rattle.job_lines.specs.Lines.{line};
+ghost use Rattle.run_lines.specs.Texts.{AppendsLess};
 ghost use Rattle.job_script.specs.Runs.{lines_in};
 ghost use Rattle.job_script.specs.declared.lines.LinesFault.TheVariants as faults;
 
@@ -48,6 +49,7 @@ fn write_message<O: Sink>(
 ) -> Result<(), LinesFault>
     ensures written { OnOk result (Appends (O.taken out.old) (O.taken out.new) (line statement message.now)) }
     ensures some { AppendsSome (O.taken out.old) (O.taken out.new) (line statement message.now) }
+    ensures less { IfErr result (λ fault. fault ≡ LinesFault.Sink → AppendsLess (O.taken out.old) (O.taken out.new) (line statement message.now)) }
     ensures cause { IfErr result (λ fault. fault ≡ LinesFault.Sink → Rose (O.faults out.old) (O.faults out.new)) }
     ensures later { O.faults out.old ≤ O.faults out.new }
 {
@@ -64,6 +66,7 @@ pub fn write_messages<O: Sink>(
 ) -> Result<(), LinesFault>
     ensures written { OnOk result (Appends (O.taken out.old) (O.taken out.new) (lines_in statement messages.now)) }
     ensures some { AppendsSome (O.taken out.old) (O.taken out.new) (lines_in statement messages.now) }
+    ensures less { IfErr result (λ fault. fault ≡ LinesFault.Sink → AppendsLess (O.taken out.old) (O.taken out.new) (lines_in statement messages.now)) }
     ensures cause { IfErr result (λ fault. fault ≡ LinesFault.Sink → Rose (O.faults out.old) (O.faults out.new)) }
     ensures later { O.faults out.old ≤ O.faults out.new }
 {

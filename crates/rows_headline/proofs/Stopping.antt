@@ -1,6 +1,7 @@
 -- What a stop of a pool in memory leaves, by what the pool tells.
-use Rattle.std.proofs.Common.{◌≡◌, ℕ, zero, suc, ◌<◌, ◌≤◌, List, [], length, take, Option, true, refl, sym, ap, subst, ◌∙◌, arith}
+use Rattle.std.proofs.Common.{◌≡◌, ◌≢◌, inl, inr, ℕ, zero, suc, ◌<◌, ◌≤◌, List, [], length, take, Option, true, refl, sym, ap, subst, ◌∙◌, arith}
 use Rattle.std.specs.Prelude.{min, slice_index_or}
+use Rattle.std.proofs.lemmas.Bool.{cases_lt}
 use Rattle.std.proofs.lemmas.List.{take_all}
 use Rattle.dasd_pool.specs.declared.calls.Call.{Call}
 use Rattle.dasd_pool.specs.declared.calls.Tear.{Tear}
@@ -14,13 +15,14 @@ use Rattle.volume_model.specs.Unit.{UnitModel}
 use Rattle.move_core.specs.declared.steps.Step.{Step}
 use Rattle.move_core.specs.Facts.{Facts}
 use Rattle.redo_core.specs.Faults.{IsAllClosed, MayOpen}
-use Rattle.move_core.specs.Runs.{IsRun, KeepsUnits, moves_of, StandsAfterMost}
+use Rattle.move_core.specs.Runs.{IsRun, KeepsUnits, moves_of, StandsAfter, StandsAfterMost}
 use Rattle.move_core.proofs.Running.{run_stops, run_closed}
 use Rattle.move_core.specs.Stands.{Stands, IsSettled}
 use Rattle.move_core.proofs.Resuming.{synced_settled, standing_may_open}
 use Rattle.move_core.proofs.SameBlocks.{stands_there, closed_there}
 use Rattle.rows_headline.specs.Stopped.{StopStands}
 use Rattle.rows_headline.specs.Again.{shown_of, IsReady, EachStopIsReady, RunsOn}
+use Rattle.rows_headline.specs.declared.stopped.Ran.{Ran}
 
 -- ---- a pool that keeps calls tells all of them
 
@@ -125,10 +127,29 @@ module _ (tear : Tear) (units : List UnitText) (calls : List Call) (left : Memor
 module _ (old new left : MemoryView) (ended : Type 0) (steps : List Step) (pending : Option Step) (run : IsRun (Unit {0}) (shown_of old) (shown_of new) ended steps pending)
     (calls : ℕ) (tear : Tear) (torn : IsTornFrom tear new.units (take calls new.calls) left.units) (whole : left ≡ fresh left.units [] new.keep)
     (shape : shape_of left.units ≡ shape_of new.units) (state : state_of left ≡ first_state left.units) where
-  pub stop_is_ready : EachStopIsReady old steps pending calls left
+  -- what the stop leaves stands after a prefix of the moves, with all steps in it where the run had returned
+  module _ (some : 0 < old.keep) (from : length old.calls ≤ calls) (facts : Facts) (units : List UnitModel) (same : facts.shape ≡ shape_of old.units)
+      (settled : IsSettled facts (state_of old) units) where
+    abbrev torn_now : Image
+    torn_now = torn_image tear new.units (take calls new.calls)
+
+    abbrev StandsThere : Type 0
+    StandsThere = (count : ℕ) × (length new.calls ≤ calls → length steps ≤ count) × StandsAfter facts units (moves_of steps pending) count torn_now
+
+    stop_leaves : StandsThere
+    stop_leaves = elim (cases_lt calls (length new.calls)) [
+      | inl less ↦
+          let front = (stop_stands old new ended steps pending run some facts units same settled calls tear).any_moment from in
+          (front.0, (λ returned. absurd (omega (arith, returned, less))), front.2)
+      | inr not_less ↦
+          let whole = (stop_stands old new ended steps pending run some facts units same settled calls tear).returned (omega (arith, not_less)) in
+          (whole.0, (λ returned. whole.1), whole.2)
+    ]
+
+  pub stop_is_ready : EachStopIsReady old steps pending new calls left
   stop_is_ready some from facts units same settled =
       let kept = some_kept old new ended steps pending run some facts units same settled in
-      let after = (stop_stands old new ended steps pending run some facts units same settled calls tear).any_moment from in
+      let after = stop_leaves some from facts units same settled in
       let there : facts.shape ≡ shape_of new.units = same ∙ sym run.shape in
       record {
         keeps = omega (arith, kept, ap (λ (v : MemoryView). v.keep) whole);
@@ -136,6 +157,7 @@ module _ (old new left : MemoryView) (ended : Type 0) (steps : List Step) (pendi
         shape = there ∙ sym shape;
         count = after.0;
         within = after.2.within;
+        all = after.1;
         units = after.2.units;
         reached = after.2.reached;
         settled = left_settled tear new.units (take calls new.calls) left torn shape state facts after.2.units there after.2.stands;
@@ -145,19 +167,22 @@ module _ (old new left : MemoryView) (ended : Type 0) (steps : List Step) (pendi
       }
 
 -- a run on it
-pub runs_on : (left new : MemoryView) (ended : Type 0) (steps : List Step) (pending : Option Step) → IsRun (Unit {0}) (shown_of left) (shown_of new) ended steps pending
-    → (facts : Facts) (first : List UnitModel) (moves : List Step) (before : Image) → IsReady facts first moves before left → RunsOn facts first moves new ended steps pending
-runs_on left new ended steps pending run facts first moves before ready =
+pub runs_on : (left : MemoryView) (earlier later : Ran) → IsRun (Unit {0}) (shown_of left) (shown_of later.pool) (later.status ≢ 16) later.steps.items later.pending
+    → (facts : Facts) (first : List UnitModel) (returned : Type 0) (before : Image) → IsReady facts first earlier.steps.items earlier.pending returned before left
+    → RunsOn facts first earlier returned later
+runs_on left earlier later run facts first returned before ready =
     let start : (disk_of left).moment ≡ 0 =
     moment_there left.keep (disk_now (marked_state left.units left.texts left.marks)) (disk_after (first_state left.units) left.calls) ready.keeps
     ∙ ap length ready.uncalled in
     record {
       count = ready.count;
       within = ready.within;
+      all = ready.all;
       units = ready.units;
       reached = ready.reached;
       any_moment = λ image since.
           run_stops run tt facts ready.shape ready.units ready.settled image
-          (subst (λ (n : ℕ). (disk_of new).left_since n image) (sym start) since);
+          (subst (λ (n : ℕ). (disk_of later.pool).left_since n image) (sym start) since);
+      behind = (run.keeps tt facts ready.shape ready.units ready.settled).returned;
       settled = (run.keeps tt facts ready.shape ready.units ready.settled).settled;
     }

@@ -4,7 +4,7 @@ ghost use Rattle.std.specs.Prelude.{◌≢◌, take, IfOk};
 ghost use Rattle.dasd_pool.specs.Tears.{IsTornFrom};
 ghost use Rattle.by_rules.specs.Day.{IsToday};
 ghost use Rattle.adr_top.specs.Asked.{AsksForJournal};
-ghost use Rattle.move_core.specs.Runs.{IsRun, moves_of};
+ghost use Rattle.move_core.specs.Runs.{IsRun};
 ghost use Rattle.rows_headline.specs.Again.{shown_of, EachStopIsReady, EachRunsOn};
 ghost use Rattle.rows_headline.specs.Stopped.{EachStopStands};
 
@@ -32,8 +32,7 @@ pub struct Stopped {
 /// What two runs leave, the second on what a stop left of the first.
 #[derive(Drop)]
 pub struct Resumed {
-    pub steps: Vec<Step>,
-    pub pending: Option<Step>,
+    pub first: Ran,
     pub second: Ran,
 }
 
@@ -88,7 +87,7 @@ pub fn run_and_stop<S: Source, H: Source, O: Sink>(
 
     // So it has what this asks for in its turn: it is settled for those units.
     ensures ready { IfOk result (λ stopped. ¬ AsksForJournal words.now
-        → EachStopIsReady pool stopped.ran.steps.items stopped.ran.pending calls stopped.left) }
+        → EachStopIsReady pool stopped.ran.steps.items stopped.ran.pending stopped.ran.pool calls stopped.left) }
 {
     let ran = run(alloc, words, sysin, held, out, pool, today);
     let left = ran.pool.crash(alloc, calls, tear)?;
@@ -110,17 +109,14 @@ pub fn run_again<S: Source, H: Source, O: Sink>(
 ) -> Result<Resumed, NoMemory>
     requires { IsToday today }
 
-    // Each premise of the second run is met by the first: there are units to which a prefix of the first run's steps leads, and from them
-    // the second goes on, whatever moment it is stopped at.
-    ensures on { IfOk result (λ resumed. ¬ AsksForJournal words.now
-        → EachRunsOn pool (moves_of resumed.steps.items resumed.pending) calls resumed.second.pool (resumed.second.status ≢ 16)
-        resumed.second.steps.items resumed.second.pending) }
+    // Each premise of the second run is met by the first: there are units to which a prefix of the first run's steps leads, all of them where
+    // it had returned, and from them the second goes on, whatever moment it is stopped at.
+    ensures on { IfOk result (λ resumed. ¬ AsksForJournal words.now → EachRunsOn pool resumed.first calls resumed.second) }
 {
     let stopped = run_and_stop(alloc, words, first, held, out, pool, today, calls, tear)?;
     let second = run(alloc, words, second, held, out, stopped.left, today);
     Ok(Resumed {
-        steps: stopped.ran.steps,
-        pending: stopped.ran.pending,
+        first: stopped.ran,
         second,
     })
 }

@@ -7,9 +7,6 @@ use ckd_image::{CkdFault, Device, TrackAt, parse_track};
 use dasd_pool::Pool;
 use std::alloc::Global;
 
-/// The heads of a cylinder of a 3390.
-const HEADS: u32 = 15;
-
 /// The slot of a track of unit 0, where the pool read it and there was memory.
 fn slot_of<P: Pool>(alloc: Global, pool: &mut P, track: u32) -> Option<Vec<u8>>
     requires unit { 0 < (P.shape pool.old).units }
@@ -40,7 +37,8 @@ fn is_looked_at(alloc: Global, track: u32, slot: &[u8]) -> bool
     requires short { length slot.now ≤ 65536 }
     ensures { IsTrue result → SaysSome 15 track slot.now }
 {
-    match parse_track(alloc, Device::D3390, TrackAt::of(track, HEADS), slot) {
+    let at = TrackAt::of(track, Device::D3390.heads());
+    match parse_track(alloc, Device::D3390, at, slot) {
         Ok(_) => true,
         Err(fault) => !is_memory(fault),
     }

@@ -173,7 +173,7 @@ module _ {P : Type 0} (pools : Ghosts P) (given : Given) (pool : P) (left : Afte
 
     ran : RunsText pools given.files given.out pool (serials_of ready.volumes) ready.table given.today ready.plan left → Ended
     ran text =
-        let taken : left.end ≢ ends.Sink = λ is. none.out (text.printed.sink is) in
+        let taken : left.end ≢ ends.Sink = λ is. none.out (text.printed.sink is).0 in
         elim text.end_is [
           | inl wanted ↦ by_wanted ready.plan text.ran text.under taken text.wanted wanted text.statements
           | inr sink ↦ absurd (taken sink.0)

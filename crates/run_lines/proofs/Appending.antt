@@ -1,10 +1,11 @@
 -- Texts that are written and read piece by piece.
-use Rattle.std.proofs.Common.{◌≡◌, ℕ, ◌+◌, ◌<◌, ◌≤◌, length, arith, length-append, List, [], ◌++◌, take, drop, Option, Some, None, Result, Ok, Err, refl, sym, ap, subst, ◌∙◌, append_assoc}
-use Rattle.std.specs.Prelude.{IfSome, IfErr}
+use Rattle.std.proofs.Common.{◌≡◌, ◌==◌, Bool, false, ℕ, ◌+◌, ◌<◌, ◌≤◌, length, arith, length-append, List, [], ◌++◌, take, drop, Option, Some, None, Result, Ok, Err, refl, sym, ap, subst, ◌∙◌, append_assoc}
+use Rattle.std.specs.Prelude.{IfSome, IfErr, OnErr}
 use Rattle.std.proofs.lemmas.List.{take-append-drop, append-nil, length-take-le}
-use Rattle.std.proofs.Math.Seq.{take-append_seam}
+use Rattle.std.proofs.lemmas.Bool.{eqb-false}
+use Rattle.std.proofs.Math.Seq.{take-append-add, take-append_seam}
 use Rattle.dasd_pool.specs.Stream.{Appends, AppendsSome, Takes, EndsOnly}
-use Rattle.run_lines.specs.Texts.{IsTextOf, TakesFew}
+use Rattle.run_lines.specs.Texts.{AppendsLess, IsTextOf, TakesFew}
 use Rattle.dasd_pool.proofs.Streams.{appends_then, takes_then}
 
 pub appends_none : (taken : Option (List ℕ)) → Appends taken taken []
@@ -38,6 +39,24 @@ written_some old new text rest h =
     let front : take (length h.done) text ≡ h.done = ap (λ (t : List ℕ). take (length h.done) t) h.parts ∙ take-append_seam h.done rest in
     let P : List ℕ → Type 0 = λ piece. Appends old new piece in
     (length h.done, omega (arith, ap length h.parts, length-append h.done rest), subst P (sym front) h.appends)
+
+-- and not all of it where something is left
+pub written_less : (old new : Option (List ℕ)) (text rest : List ℕ) → HasWritten old new text rest → 0 < length rest → AppendsLess old new text
+written_less old new text rest h more =
+    let front : take (length h.done) text ≡ h.done = ap (λ (t : List ℕ). take (length h.done) t) h.parts ∙ take-append_seam h.done rest in
+    let P : List ℕ → Type 0 = λ piece. Appends old new piece in
+    (length h.done, omega (arith, ap length h.parts, length-append h.done rest, more), subst P (sym front) h.appends)
+
+-- some of it is a front of it
+pub less_some : (old new : Option (List ℕ)) (text : List ℕ) → AppendsLess old new text → AppendsSome old new text
+less_some old new text (count, less, taken) = (count, omega (arith, less), taken)
+
+-- all of a text, and not all of the next
+pub appends_less_then : (old mid new : Option (List ℕ)) (x y : List ℕ) → Appends old mid x → AppendsLess mid new y → AppendsLess old new (x ++ y)
+appends_less_then old mid new x y p (count, less, taken) =
+    let both : x ++ take count y ≡ take (length x + count) (x ++ y) = sym (take-append-add x y count) in
+    let P : List ℕ → Type 0 = λ piece. Appends old new piece in
+    (length x + count, omega (arith, less, length-append x y), subst P both (appends_then old mid new x (take count y) p taken))
 
 -- a refused write adds nothing
 pub written_still : (old mid new : Option (List ℕ)) (text rest : List ℕ) → HasWritten old mid text rest → new ≡ mid → HasWritten old new text rest
@@ -78,3 +97,11 @@ takes_few old mid new text piece count most p q within room = (
 pub if_err : {X E : Type 0} (r : Result X E) (A : E → Type 0) (Q : Type 0) → Q → IfErr r (λ fault. A fault → Q)
 if_err (Ok x) A Q q = tt
 if_err (Err e) A Q q = λ h. q
+
+-- a text that isn't empty has bytes
+pub some_left : (rest : List ℕ) (empty : Bool) → empty ≡ (length rest == 0) → empty ≡ false → 0 < length rest
+some_left rest empty says left = let other : length rest ≡ 0 → ⊥ = eqb-false (length rest) 0 (sym says ∙ left) in omega arith
+
+pub on_err : {X E : Type 0} (r : Result X E) (Q : Type 0) → Q → OnErr r Q
+on_err (Ok x) Q q = tt
+on_err (Err e) Q q = q

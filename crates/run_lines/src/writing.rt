@@ -1,10 +1,10 @@
 //! Writing lines.
 
-ghost use Rattle.std.specs.Prelude.{◌≡◌, ◌⊎◌, ◌≤◌, ◌++◌, OnOk};
+ghost use Rattle.std.specs.Prelude.{◌≡◌, ◌⊎◌, ◌≤◌, ◌++◌, OnOk, OnErr};
 ghost use Rattle.dasd_pool.specs.Count.{Rose, HasCause};
 ghost use Rattle.dasd_pool.specs.Stream.{Appends, AppendsSome};
 ghost use Rattle.run_lines.specs.Endings.{last_line};
-ghost use Rattle.run_lines.specs.Texts.{Tells};
+ghost use Rattle.run_lines.specs.Texts.{AppendsLess, Tells};
 ghost use Rattle.run_lines.specs.declared.ending.RunEnd.TheVariants as ends;
 
 use crate::ending::RunEnd;
@@ -15,6 +15,7 @@ use dasd_pool::{Sink, WriteFault};
 pub fn write_all<O: Sink>(out: &mut O, text: &[u8]) -> Result<(), WriteFault>
     ensures written { OnOk result (Appends (O.taken out.old) (O.taken out.new) text.now) }
     ensures some { AppendsSome (O.taken out.old) (O.taken out.new) text.now }
+    ensures less { OnErr result (AppendsLess (O.taken out.old) (O.taken out.new) text.now) }
     ensures cause { HasCause (O.faults out.old) (O.faults out.new) result }
 {
     let mut rest = text;
@@ -57,7 +58,7 @@ pub fn tell_behind<O: Sink>(out: &mut O, line: &[u8], end: RunEnd)
 /// Writes the last line of a run that did what it was asked for, and says how it ended: so, or with a sink that failed.
 pub fn close<O: Sink>(out: &mut O, end: RunEnd) -> RunEnd
     ensures ended { ((result ≡ end) × Appends (O.taken out.old) (O.taken out.new) (last_line end))
-        ⊎ ((result ≡ ends.Sink) × AppendsSome (O.taken out.old) (O.taken out.new) (last_line end) × Rose (O.faults out.old) (O.faults out.new)) }
+        ⊎ ((result ≡ ends.Sink) × AppendsLess (O.taken out.old) (O.taken out.new) (last_line end) × Rose (O.faults out.old) (O.faults out.new)) }
     ensures later { O.faults out.old ≤ O.faults out.new }
 {
     match write_all(out, end.line().as_slice()) {

@@ -1,7 +1,8 @@
 use Rattle.std.proofs.Common.{arith}
+use Rattle.std.proofs.lemmas.Result.{err_from_is_err_and}
 use Rattle.run_lines.proofs.Appending.{written_some}
 use Rattle.job_script.specs.Runs.{lines_in}
-use Rattle.job_script.proofs.Printing.{lines_next, lines_front, lines_all}
+use Rattle.job_script.proofs.Printing.{lines_next, lines_front, lines_less, lines_all}
 use Rattle.job_script.proofs.lines.write_messages.Goals as goal
 
 pub loop-message-preserved : goal.loop-message-preserved
@@ -24,3 +25,10 @@ returns-clause-written g c =
 
 pub returns-clause-some : goal.returns-clause-some
 returns-clause-some g c = written_some (g.O.Sink.taken c.args.out.now) (g.O.Sink.taken c.loop-message.out) (lines_in c.args.statement c.args.messages.now) _ c.loop-message.invariant.written
+
+pub returns-in_err-write_message-clause-less : goal.returns-in_err-write_message-clause-less
+returns-in_err-write_message-clause-less g c =
+    let p = err_from_is_err_and c.from_residual.result c.from_residual.ensures.1 in
+    rw (p.1, p.2) (λ sink.
+    lines_less (g.O.Sink.taken c.args.out.now) (g.O.Sink.taken c.loop-message.out) _ c.args.statement c.args.messages.now c.loop-message.message-index _
+    c.loop-message-test.true c.loop-message.invariant.written (c.in_err-write_message.ensures.less sink))

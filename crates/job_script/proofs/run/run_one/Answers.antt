@@ -4,7 +4,7 @@ use Rattle.job_lines.specs.declared.message.Message.TheVariants as messages
 use Rattle.job_lines.specs.Lines.{line}
 use Rattle.job_ops.specs.unit_session.Sessions.{SessionView}
 use Rattle.job_script.proofs.Calls.{calls_none}
-use Rattle.job_script.proofs.Ones.{not_begun, reported, reported_outs, halted_in, short_in}
+use Rattle.job_script.proofs.Ones.{keeps_files, not_begun, reported, reported_outs, halted_in, short_in}
 use Rattle.job_script.proofs.run.run_one.Goals as goal
 
 pub returns-in-Err-clause-ends : goal.returns-in-Err-clause-ends
@@ -16,14 +16,15 @@ pub returns-in-Done-clause-ends : goal.returns-in-Done-clause-ends
 returns-in-Done-clause-ends g c =
     let ended = c.in-Done.ensures.ends in
     reported g.P.Pool _ _ _ c.args.before c.args.statement.now c.args.held.now c.args.today _ _ _ _ c.in-Done.session c.in-Done.outs.items c.in-Done.said c.in-Done.steps.items ended.0 ended.1
-    ended.2 ended.3 ended.4 ended.5 (λ reads. ap (λ (s : SessionView g.row.P.Denot). s.pool) (c.in-Done.ensures.reads reads)) c.report.result c.report.ensures
+    ended.2 ended.3 ended.4 ended.5 (λ reads. ap (λ (s : SessionView g.row.P.Denot). s.pool) (c.in-Done.ensures.reads reads))
+    (keeps_files _ _ c.in-Done.ensures.outs c.in-Done.ensures.ins) c.report.result c.report.ensures
 
 pub returns-in-Halted-clause-ends : goal.returns-in-Halted-clause-ends
 returns-in-Halted-clause-ends g c =
     let ended = c.in-Halted.ensures.ends in
     let told = c.halted.ensures in
     halted_in g.P.Pool _ _ _ c.args.before c.args.statement.now c.args.held.now c.args.today _ _ _ _ c.in-Halted.outs.items ended.0 c.in-Halted.broken.pending ended.5 c.halted.result
-    c.in-Halted.broken.pool _ told.outs
+    c.in-Halted.broken.pool _ (keeps_files _ _ c.in-Halted.ensures.outs c.in-Halted.ensures.ins) told.outs
     (c.as_str.ensures.value ∙ c.in-Ok.ensures ∙ ap (λ (v : Verb). line c.args.statement.now.number (messages.Started v)) c.verb_of-verb.ensures)
     told.pool (told.steps ∙ ended.1) told.pending told.end ended.4 told.told told.later (λ reads. c.in-Halted.ensures.reads reads)
 
@@ -31,7 +32,8 @@ pub returns-clause-ends : goal.returns-clause-ends
 returns-clause-ends g c =
     let ended = c.in-Short.ensures.ends in
     let told = c.stopped-in-Short.ensures in
-    short_in g.P.Pool _ _ _ c.args.before c.args.statement.now c.args.held.now c.args.today _ _ _ _ c.stopped-in-Short.result c.in-Short.outs.items c.in-Short.session ended.0 _ told.outs
+    short_in g.P.Pool _ _ _ c.args.before c.args.statement.now c.args.held.now c.args.today _ _ _ _ c.stopped-in-Short.result c.in-Short.outs.items c.in-Short.session ended.0 _
+    (keeps_files _ _ c.in-Short.ensures.outs c.in-Short.ensures.ins) told.outs
     (c.as_bytes.ensures.value ∙ c.as_str-in-Short.ensures.value ∙ c.in-Ok.ensures ∙ ap (λ (v : Verb). line c.args.statement.now.number (messages.Started v)) c.verb_of-verb.ensures)
     told.pool (told.steps ∙ ended.1) told.pending told.end ended.4 ended.5 c.write_all.ensures.some c.write_all.ensures.cause.later (λ reads. ap (λ (s : SessionView g.row.P.Denot). s.pool) (c.in-Short.ensures.reads reads))
 
@@ -41,7 +43,8 @@ pub returns-in-Done-clause-outs : goal.returns-in-Done-clause-outs
 returns-in-Done-clause-outs g c =
     let ended = c.in-Done.ensures.ends in
     reported_outs g.P.Pool _ _ _ c.args.before c.args.statement.now c.args.held.now c.args.today _ _ _ _ c.in-Done.session c.in-Done.outs.items c.in-Done.said c.in-Done.steps.items ended.0 ended.1
-    ended.2 ended.3 ended.4 ended.5 (λ reads. ap (λ (s : SessionView g.row.P.Denot). s.pool) (c.in-Done.ensures.reads reads)) c.report.result
+    ended.2 ended.3 ended.4 ended.5 (λ reads. ap (λ (s : SessionView g.row.P.Denot). s.pool) (c.in-Done.ensures.reads reads))
+    (keeps_files _ _ c.in-Done.ensures.outs c.in-Done.ensures.ins) c.report.result
     (c.in-Done.ensures.outs (calls_none c.args.statement.now.command c.requires.built)) c.report.ensures
 
 pub returns-in-Done-clause-ins : goal.returns-in-Done-clause-ins

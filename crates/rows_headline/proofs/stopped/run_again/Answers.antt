@@ -4,6 +4,6 @@ use Rattle.rows_headline.proofs.stopped.run_again.Goals as goal
 pub returns : goal.returns
 returns g c = record {
   on = λ none some from facts units same settled.
-      runs_on c.in_ok-stopped.stopped.left c.run-second.result.pool _ _ _ (c.run-second.ensures.headline none) facts units _ _
+      runs_on c.in_ok-stopped.stopped.left c.in_ok-stopped.stopped.ran c.run-second.result (c.run-second.ensures.headline none) facts units _ _
       (c.in_ok-stopped.ensures.ready none some from facts units same settled);
 }
