@@ -11,11 +11,8 @@ ghost use Rattle.job_select.specs.Whole.{IsWholeOn};
 use crate::names::name_of;
 use ckd_image::Device;
 use dscb_rec::Extent;
-use plan_core::run_of;
-use vtoc_core::Row;
-
-/// The most extents that a data set has on one volume.
-const MOST_EXTENTS: usize = 16;
+use step_plans::MOST_EXTENTS;
+use vtoc_core::{Row, run_of};
 
 /// The organization that a format 1 says.
 fn organization(f1: &[u8; 140]) -> u16
@@ -49,7 +46,7 @@ fn is_movable(organization: u16) -> bool
 fn is_whole(device: Device, extent: &Extent) -> bool
     ensures { IsTrue result ↔ IsWholeOn device extent.now }
 {
-    let run = run_of(extent, device.heads());
+    let run = run_of(device, extent);
     match extent.kind {
         0x01 => true,
         0x81 => run.first % device.heads() == 0 && run.len % device.heads() == 0,

@@ -18,7 +18,7 @@ pub fn track_count(volume: &Volume, row: &Row) -> u32
     ensures count { result ≡ length (tracks_of (extents_from volume.now.device row.now.extents)) }
     ensures few { result ≤ 65535 }
 {
-    count_tracks(row.extents.as_slice(), volume.device.heads())
+    count_tracks(volume.device, row.extents.as_slice())
 }
 
 /// How many tracks of a data set a release keeps: all up to that of its last block, and one where there is none; within an extent of
@@ -26,5 +26,5 @@ pub fn track_count(volume: &Volume, row: &Row) -> u32
 pub fn kept_tracks(device: Device, row: &Row) -> u32
     ensures { (set : DataSet) → DescribesSet (heads_of device) row.now set → result ≡ kept_tracks_of (heads_of device) set }
 {
-    release_of(row, device.heads())
+    release_of(device, row)
 }

@@ -12,7 +12,7 @@ fn add_free(places: &mut Listed<Place>, placed: &Placed, most: usize) -> Result<
     requires { length places.old ≤ most }
     ensures { OnOk result (places.new ≡ take most (places.old ++ map (λ placed. placed.place) (filter is_free_record (placed.now ∷ [])))) }
 {
-    if places.len() < most && placed.is_free() {
+    if places.len() < most && placed.is_free_record() {
         places.push(placed.place)?;
     }
     Ok(())

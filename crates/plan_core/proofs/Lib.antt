@@ -1,4 +1,3 @@
-mod Products
 mod UsedTracks
 pub mod Sums
 pub mod Cylinders

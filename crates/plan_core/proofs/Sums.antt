@@ -50,6 +50,6 @@ front_few heads extents k =
       length-append (tracks_of front) (tracks_of back),
     )
 
-pub next_few : (heads : ℕ) (extents : List Field) (k count long : ℕ) (d : Field) → length (tracks_of (extents_at heads extents)) ≤ 65535 → k < length extents
-    → long ≡ (run_of heads (field_of (get_or extents k d))).len → count ≡ length (tracks_of (extents_at heads (take k extents))) → count + long ≤ 65535
-next_few heads extents k count long d few less is so_far = omega (arith, few, summed heads extents k count long d less is so_far, front_few heads extents (k + 1))
+pub next_few : (heads : ℕ) (extents : List Field) (k count long most : ℕ) (d : Field) → length (tracks_of (extents_at heads extents)) < most → k < length extents
+    → long ≡ (run_of heads (field_of (get_or extents k d))).len → count ≡ length (tracks_of (extents_at heads (take k extents))) → count + long < most
+next_few heads extents k count long most d few less is so_far = omega (arith, few, summed heads extents k count long d less is so_far, front_few heads extents (k + 1))

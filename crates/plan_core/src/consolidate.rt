@@ -41,7 +41,7 @@ pub fn place_for(volume: &Volume, row: &Row) -> Option<u32>
     ensures found { IfSome result (IsPlaceFor (IsFree volume.now.free) (heads_of volume.now.device) (extents_at (heads_of volume.now.device) row.now.extents)) }
     ensures none { IfNone result (HasNoPlace (IsFree volume.now.free) (heads_of volume.now.device) (extents_at (heads_of volume.now.device) row.now.extents)) }
 {
-    let need = count_tracks(row.extents.as_slice(), volume.device.heads());
+    let need = count_tracks(volume.device, row.extents.as_slice());
     volume.free.first_fit(need, step_of(volume.device, row))
 }
 

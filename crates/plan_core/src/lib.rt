@@ -8,6 +8,6 @@ mod laws;
 mod release;
 
 pub use consolidate::{next_consolidate, place_for};
-pub use extents::{count_tracks, run_of};
+pub use extents::count_tracks;
 pub use laws::release_laws;
 pub use release::release_of;

@@ -7,23 +7,19 @@ ghost use Rattle.volume_model.specs.Space.{run_of as run_in};
 ghost use Rattle.vtoc_core.specs.Loaded.{field_of};
 ghost use Rattle.plan_core.specs.Extents.{extents_at};
 ghost use Rattle.plan_core.specs.Release.{kept_of};
-ghost use Rattle.ckd_image.specs.Device.{ceil_div};
+ghost use Rattle.ckd_image.specs.Device.{ceil_div, heads_of};
 
-use crate::extents::run_of;
+use ckd_image::Device;
 use dscb_rec::Extent;
-use vtoc_core::Row;
+use set_facts::CYLINDERS;
+use vtoc_core::{Row, run_of};
 
-/// The type of an extent on cylinder boundaries.
-const CYLINDERS: u8 = 0x81;
-
-/// How many tracks of a data set a release keeps, of a device with so many heads: all up to that of its last block, and one where there
-/// is none, but no more than it has; within an extent of cylinders whole cylinders.
-pub fn release_of(row: &Row, heads: u32) -> u32
-    requires some { 1 ≤ heads }
-    requires few { heads ≤ 255 }
-    ensures { result ≡ kept_of heads row.now }
+/// How many tracks of a data set a release keeps: all up to that of its last block, and one where there is none, but no more than it has; within
+/// an extent of cylinders whole cylinders.
+pub fn release_of(device: Device, row: &Row) -> u32
+    ensures { result ≡ kept_of (heads_of device) row.now }
 {
-    whole_tracks(row.extents.as_slice(), used_tracks(&row.f1), heads)
+    whole_tracks(device, row.extents.as_slice(), used_tracks(&row.f1))
 }
 
 /// How many tracks up to the last block's, and one where there is no last block.
@@ -39,18 +35,16 @@ fn used_tracks(f1: &[u8; 140]) -> u32
 }
 
 /// So many tracks from the front of extents, and where they end within an extent of cylinders, the rest of the cylinder too.
-fn whole_tracks(extents: &[Extent], used: u32, heads: u32) -> u32
-    requires used { used ≤ 65536 }
-    requires some { 1 ≤ heads }
-    requires few { heads ≤ 255 }
-    ensures { result ≡ whole_tracks_of heads used (extents_at heads extents.now) }
+fn whole_tracks(device: Device, extents: &[Extent], used: u32) -> u32
+    requires { used ≤ 65536 }
+    ensures { result ≡ whole_tracks_of (heads_of device) used (extents_at (heads_of device) extents.now) }
 {
     let mut kept = 0;
     for extent in extents {
         let left = used - kept;
-        let len = run_of(extent, heads).len;
+        let len = run_of(device, extent).len;
         if len > left {
-            return kept + part_of(extent, left, heads);
+            return kept + part_of(device, extent, left);
         }
         kept += len;
     }
@@ -58,18 +52,16 @@ fn whole_tracks(extents: &[Extent], used: u32, heads: u32) -> u32
 }
 
 /// How many tracks of an extent are kept for so many that are used, fewer than it has.
-fn part_of(extent: &Extent, used: u32, heads: u32) -> u32
+fn part_of(device: Device, extent: &Extent, used: u32) -> u32
     requires used { used ≤ 65536 }
-    requires fewer { used < (run_in heads (field_of extent.now)).len }
-    requires some { 1 ≤ heads }
-    requires few { heads ≤ 255 }
-    ensures value { result ≡ whole_tracks_of heads used (extents_at heads (extent.now ∷ [])) }
-    ensures few { result ≤ 2 ^ 24 }
+    requires fewer { used < (run_in (heads_of device) (field_of extent.now)).len }
+    ensures value { result ≡ whole_tracks_of (heads_of device) used (extents_at (heads_of device) (extent.now ∷ [])) }
+    ensures few { result ≤ 2 ^ 20 }
 {
     if extent.kind != CYLINDERS {
         return used;
     }
-    in_cylinders(used, heads).min(run_of(extent, heads).len)
+    in_cylinders(used, device.heads()).min(run_of(device, extent).len)
 }
 
 /// So many tracks, in whole cylinders.

@@ -66,7 +66,7 @@ fn target_given() -> Option<Seen> {
 const JOINING: u64 = 3 + (3 + 3) + 1 + (1 + 1 + 1) + (1 + 1) + (1 + 1) + (1 + 1);
 
 /// The pool once the three extents are joined.
-fn joined(alloc: Global) -> Result<Option<MemoryPool>, RowsFault> {
+fn after_the_join(alloc: Global) -> Result<Option<MemoryPool>, RowsFault> {
     match done(alloc, SPREAD, Wanted::Join)? {
         Some(session) => Ok(Some(session.into_pool())),
         None => Ok(None),
@@ -75,7 +75,7 @@ fn joined(alloc: Global) -> Result<Option<MemoryPool>, RowsFault> {
 
 #[test]
 fn three_extents_are_joined_in_nineteen_calls(rt: HostRuntime) -> Result<(), Fail> {
-    let pool = joined(rt.alloc())?.expect(&rt, "A.B wasn't joined");
+    let pool = after_the_join(rt.alloc())?.expect(&rt, "A.B wasn't joined");
     assert_eq!(rt; pool.calls(), BEGINNING + JOINING);
     let mut session = begun(rt.alloc(), pool).expect(&rt, "no session");
     // The lowest three free tracks in a row begin at 7, and tracks 2, 4 and 6 are free.

@@ -11,11 +11,11 @@ ghost use Rattle.plan_core.specs.Consolidate.{IsSized};
 use ckd_image::{Device, NoMemory, TrackAt};
 use dscb_rec::Extent;
 use free_map::{FreeFault, FreeMap, Run};
-use plan_core::{place_for, run_of};
+use plan_core::place_for;
 use runs_after::runs_after;
 use std::alloc::Global;
 use vol_label::Serial;
-use vtoc_core::{Extents, Row, Rows, Volume};
+use vtoc_core::{Extents, Row, Rows, Volume, run_of};
 
 /// The address of a track of a device of 15 heads.
 fn address_of(track: u16) -> TrackAt {
@@ -51,7 +51,7 @@ fn counted(extents: &[Extent]) -> u32
 {
     let mut count = 0;
     for extent in extents {
-        count += run_of(extent, 15).len;
+        count += run_of(Device::D3390, extent).len;
     }
     count
 }

@@ -8,7 +8,6 @@ ghost use Rattle.vtoc_core.specs.declared.volume.Row.{Row as RowOf};
 ghost use Rattle.vtoc_core.specs.Loaded.{field_of};
 ghost use Rattle.vtoc_layout.specs.Layout.{AreApart};
 ghost use Rattle.dscb_made.specs.Slots.{IsThere};
-ghost use Rattle.volume_change.specs.Runs.{runs_in};
 ghost use Rattle.vtoc_render.specs.Next.{MayPut, MayChange};
 ghost use Rattle.rows_render.specs.May.{IsSet, Covers, IsWithin, IsGiven, MayTake};
 
@@ -55,16 +54,6 @@ fn are_there(extents: &[Extent]) -> bool
     ensures { IsTrue result ↔ All IsThere extents.now }
 {
     extents.iter().all(|extent| extent.kind != 0)
-}
-
-/// The tracks of extents, if they are runs.
-fn runs_of(alloc: Global, extents: &[Extent], heads: u32) -> Result<Option<Vec<Run>>, NoMemory>
-    ensures { IfOk result (λ found. IfSome found (λ runs. runs.items ≡ runs_in heads extents.now)) }
-{
-    if !are_runs(extents, heads, 65_536) {
-        return Ok(None);
-    }
-    Ok(Some(extents_runs(alloc, extents, heads)?))
 }
 
 // ---- tracks
@@ -152,13 +141,10 @@ fn may_take(alloc: Global, volume: &Volume, gone: &[Run], row: &Row) -> Result<b
     ensures { IfOk result (λ may. may ≡ true → MayTake volume.now gone.now row.now) }
 {
     let extents = row.extents.as_slice();
-    let heads = volume.device.heads();
-    if !is_set(row) || !are_runs(extents, heads, volume.usable) {
+    if !is_set(row) || !are_runs(extents, volume.device.heads(), volume.usable) {
         return Ok(false);
     }
-    let Some(runs) = runs_of(alloc, extents, heads)? else {
-        return Ok(false);
-    };
+    let runs = extents_runs(alloc, volume.device, extents)?;
     if !are_apart(&runs) {
         return Ok(false);
     }
@@ -217,9 +203,7 @@ fn may_swap(alloc: Global, volume: &Volume, name: Dsn, row: &Row) -> Result<bool
     let Some(old) = row_of(volume.rows.as_slice(), &row.name) else {
         return Ok(false);
     };
-    let Some(gone) = runs_of(alloc, old.extents.as_slice(), volume.device.heads())? else {
-        return Ok(false);
-    };
+    let gone = extents_runs(alloc, volume.device, old.extents.as_slice())?;
     may_take(alloc, volume, &gone, row)
 }
 

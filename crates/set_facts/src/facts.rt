@@ -10,7 +10,7 @@ use by_rules::{AllocKind, Day, RowFacts};
 use dscb_rec::Extent;
 
 /// The type of an extent on cylinder boundaries.
-const CYLINDERS: u8 = 0x81;
+pub const CYLINDERS: u8 = 0x81;
 
 /// Two bytes of a format 1 as a number.
 fn number_at(f1: &[u8; 140], offset: usize) -> u16

@@ -4,5 +4,5 @@
 mod facts;
 mod selection;
 
-pub use facts::{is_by_cylinders, is_unexpired, row_facts};
+pub use facts::{CYLINDERS, is_by_cylinders, is_unexpired, row_facts};
 pub use selection::is_selected;

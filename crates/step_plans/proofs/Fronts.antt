@@ -1,10 +1,9 @@
 -- The first tracks of extents.
-use Rattle.std.proofs.Common.{◌≡◌, ◌≢◌, ℕ, suc, ◌+◌, ◌-◌, ◌*◌, ◌<◌, ◌≤◌, List, [], ◌∷◌, ◌++◌, length, take, drop, get_or, true, refl, sym, ap, subst, ◌∙◌, arith, append_assoc}
+use Rattle.std.proofs.Common.{◌≡◌, ◌≢◌, ℕ, suc, ◌+◌, ◌-◌, ◌*◌, ◌<◌, ◌≤◌, List, [], ◌∷◌, ◌++◌, length, drop, get_or, true, refl, sym, ap, subst, ◌∙◌, arith, append_assoc}
 use Rattle.std.specs.Prelude.{if◌then◌else◌}
 use Rattle.std.proofs.lemmas.Bool.{ne_eqb, le-leb, lt-leb}
-use Rattle.std.proofs.lemmas.List.{append-nil, length-append, length-map, map-append, take_more}
-use Rattle.std.proofs.lemmas.List.Elements.{All-push, All-head}
-use Rattle.std.proofs.lemmas.Grind.{flat_map-append}
+use Rattle.std.proofs.lemmas.List.{append-nil, length-append, length-map, map-append}
+use Rattle.std.proofs.lemmas.List.Elements.{All-push, All-head, All-tail}
 use Rattle.std.proofs.Math.Seq.{drop-cons}
 use Rattle.ckd_image.specs.declared.device.Device.{Device}
 use Rattle.ckd_image.specs.Device.{heads_of}
@@ -25,39 +24,23 @@ use Rattle.volume_model.proofs.Numbers.{numbers_long}
 abbrev on : Device → Field → Extent
 on device extent = extent_in (heads_of device) (field_of extent)
 
--- those of one more extent
-tracks_more : (device : Device) (extents : List Field) (k : ℕ) (d : Field) → k < length extents
-    → length (tracks_of (extents_from device (take (k + 1) extents))) ≡ length (tracks_of (extents_from device (take k extents))) + (run_of (heads_of device) (field_of (get_or extents k d))).len
-tracks_more device extents k d less =
-    let here = on device (get_or extents k d) in
-    let before = extents_from device (take k extents) in
-    let joined : extents_from device (take (k + 1) extents) ≡ before ++ here ∷ [] =
-    ap (extents_from device) (take_more extents k d less) ∙ map-append (on device) (take k extents) (get_or extents k d ∷ []) in
-    let long : length (tracks_in here.run) ≡ here.run.len = length-map (numbers_below here.run.len) (λ place. here.run.first + place) ∙ numbers_long here.run.len in
-    omega (
-      arith,
-      ap (λ (list : List Extent). length (tracks_of list)) joined,
-      ap length (flat_map-append (λ (extent : Extent). tracks_in extent.run) before (here ∷ [])),
-      length-append (tracks_of before) (tracks_in here.run ++ []),
-      length-append (tracks_in here.run) [],
-      long,
-    )
-
 abbrev pub long_at : Device → Field → ℕ
 long_at device extent = (run_of (heads_of device) (field_of extent)).len
-
--- the sum of the tracks of the first extents
-pub summed : (device : Device) (extents : List Field) (k count long : ℕ) (d : Field) → k < length extents → long ≡ long_at device (get_or extents k d)
-    → count ≡ length (tracks_of (extents_from device (take k extents))) → count + long ≡ length (tracks_of (extents_from device (take (k + 1) extents)))
-summed device extents k count long d less is so_far = omega (arith, is, so_far, tracks_more device extents k d less)
 
 -- a run has no more tracks than there are below its end
 run_short : (heads limit : ℕ) (field : ExtentField) → is_run heads limit field ≡ true → (run_of heads field).len ≤ limit
 run_short heads limit field is = omega (arith, (run_facts heads limit field is).0)
 
-pub sum_few : (device : Device) (extents : List Field) (k count long : ℕ) (d : Field) → AreRuns device extents → k < length extents → long ≡ long_at device (get_or extents k d)
-    → count ≤ k * 65536 → count + long ≤ (k + 1) * 65536
-sum_few device extents k count long d runs less is few = omega (arith, is, few, run_short (heads_of device) 65536 (field_of (get_or extents k d)) (runs k d less))
+-- so extents have no more than that for each
+pub tracks_few : (device : Device) (extents : List Field) → AreRuns device extents → length (tracks_of (extents_from device extents)) ≤ length extents * 65536
+tracks_few device [] runs = omega arith
+tracks_few device (extent ∷ extents) runs =
+    let here = on device extent in
+    let IsRun : Field → Type 0 = λ extent. is_run (heads_of device) 65536 (field_of extent) ≡ true in
+    let parted : length (tracks_of (extents_from device (extent ∷ extents))) ≡ length (tracks_in here.run) + length (tracks_of (extents_from device extents)) =
+    length-append (tracks_in here.run) (tracks_of (extents_from device extents)) in
+    let long : length (tracks_in here.run) ≡ here.run.len = length-map (numbers_below here.run.len) (λ place. here.run.first + place) ∙ numbers_long here.run.len in
+    omega (arith, parted, long, run_short (heads_of device) 65536 (field_of extent) (All-head IsRun extent extents runs), tracks_few device extents (All-tail IsRun extent extents runs))
 
 -- ---- cutting
 

@@ -1,10 +1,9 @@
 //! The front of a data set's extents, and extents on other tracks.
 
-ghost use Rattle.std.specs.Prelude.{◌≡◌, ◌+◌, ◌*◌, ◌^◌, ◌<◌, ◌≤◌, [], ◌∷◌, length, map, All, IfOk};
+ghost use Rattle.std.specs.Prelude.{◌≡◌, ◌+◌, ◌*◌, ◌<◌, [], ◌∷◌, map, All, IfOk};
 ghost use Rattle.ckd_image.specs.Device.{heads_of};
 ghost use Rattle.ckd_image.specs.declared.device.Device.{Device as DeviceOf};
-ghost use Rattle.volume_model.specs.Space.{run_of};
-ghost use Rattle.volume_model.specs.Unit.{tracks_of};
+ghost use Rattle.volume_model.specs.Space.{run_of as run_in};
 ghost use Rattle.vtoc_core.specs.Loaded.{field_of};
 ghost use Rattle.move_core.specs.Steps.{IsNewKind, cut};
 ghost use Rattle.step_plans.specs.Plans.{AreRuns, IsRoom, extents_from, field_on};
@@ -12,41 +11,17 @@ ghost use Rattle.step_plans.specs.Plans.{AreRuns, IsRoom, extents_from, field_on
 use ckd_image::{Device, Listed, NoMemory, TrackAt};
 use dscb_rec::Extent;
 use free_map::Run;
-use set_facts::is_by_cylinders;
+use set_facts::{CYLINDERS, is_by_cylinders};
 use std::alloc::Global;
-use vtoc_core::Extents;
+use vtoc_core::{Extents, run_of};
 
-/// The types of extents of whole cylinders, and of tracks.
-const CYLINDERS: u8 = 0x81;
-
+/// The type of an extent of tracks.
 const TRACKS: u8 = 0x01;
-
-/// How many tracks an extent has.
-fn tracks_in(device: Device, extent: &Extent) -> u32
-    requires { AreRuns device (extent.now ∷ []) }
-    ensures { result ≡ (run_of (heads_of device) (field_of extent.now)).len }
-{
-    device.track_of(extent.last) + 1 - device.track_of(extent.first)
-}
-
-/// How many tracks extents have.
-pub(crate) fn count_tracks(device: Device, extents: &[Extent]) -> u64
-    requires few { length extents.now ≤ 16 }
-    requires runs { AreRuns device extents.now }
-    ensures count { result ≡ length (tracks_of (extents_from device extents.now)) }
-    ensures few { result ≤ 2 ^ 20 }
-{
-    let mut count = 0;
-    for extent in extents {
-        count += u64::from(tracks_in(device, extent));
-    }
-    count
-}
 
 /// The first tracks of an extent, fewer than it has.
 fn front_of(device: Device, extent: &Extent, keep: u32) -> Extent
     requires some { 0 < keep }
-    requires fewer { keep < (run_of (heads_of device) (field_of extent.now)).len }
+    requires fewer { keep < (run_in (heads_of device) (field_of extent.now)).len }
     requires runs { AreRuns device (extent.now ∷ []) }
     ensures cut { extents_from device (result ∷ []) ≡ cut keep (extents_from device (extent.now ∷ [])) }
     ensures run { AreRuns device (result ∷ []) }
@@ -72,7 +47,7 @@ pub(crate) fn cut_extents(
     let mut kept = Vec::new(alloc);
     let mut left = keep;
     for extent in extents {
-        let count = tracks_in(device, extent);
+        let count = run_of(device, extent).len;
         if left == 0 {
             break;
         }

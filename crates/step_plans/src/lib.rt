@@ -7,7 +7,7 @@ mod plans;
 mod rows;
 
 pub use copies::{SetAt, SetCopy, carry_set, copy_set};
-pub use plans::{delete_set, join_set, repair_space, reset_flag, shrink_set};
+pub use plans::{MOST_EXTENTS, delete_set, join_set, repair_space, reset_flag, shrink_set};
 pub use rows::row_of;
 pub use unit_steps;
 pub use unit_steps::{render_laws, unit_change, vtoc_render};

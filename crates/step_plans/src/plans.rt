@@ -8,19 +8,20 @@ ghost use Rattle.unit_steps.specs.Plans.{HasRow};
 ghost use Rattle.vtoc_core.specs.declared.volume.Row.{Row as RowOf};
 ghost use Rattle.step_plans.specs.Plans.{IsSound, IsPlanFor, IsPlaceOn, IsJoinPlan, IsWhole, HasNone, HasManyExtents, HasFewTracks};
 
-use crate::extents::{count_tracks, cut_extents, kind_for};
+use crate::extents::{cut_extents, kind_for};
 use crate::rows::{moved_row, reset_row, row_of};
 use ckd_image::{Listed, NoMemory};
 use dsn_filter::Dsn;
 use free_map::Run;
 use move_core::Step;
+use plan_core::count_tracks;
 use std::alloc::Global;
 use unit_steps::{Plan, Tracks};
 use volume_change::Change;
 use vtoc_core::{Row, Volume};
 
-/// The most extents that a data set has whose plan is made.
-pub(crate) const MOST_EXTENTS: usize = 16;
+/// The most extents that a data set has on one volume.
+pub const MOST_EXTENTS: usize = 16;
 
 /// A step and its one change.
 pub(crate) fn plan_of(
@@ -117,7 +118,7 @@ pub fn shrink_set(
         return Ok(None);
     };
     let extents = row.extents.as_slice();
-    if extents.len() > MOST_EXTENTS || count_tracks(volume.device, extents) <= u64::from(keep) {
+    if extents.len() > MOST_EXTENTS || count_tracks(volume.device, extents) <= keep {
         return Ok(None);
     }
     let kept = Row {
@@ -152,7 +153,7 @@ pub fn join_set(
     if extents.len() > MOST_EXTENTS || extents.len() == 1 {
         return Ok(None);
     }
-    let len = count_tracks(volume.device, extents) as u32;
+    let len = count_tracks(volume.device, extents);
     if len == 0 {
         return Ok(None);
     }

@@ -29,7 +29,7 @@ use std::alloc::Global;
 use vol_label::Label;
 use volume_model::Why;
 use vtoc_check::{VtocFault, vtoc_run};
-use vtoc_core::{Volume, track_number};
+use vtoc_core::Volume;
 use vtoc_load::load_vtoc;
 
 /// Reads a unit: the volume on it and the slots of its VTOC, or why it is offline. A restore that is under way on it is not looked at.
@@ -156,7 +156,7 @@ fn volume_of<P: Pool>(
     ensures stop { P.tells → IfErr result (IsVtocStop head ((P.disk journal.old.pool).state.contents unit) label.now) }
     ensures fault { IfErr result (StopsBy (IsUnitFault (P.faults journal.old.pool) (P.faults journal.new.pool))) }
 {
-    let track = track_number(label.vtoc.at);
+    let track = head.device.track_of(label.vtoc.at);
     let slot = read_slot(alloc, journal, unit, track)?;
     let run = run_of(alloc, head, label, &slot)?;
     let hand = Hand { track, slot: &slot };

@@ -1,15 +1,11 @@
 -- The tracks of extents, and the tracks that are free once some are given back and others are taken.
-use Rattle.std.specs.Prelude.{◌≡◌, ◌⊎◌, ℕ, true, List, map}
+use Rattle.std.specs.Prelude.{◌⊎◌, ℕ, List, map}
 use Rattle.dscb_rec.specs.declared.field.Extent.{Extent}
 use Rattle.free_map.specs.declared.run.Run.{Run}
 use Rattle.free_map.specs.Free.{Free, IsFree}
 use Rattle.free_map.specs.Runs.{InRuns}
-use Rattle.volume_model.specs.Space.{is_run, run_of}
+use Rattle.volume_model.specs.Space.{run_of}
 use Rattle.vtoc_core.specs.Loaded.{field_of}
-
--- an extent is a run of tracks of the largest volume
-abbrev pub IsRun : ℕ → Extent → Type 0
-IsRun heads extent = is_run heads 65536 (field_of extent) ≡ true
 
 -- the runs of extents in order
 abbrev pub runs_in : ℕ → List Extent → List Run

@@ -1,52 +1,30 @@
 //! The tracks of data sets, and the free tracks once some are given back and others are taken.
 
-ghost use Rattle.std.specs.Prelude.{◌≡◌, ◌+◌, ◌*◌, ◌≤◌, ◌<◌, ◌++◌, All, IfOk};
+ghost use Rattle.std.specs.Prelude.{◌≡◌, ◌≤◌, ◌++◌, All, IfOk};
 ghost use Rattle.free_map.specs.Runs.{AreMaximalRuns};
-ghost use Rattle.volume_model.specs.Space.{end_of, run_of as run_in};
+ghost use Rattle.volume_model.specs.Space.{end_of};
 ghost use Rattle.ckd_image.specs.Device.{heads_of};
-ghost use Rattle.vtoc_core.specs.Loaded.{field_of};
-ghost use Rattle.volume_change.specs.Runs.{IsRun, runs_in, IsFreeAfter};
+ghost use Rattle.volume_change.specs.Runs.{runs_in, IsFreeAfter};
 
-use ckd_image::{NoMemory, TrackAt};
+use ckd_image::{Device, NoMemory};
 use dscb_rec::Extent;
 use free_map::{FreeMap, Run, unused_tracks};
 use std::alloc::Global;
-use vtoc_core::Volume;
-
-/// The number of the track at an address.
-fn track_number(at: TrackAt, heads: u32) -> u32
-    requires { at.cylinder * heads + at.head < 65536 }
-    ensures { result ≡ at.cylinder * heads + at.head }
-{
-    u32::from(at.cylinder) * heads + u32::from(at.head)
-}
-
-/// The tracks of an extent.
-fn run_of(extent: Extent, heads: u32) -> Run
-    requires { IsRun heads extent }
-    ensures { result ≡ run_in heads (field_of extent) }
-{
-    let first = track_number(extent.first, heads);
-    Run {
-        first,
-        len: track_number(extent.last, heads) + 1 - first,
-    }
-}
+use vtoc_core::{Volume, run_of};
 
 /// The tracks of extents, in order.
-pub fn extents_runs(alloc: Global, extents: &[Extent], heads: u32) -> Result<Vec<Run>, NoMemory>
-    requires { All (IsRun heads) extents.now }
-    ensures { IfOk result (λ runs. runs.items ≡ runs_in heads extents.now) }
+pub fn extents_runs(alloc: Global, device: Device, extents: &[Extent]) -> Result<Vec<Run>, NoMemory>
+    ensures { IfOk result (λ runs. runs.items ≡ runs_in (heads_of device) extents.now) }
 {
     let mut runs = Vec::new(alloc);
     for extent in extents {
-        runs.push(run_of(*extent, heads))?;
+        runs.push(run_of(device, extent))?;
     }
     Ok(runs)
 }
 
 /// Runs, and others behind them.
-fn joined(alloc: Global, front: &[Run], back: &[Run]) -> Result<Vec<Run>, NoMemory>
+fn appended(alloc: Global, front: &[Run], back: &[Run]) -> Result<Vec<Run>, NoMemory>
     ensures { IfOk result (λ runs. runs.items ≡ front.now ++ back.now) }
 {
     let mut runs = Vec::new(alloc);
@@ -71,8 +49,8 @@ pub fn free_after(
 {
     let usable = volume.usable;
     let heads = volume.device.heads();
-    let empty = joined(alloc, volume.free.runs(), gone)?;
+    let empty = appended(alloc, volume.free.runs(), gone)?;
     let used = unused_tracks(alloc, usable, heads, &empty)?;
-    let taken = joined(alloc, used.runs(), put)?;
+    let taken = appended(alloc, used.runs(), put)?;
     unused_tracks(alloc, usable, heads, &taken)
 }

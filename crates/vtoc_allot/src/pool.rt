@@ -21,7 +21,7 @@ pub(crate) fn count_free(records: &[Placed]) -> u64
 {
     let mut count = 0;
     for placed in records {
-        count += u64::from(placed.is_free());
+        count += u64::from(placed.is_free_record());
     }
     count
 }
@@ -30,7 +30,7 @@ pub(crate) fn count_free(records: &[Placed]) -> u64
 fn add_if_free(pool: &mut Listed<Place>, given: &[Place], placed: &Placed) -> Result<(), NoMemory>
     ensures { OnOk result (pool.new ≡ pool.old ++ pool_in (placed.now ∷ []) given.now) }
 {
-    if placed.is_free() || is_at(given, placed.place) {
+    if placed.is_free_record() || is_at(given, placed.place) {
         pool.push(placed.place)?;
     }
     Ok(())

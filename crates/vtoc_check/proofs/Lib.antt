@@ -1,5 +1,6 @@
 pub mod Firsts
 pub mod Steps
+pub mod Ascending
 pub mod Order
 pub mod Keys
 pub mod Targets

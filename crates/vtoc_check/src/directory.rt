@@ -4,7 +4,7 @@ ghost use Rattle.std.specs.Prelude.{◌≡◌, ◌+◌, ◌*◌, ◌<◌, ◌≤
 ghost use Rattle.volume_model.specs.declared.place.Placed.{Placed};
 ghost use Rattle.volume_model.specs.Dscbs.{pointer_in};
 ghost use Rattle.volume_model.specs.Directory.{placed_from, placed_in, record_at, named_place, named_record, next_format_3};
-ghost use Rattle.vtoc_check.specs.Places.{number_of, AreShort, IsShort, records_on, numbers_of, AreInOrder, blank};
+ghost use Rattle.vtoc_check.specs.Places.{rank_of, AreShort, IsShort, records_on, ranks_of, AreInOrder, blank};
 
 use crate::dscb::{is_format_3, pointer_of};
 use ckd_image::{Cchhr, NoMemory};
@@ -13,7 +13,7 @@ use volume_model::{Dscbs, Place, Placed, Vtoc};
 
 /// The number of a place: places are in the order of their numbers.
 pub(crate) fn place_number(place: Place) -> u64
-    ensures { result ≡ number_of place }
+    ensures { result ≡ rank_of place }
 {
     256 * u64::from(place.track) + u64::from(place.record_number)
 }
@@ -66,7 +66,7 @@ pub fn all_records(
 
 /// The numbers of the places of records.
 pub fn place_numbers(alloc: Global, records: &[Placed]) -> Result<Vec<u64>, NoMemory>
-    ensures { IfOk result (λ numbers. numbers.items ≡ numbers_of records.now) }
+    ensures { IfOk result (λ numbers. numbers.items ≡ ranks_of records.now) }
 {
     let mut numbers = Vec::new(alloc);
     for placed in records {
@@ -77,7 +77,7 @@ pub fn place_numbers(alloc: Global, records: &[Placed]) -> Result<Vec<u64>, NoMe
 
 /// Which of the records stands at a place.
 pub fn index_at(records: &[Placed], numbers: &[u64], place: Place) -> Option<usize>
-    requires numbers { numbers.now ≡ numbers_of records.now }
+    requires numbers { numbers.now ≡ ranks_of records.now }
     requires in_order { AreInOrder records.now }
     ensures found { IfSome result (λ k. (k < length records.now) × (record_at records.now place ≡ Some (slice_index_or records.now k blank))) }
     ensures none { IfNone result (record_at records.now place ≡ None) }
@@ -96,7 +96,7 @@ pub struct Directory {
     pub(crate) records: Vec<Placed>,
     numbers: Vec<u64>,
     ghost small: { heads ≤ 65535 },
-    ghost numbers_are: { numbers.items ≡ numbers_of records.items },
+    ghost numbers_are: { numbers.items ≡ ranks_of records.items },
     ghost in_order: { AreInOrder records.items },
 }
 

@@ -5,8 +5,12 @@ use Rattle.std.specs.Ordering.{nat_cmp, ordering_then, is_lt}
 use Rattle.std.specs.Cmp.Lexicographic.{slice_cmp}
 use Rattle.std.specs.List.Sorted.{IsSortedBy}
 use Rattle.std.proofs.lemmas.List.{get_or-map, length-map}
-use Rattle.volume_model.specs.Directory.{name_before}
-use Rattle.vtoc_core.specs.Loaded.{row_for}
+use Rattle.volume_model.specs.Dscbs.{extents_of}
+use Rattle.volume_model.specs.Directory.{DirectoryRow, name_before}
+
+-- the row of a data set without format 3s
+abbrev pub row_for : List ℕ → DirectoryRow
+row_for bytes = record { format_1 = bytes; extents = extents_of bytes; threes = 0 }
 
 -- ---- the order
 

@@ -1,8 +1,7 @@
 -- A loaded volume as its VTOC says it.
-use Rattle.std.specs.Prelude.{◌≡◌, ℕ, ◌+◌, List, map, take}
+use Rattle.std.specs.Prelude.{◌≡◌, ℕ, ◌+◌, map, take}
 use Rattle.dscb_rec.specs.declared.field.Extent.{Extent}
 use Rattle.volume_model.specs.declared.extent.ExtentField.{ExtentField}
-use Rattle.volume_model.specs.Dscbs.{extents_of}
 use Rattle.volume_model.specs.Directory.{DirectoryRow}
 use Rattle.vtoc_core.specs.declared.volume.Row.{Row}
 
@@ -13,10 +12,6 @@ field_of extent = record { kind = extent.kind; first = extent.first; last = exte
 -- a row of the directory, as it is loaded
 abbrev pub row_in : Row → DirectoryRow
 row_in row = record { format_1 = row.f1; extents = map field_of row.extents; threes = row.threes }
-
--- the row of a data set without format 3s
-abbrev pub row_for : List ℕ → DirectoryRow
-row_for bytes = record { format_1 = bytes; extents = extents_of bytes; threes = 0 }
 
 -- the records that a data set uses
 abbrev pub records_for : Row → ℕ

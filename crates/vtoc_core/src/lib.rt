@@ -3,10 +3,10 @@
 
 mod edit;
 mod names;
-mod track;
+mod run;
 mod volume;
 
 pub use edit::put_entries;
 pub use names::{dsn_of, is_named};
-pub use track::track_number;
+pub use run::run_of;
 pub use volume::{Extents, Row, Rows, Volume};

@@ -11,7 +11,8 @@ use Rattle.volume_model.specs.declared.place.Vtoc.{Vtoc}
 use Rattle.volume_model.specs.Dscbs.{format_of, is_broken, is_f1, is_f3, is_f4, is_f5, extent_offsets}
 use Rattle.volume_model.specs.Directory.{same_place}
 use Rattle.volume_model.specs.Check.{records_of, fives_of, is_among}
-use Rattle.vtoc_check.specs.Places.{number_of, IsAscending, blank}
+use Rattle.vtoc_check.specs.Places.{rank_of, blank}
+use Rattle.vtoc_check.proofs.Ascending.{IsAscending}
 use Rattle.vtoc_check.specs.Reach.{record_in}
 use Rattle.vtoc_check.specs.Sized.{IsSized}
 use Rattle.vtoc_check.proofs.Order.{ascending, above, in_order_from}
@@ -26,14 +27,14 @@ use Rattle.ckd_image.proofs.Lists.{contains_map}
 pub distinct_records : (from : ℕ) (records : List Placed) → IsAscending from records → AreDistinct records
 distinct_records from [] h = tt
 distinct_records from (placed ∷ more) h =
-    (λ c. omega (arith, above (number_of placed.place + 1) more c.0 placed h.2 c.1, ap (λ (p : Placed). number_of p.place) c.2), distinct_records (number_of placed.place + 1) more h.2)
+    (λ c. omega (arith, above (rank_of placed.place + 1) more c.0 placed h.2 c.1, ap (λ (p : Placed). rank_of p.place) c.2), distinct_records (rank_of placed.place + 1) more h.2)
 
 pub one_record : (from : ℕ) (records : List Placed) → IsAscending from records → (a b : Placed) → Contains records a → Contains records b → same_place a.place b.place ≡ true → a ≡ b
 one_record from records up a b p q e =
     let at_a : get_or records p.0 blank ≡ a = at p in
     let at_b : get_or records q.0 blank ≡ b = at q in
-    let numbers : number_of (record_in records p.0).place ≡ number_of (record_in records q.0).place =
-    ap (λ (x : Placed). number_of x.place) at_a ∙ same_number a b e ∙ sym (ap (λ (x : Placed). number_of x.place) at_b) in
+    let numbers : rank_of (record_in records p.0).place ≡ rank_of (record_in records q.0).place =
+    ap (λ (x : Placed). rank_of x.place) at_a ∙ same_number a b e ∙ sym (ap (λ (x : Placed). rank_of x.place) at_b) in
     let k : p.0 ≡ q.0 = one_index records (in_order_from from records up) p.0 q.0 p.1 q.1 numbers in
     sym at_a ∙ ap (λ (n : ℕ). get_or records n blank) k ∙ at_b
   where

@@ -15,7 +15,8 @@ use Rattle.volume_model.specs.declared.rule.VtocRule.TheVariants as rules
 use Rattle.volume_model.specs.Dscbs.{format_of, is_f1, is_f3, pointer_in}
 use Rattle.volume_model.specs.Directory.{same_place, record_at, named_place, named_record, if_format, next_format_3, extended, chain_of}
 use Rattle.volume_model.specs.Check.{breach, records_of, later_ones, namers_of, named_by, names_3, names_format, same_target, is_among, reached_3s, bad_tracks, bad_dscbs, bad_names, bad_pointers, bad_fives, bad_ranges, bad_overlaps, bad_free, breaches_of}
-use Rattle.vtoc_check.specs.Places.{IsAscending, AreShort, blank}
+use Rattle.vtoc_check.specs.Places.{AreShort, blank}
+use Rattle.vtoc_check.proofs.Ascending.{IsAscending}
 use Rattle.vtoc_check.specs.Reach.{record_in}
 use Rattle.vtoc_check.proofs.Order.{ascending}
 use Rattle.vtoc_check.proofs.Targets.{named_by_next}

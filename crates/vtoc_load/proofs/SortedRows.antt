@@ -8,8 +8,7 @@ use Rattle.std.proofs.lemmas.List.Sorted.{IsPermutation-map}
 use Rattle.volume_model.specs.declared.place.Placed.{Placed}
 use Rattle.volume_model.specs.Dscbs.{format_of, is_f1}
 use Rattle.volume_model.specs.Directory.{DirectoryRow, name_before, AreInOrder, chain_of, next_format_3, extended, rows_of, row_of}
-use Rattle.vtoc_core.specs.Loaded.{row_for}
-use Rattle.vtoc_core.proofs.NameOrder.{in_order}
+use Rattle.vtoc_core.proofs.NameOrder.{row_for, in_order}
 use Rattle.vtoc_load.specs.LoadedVtoc.{row_with, set_before}
 
 -- format 1s in the order of their bytes are in the order of their names

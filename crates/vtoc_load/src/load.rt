@@ -29,7 +29,7 @@ fn count_free(records: &[Placed]) -> usize
 {
     let mut count = 0;
     for placed in records {
-        count += usize::from(placed.is_free());
+        count += usize::from(placed.is_free_record());
     }
     count
 }

@@ -7,7 +7,8 @@ use Rattle.volume_model.specs.declared.place.Place.{Place}
 use Rattle.volume_model.specs.declared.place.Placed.{Placed}
 use Rattle.volume_model.specs.declared.place.Vtoc.{Vtoc}
 use Rattle.volume_model.specs.Check.{records_of}
-use Rattle.vtoc_check.specs.Places.{number_of, IsAscending}
+use Rattle.vtoc_check.specs.Places.{rank_of}
+use Rattle.vtoc_check.proofs.Ascending.{IsAscending}
 use Rattle.vtoc_check.specs.Sized.{IsSized}
 use Rattle.vtoc_check.proofs.Order.{ascending, above}
 use Rattle.vtoc_layout.specs.Layout.{AreDistinct, SetRecords, Layout, IsLayoutOf, records_in_set}
@@ -28,8 +29,8 @@ distinct_ascending : (from : ℕ) (records : List Placed) → IsAscending from r
 distinct_ascending from [] h = tt
 distinct_ascending from (placed ∷ more) h = (
   (λ c. let at = from_map place_of more placed.place c in
-      omega (arith, above (number_of placed.place + 1) more at.1.0 at.0 h.2 at.1.1, ap (λ (p : Placed). number_of p.place) at.1.2, ap number_of at.2)),
-  distinct_ascending (number_of placed.place + 1) more h.2,
+      omega (arith, above (rank_of placed.place + 1) more at.1.0 at.0 h.2 at.1.1, ap (λ (p : Placed). rank_of p.place) at.1.2, ap rank_of at.2)),
+  distinct_ascending (rank_of placed.place + 1) more h.2,
 )
 
 -- each record has a place of its own

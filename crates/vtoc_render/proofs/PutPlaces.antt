@@ -9,7 +9,8 @@ use Rattle.volume_model.specs.declared.place.Vtoc.{Vtoc}
 use Rattle.volume_model.specs.Check.{records_of}
 use Rattle.volume_model.specs.Directory.{placed_from, placed_in}
 use Rattle.volume_model.specs.Unit.{fives_for}
-use Rattle.vtoc_check.specs.Places.{number_of, IsAscending}
+use Rattle.vtoc_check.specs.Places.{rank_of}
+use Rattle.vtoc_check.proofs.Ascending.{IsAscending}
 use Rattle.vtoc_check.specs.Sized.{IsSized}
 use Rattle.vtoc_check.proofs.Order.{ascending}
 use Rattle.vtoc_layout.specs.Layout.{AreDistinct}
@@ -56,7 +57,7 @@ IsLow placed = placed.place.track ≤ 65535
 
 few_ascending : (from : ℕ) (placed : Placed) (more : List Placed) → IsAscending from (placed ∷ more) → All IsLow (placed ∷ more) → from + length (placed ∷ more) ≤ 16777216
 few_ascending from placed [] is low = omega (arith, is.0, is.1, All-head IsLow placed [] low)
-few_ascending from placed (next ∷ more) is low = omega (arith, is.0, few_ascending (number_of placed.place + 1) next more is.2 (All-tail IsLow placed (next ∷ more) low))
+few_ascending from placed (next ∷ more) is low = omega (arith, is.0, few_ascending (rank_of placed.place + 1) next more is.2 (All-tail IsLow placed (next ∷ more) low))
 
 counted : (from : ℕ) (records : List Placed) → IsAscending from records → All IsLow records → length records ≤ 16777216
 counted from [] is low = omega arith

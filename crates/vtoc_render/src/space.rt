@@ -20,19 +20,17 @@ use vtoc_core::{Row, Volume};
 
 /// The tracks of extents.
 fn runs_below(alloc: Global, volume: &Volume, extents: &[Extent]) -> Result<Vec<Run>, NoMemory>
-    requires extents { AreBelow volume.now extents.now }
-    requires usable { volume.now.usable ≤ 65535 }
+    requires { AreBelow volume.now extents.now }
     ensures runs { IfOk result (λ runs. runs.items ≡ runs_in (heads_of volume.now.device) extents.now) }
     ensures below { IfOk result (λ runs. All (λ run. end_of run ≤ volume.now.usable) runs.items) }
 {
-    let runs = extents_runs(alloc, extents, volume.device.heads())?;
+    let runs = extents_runs(alloc, volume.device, extents)?;
     Ok(runs)
 }
 
 /// The tracks of a data set, if there is one.
 fn runs_of(alloc: Global, volume: &Volume, row: Option<&Row>) -> Result<Vec<Run>, NoMemory>
-    requires row { IfSome (option_copied row) (λ row. AreBelow volume.now row.extents) }
-    requires usable { volume.now.usable ≤ 65535 }
+    requires { IfSome (option_copied row) (λ row. AreBelow volume.now row.extents) }
     ensures runs { IfOk result (λ runs. runs.items ≡ runs_of_rows volume.now (option_to_list (option_copied row.entry))) }
     ensures below { IfOk result (λ runs. All (λ run. end_of run ≤ volume.now.usable) runs.items) }
 {

@@ -1,10 +1,9 @@
-use Rattle.std.proofs.Common.{ℕ, ap, sym, ◌∙◌}
+use Rattle.std.proofs.Common.{sym, ◌∙◌}
 use Rattle.ckd_image.specs.Device.{heads_of}
 use Rattle.volume_model.specs.Pinned.{used_tracks, whole_tracks}
-use Rattle.plan_core.specs.Release.{kept_of}
 use Rattle.job_select.proofs.tracks.kept_tracks.Goals as goal
 
 pub returns : goal.returns
 returns c set is =
-    c.release_of.ensures ∙ ap (λ (heads : ℕ). kept_of heads c.args.row.now) c.heads.ensures
+    c.release_of.ensures
     ∙ (λ i. whole_tracks (heads_of c.args.device) (used_tracks (sym is.fields_are i)) (sym is.extents_are i))

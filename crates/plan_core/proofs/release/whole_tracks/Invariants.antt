@@ -1,4 +1,5 @@
 use Rattle.std.proofs.Common.{◌≡◌, ◌+◌, ◌-◌, ◌≤◌, drop}
+use Rattle.ckd_image.specs.Device.{heads_of}
 use Rattle.volume_model.specs.Pinned.{whole_tracks}
 use Rattle.plan_core.specs.Extents.{extents_at}
 use Rattle.plan_core.proofs.release.whole_tracks.Given as goal
@@ -7,5 +8,5 @@ use Rattle.plan_core.proofs.release.whole_tracks.Given as goal
 abbrev pub invariant-loop-extent : goal.invariant-loop-extent
 invariant-loop-extent l = record {
   few : l.kept ≤ l.used;
-  rest : l.kept + whole_tracks l.heads (l.used - l.kept) (extents_at l.heads (drop l.extent-index l.extents)) ≡ whole_tracks l.heads l.used (extents_at l.heads l.extents);
+  rest : l.kept + whole_tracks (heads_of l.device) (l.used - l.kept) (extents_at (heads_of l.device) (drop l.extent-index l.extents)) ≡ whole_tracks (heads_of l.device) l.used (extents_at (heads_of l.device) l.extents);
 }

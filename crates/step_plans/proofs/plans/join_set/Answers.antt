@@ -1,4 +1,5 @@
-use Rattle.std.proofs.Common.{inl, inr, List, [], ◌∷◌, ◌++◌, length, sym, ap, subst, ◌∙◌, arith}
+use Rattle.std.proofs.Common.{◌≡◌, inl, inr, List, [], ◌∷◌, ◌++◌, length, sym, ap, subst, ◌∙◌, arith}
+use Rattle.ckd_image.specs.Device.{heads_of}
 use Rattle.dscb_rec.specs.declared.field.Extent.{Extent}
 use Rattle.free_map.specs.declared.run.Run.{Run}
 use Rattle.volume_change.specs.declared.change.Change.TheVariants.{Swap}
@@ -7,6 +8,8 @@ use Rattle.move_core.specs.declared.steps.Step.TheVariants as steps
 use Rattle.unit_steps.specs.declared.plan.Tracks.TheVariants as texts
 use Rattle.move_core.specs.Steps.{IsNewKind}
 use Rattle.step_plans.specs.Plans.{AreRuns, extents_from}
+use Rattle.plan_core.specs.Extents.{extents_at}
+use Rattle.step_plans.proofs.Fronts.{tracks_few}
 use Rattle.step_plans.proofs.LoadedRows.{sound_runs}
 use Rattle.step_plans.proofs.Makers.{join_room, join_plan}
 use Rattle.step_plans.proofs.plans.join_set.Goals.{then-extents-gt-MOST_EXTENTS-via-then-extents-gt-MOST_EXTENTS, then-extents-gt-MOST_EXTENTS-via-else-extents-gt-MOST_EXTENTS+then-extents-eq1}
@@ -21,25 +24,26 @@ returns-then-extents-gt-MOST_EXTENTS-clause-none c = elim c.then-extents-gt-MOST
       inr (inr (c.in-Some.row.now, c.in-Some.ensures.found, inl (sym (ap length c.as_slice-extents.ensures) ∙ w.if-extents-eq1.true)))
 ]
 
-pub count_tracks-len-requires-clause-runs : goal.count_tracks-len-requires-clause-runs
-count_tracks-len-requires-clause-runs c =
-    subst (AreRuns c.args.volume.now.device) (sym c.as_slice-extents.ensures) (sound_runs c.args.volume.now c.requires.sound c.in-Some.row.now c.in-Some.ensures.found.there)
-
-pub overflow_cast-len : goal.overflow_cast-len
-overflow_cast-len c = omega (arith, c.count_tracks-len.ensures.few)
+pub count_tracks-len-requires : goal.count_tracks-len-requires
+count_tracks-len-requires c =
+    let row = c.in-Some.row.now in
+    let same : length (tracks_of (extents_at (heads_of c.args.volume.now.device) c.as_slice-extents.result.now)) ≡ length (tracks_of (extents_from c.args.volume.now.device row.extents)) =
+    λ i. length (tracks_of (extents_at (heads_of c.args.volume.now.device) (c.as_slice-extents.ensures i))) in
+    let runs : AreRuns c.args.volume.now.device row.extents = sound_runs c.args.volume.now c.requires.sound row c.in-Some.ensures.found.there in
+    omega (arith, same, tracks_few c.args.volume.now.device row.extents runs, ap length c.as_slice-extents.ensures, c.if-extents-gt-MOST_EXTENTS.false)
 
 pub returns-then-len-eq0-clause-none : goal.returns-then-len-eq0-clause-none
 returns-then-len-eq0-clause-none c = inr (inr (
   c.in-Some.row.now,
   c.in-Some.ensures.found,
-  inr (sym (c.count_tracks-len.ensures.count ∙ ap (λ (extents : List Extent). length (tracks_of (extents_from c.args.volume.now.device extents))) c.as_slice-extents.ensures) ∙ c.if-len-eq0.true),
+  inr (sym (c.count_tracks-len.ensures ∙ (λ i. length (tracks_of (extents_at (heads_of c.args.volume.now.device) (c.as_slice-extents.ensures i))))) ∙ c.if-len-eq0.true),
 ))
 
 pub moved_row-requires : goal.moved_row-requires
 moved_row-requires c =
     join_room c.args.volume.now c.requires.sound c.args.name c.in-Some.row.now c.in-Some.ensures.found
     (λ one. c.if-extents-eq1.false (ap length c.as_slice-extents.ensures ∙ one)) c.args.first c.count_tracks-len.result
-    (c.count_tracks-len.ensures.count ∙ ap (λ (extents : List Extent). length (tracks_of (extents_from c.args.volume.now.device extents))) c.as_slice-extents.ensures)
+    (c.count_tracks-len.ensures ∙ (λ i. length (tracks_of (extents_at (heads_of c.args.volume.now.device) (c.as_slice-extents.ensures i)))))
     c.if-len-eq0.false (c.requires.place c.in-Some.row.now c.in-Some.ensures.found) c.kind_for.result
     (subst (λ (extents : List Extent). IsNewKind (extents_from c.args.volume.now.device extents) c.kind_for.result) c.as_slice-extents.ensures (c.kind_for.ensures c.args.volume.now.device))
 
@@ -47,7 +51,7 @@ pub returns-clause-plan : goal.returns-clause-plan
 returns-clause-plan c =
     join_plan c.args.volume.now c.requires.sound c.args.name c.in-Some.row.now c.in-Some.ensures.found
     (λ one. c.if-extents-eq1.false (ap length c.as_slice-extents.ensures ∙ one)) c.args.first c.count_tracks-len.result
-    (c.count_tracks-len.ensures.count ∙ ap (λ (extents : List Extent). length (tracks_of (extents_from c.args.volume.now.device extents))) c.as_slice-extents.ensures)
+    (c.count_tracks-len.ensures ∙ (λ i. length (tracks_of (extents_at (heads_of c.args.volume.now.device) (c.as_slice-extents.ensures i)))))
     c.if-len-eq0.false (c.requires.place c.in-Some.row.now c.in-Some.ensures.found) c.kind_for.result
     (subst (λ (extents : List Extent). IsNewKind (extents_from c.args.volume.now.device extents) c.kind_for.result) c.as_slice-extents.ensures (c.kind_for.ensures c.args.volume.now.device))
     c.in_ok-moved.moved c.in_ok-moved.ensures.name c.in_ok-moved.ensures.same c.in_ok-moved.ensures.extents c.args.unit c.in_ok-plan_of.field-0

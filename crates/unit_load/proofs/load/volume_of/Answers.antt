@@ -10,14 +10,13 @@ use Rattle.vtoc_load.specs.LoadedVtoc.{IsLoadedVtoc}
 use Rattle.unit_load.proofs.Keeping.{read_slots, run_stands, slots_of_vtoc, from_slots}
 use Rattle.unit_load.proofs.Reading.{reads_then}
 use Rattle.unit_load.proofs.Runs.{said_slot, run_blocks}
-use Rattle.volume_model.proofs.Addresses.{track_is}
 use Rattle.unit_load.proofs.load.volume_of.Goals as goal
 
 pub returns-in_err-run-clause-stop : goal.returns-in_err-run-clause-stop
 returns-in_err-run-clause-stop g c = λ told.
     let contents : Slots = (g.P.Pool.disk c.args.journal.now.pool).state.contents c.args.unit in
     let at = c.args.label.now.vtoc.at in
-    let track : track_at (heads_of c.args.head.device) at ≡ c.track_number-track.result = sym (c.track_number-track.ensures ∙ track_is c.args.head.device at) in
+    let track : track_at (heads_of c.args.head.device) at ≡ c.track_of-track.result = sym c.track_of-track.ensures.value in
     let here : contents (track_at (heads_of c.args.head.device) at) ≡ c.deref.result.now = ap contents track ∙ (sym (c.in_ok-slot.ensures.slot told) ∙ sym c.deref.ensures.value) in
     let p = err_from_is_err_and c.from_residual-in_err-run.result c.from_residual-in_err-run.ensures.1 in
     rw (p.1, p.2) (c.in_err-run.ensures.stop contents here)
@@ -47,8 +46,8 @@ volume_in-requires-clause-run g c =
     let size : (g.P.Pool.shape c.args.journal.now.pool).block_size unit ≡ slot_of c.args.head.device =
     sym c.in_ok-slot.ensures.long ∙ (c.in_ok-slot.ensures.said ∙ said_slot ((g.P.Pool.shape c.args.journal.now.pool).head c.args.unit) c.args.head.device c.requires.head.stands.slot) in
     let later : (g.P.Pool.shape c.read_slot.new.journal.pool).block_size unit ≡ slot_of c.args.head.device = ap (λ (s : Shape). s.block_size unit) c.read_slot.ensures.reads.shape ∙ size in
-    let track : track_at (heads_of c.args.head.device) c.args.label.now.vtoc.at ≡ c.track_number-track.result = sym (c.track_number-track.ensures ∙ track_is c.args.head.device c.args.label.now.vtoc.at) in
-    run_stands c.args.head c.args.label.now.vtoc run _ c.track_number-track.result c.in_ok-slots.slots.items c.deref-3.result.now c.deref.result.now c.deref-2.result.now
+    let track : track_at (heads_of c.args.head.device) c.args.label.now.vtoc.at ≡ c.track_of-track.result = sym c.track_of-track.ensures.value in
+    run_stands c.args.head c.args.label.now.vtoc run _ c.track_of-track.result c.in_ok-slots.slots.items c.deref-3.result.now c.deref.result.now c.deref-2.result.now
     c.in_ok-run.ensures.run track later c.deref-3.ensures.value (c.deref-2.ensures.value ∙ sym c.deref.ensures.value) c.in_ok-slots.ensures.at_hand
 
 pub returns-clause-reads : goal.returns-clause-reads
@@ -61,8 +60,8 @@ returns-in_err-volume-clause-stop g c = λ told.
     let contents : Slots = (g.P.Pool.disk c.args.journal.now.pool).state.contents unit in
     let now : Slots = (g.P.Pool.disk c.read_slot.new.journal.pool).state.contents unit in
     let same : now ≡ contents = ap (λ (s : State). s.contents unit) (c.read_slot.ensures.reads.same told) in
-    let hand : c.deref-2.result.now ≡ now c.track_number-track.result =
-    c.deref-2.ensures.value ∙ (c.in_ok-slot.ensures.slot told ∙ ap (λ (slots : Slots). slots c.track_number-track.result) (sym same)) in
+    let hand : c.deref-2.result.now ≡ now c.track_of-track.result =
+    c.deref-2.ensures.value ∙ (c.in_ok-slot.ensures.slot told ∙ ap (λ (slots : Slots). slots c.track_of-track.result) (sym same)) in
     let size : (g.P.Pool.shape c.args.journal.now.pool).block_size unit ≡ slot_of c.args.head.device =
     sym c.in_ok-slot.ensures.long ∙ (c.in_ok-slot.ensures.said ∙ said_slot ((g.P.Pool.shape c.args.journal.now.pool).head c.args.unit) c.args.head.device c.requires.head.stands.slot) in
     let later : (g.P.Pool.shape c.read_slot.new.journal.pool).block_size unit ≡ slot_of c.args.head.device = ap (λ (s : Shape). s.block_size unit) c.read_slot.ensures.reads.shape ∙ size in
@@ -77,8 +76,8 @@ returns-clause-volume g c = λ told.
     let contents : Slots = (g.P.Pool.disk c.args.journal.now.pool).state.contents unit in
     let now : Slots = (g.P.Pool.disk c.read_slot.new.journal.pool).state.contents unit in
     let same : now ≡ contents = ap (λ (s : State). s.contents unit) (c.read_slot.ensures.reads.same told) in
-    let hand : c.deref-2.result.now ≡ now c.track_number-track.result =
-    c.deref-2.ensures.value ∙ (c.in_ok-slot.ensures.slot told ∙ ap (λ (slots : Slots). slots c.track_number-track.result) (sym same)) in
+    let hand : c.deref-2.result.now ≡ now c.track_of-track.result =
+    c.deref-2.ensures.value ∙ (c.in_ok-slot.ensures.slot told ∙ ap (λ (slots : Slots). slots c.track_of-track.result) (sym same)) in
     let size : (g.P.Pool.shape c.args.journal.now.pool).block_size unit ≡ slot_of c.args.head.device =
     sym c.in_ok-slot.ensures.long ∙ (c.in_ok-slot.ensures.said ∙ said_slot ((g.P.Pool.shape c.args.journal.now.pool).head c.args.unit) c.args.head.device c.requires.head.stands.slot) in
     let later : (g.P.Pool.shape c.read_slot.new.journal.pool).block_size unit ≡ slot_of c.args.head.device = ap (λ (s : Shape). s.block_size unit) c.read_slot.ensures.reads.shape ∙ size in
@@ -92,14 +91,14 @@ returns-clause-slots g c = λ told.
     let size : (g.P.Pool.shape c.args.journal.now.pool).block_size unit ≡ slot_of c.args.head.device =
     sym c.in_ok-slot.ensures.long ∙ (c.in_ok-slot.ensures.said ∙ said_slot ((g.P.Pool.shape c.args.journal.now.pool).head c.args.unit) c.args.head.device c.requires.head.stands.slot) in
     let later : (g.P.Pool.shape c.read_slot.new.journal.pool).block_size unit ≡ slot_of c.args.head.device = ap (λ (s : Shape). s.block_size unit) c.read_slot.ensures.reads.shape ∙ size in
-    let track : track_at (heads_of c.args.head.device) c.args.label.now.vtoc.at ≡ c.track_number-track.result = sym (c.track_number-track.ensures ∙ track_is c.args.head.device c.args.label.now.vtoc.at) in
+    let track : track_at (heads_of c.args.head.device) c.args.label.now.vtoc.at ≡ c.track_of-track.result = sym c.track_of-track.ensures.value in
     let contents : Slots = (g.P.Pool.disk c.args.journal.now.pool).state.contents unit in
     let now : Slots = (g.P.Pool.disk c.read_slot.new.journal.pool).state.contents unit in
     let same : now ≡ contents = ap (λ (s : State). s.contents unit) (c.read_slot.ensures.reads.same told) in
-    let hand : c.deref-2.result.now ≡ now c.track_number-track.result =
-    c.deref-2.ensures.value ∙ (c.in_ok-slot.ensures.slot told ∙ ap (λ (slots : Slots). slots c.track_number-track.result) (sym same)) in
+    let hand : c.deref-2.result.now ≡ now c.track_of-track.result =
+    c.deref-2.ensures.value ∙ (c.in_ok-slot.ensures.slot told ∙ ap (λ (slots : Slots). slots c.track_of-track.result) (sym same)) in
     slots_of_vtoc _ _ c.args.head c.args.label.now run c.in_ok-slots.slots.items c.in_ok-volume.volume c.requires.head c.requires.inside
-    (run_stands c.args.head c.args.label.now.vtoc run _ c.track_number-track.result c.in_ok-slots.slots.items c.in_ok-slots.slots.items c.deref.result.now c.deref-2.result.now
+    (run_stands c.args.head c.args.label.now.vtoc run _ c.track_of-track.result c.in_ok-slots.slots.items c.in_ok-slots.slots.items c.deref.result.now c.deref-2.result.now
     c.in_ok-run.ensures.run track later refl (c.deref-2.ensures.value ∙ sym c.deref.ensures.value) c.in_ok-slots.ensures.at_hand)
     (subst (λ (l : List ℕ). (unit : Slots) → AreSlotsOf run (slot_of c.args.head.device) l unit → IsLoadedVtoc c.args.head c.args.label.now unit false c.in_ok-volume.volume)
     c.deref-3.ensures.value c.in_ok-volume.ensures.loaded)
@@ -113,9 +112,9 @@ returns-clause-kept g c =
     let size : (g.P.Pool.shape c.args.journal.now.pool).block_size unit ≡ slot_of c.args.head.device =
     sym c.in_ok-slot.ensures.long ∙ (c.in_ok-slot.ensures.said ∙ said_slot ((g.P.Pool.shape c.args.journal.now.pool).head c.args.unit) c.args.head.device c.requires.head.stands.slot) in
     let later : (g.P.Pool.shape c.read_slot.new.journal.pool).block_size unit ≡ slot_of c.args.head.device = ap (λ (s : Shape). s.block_size unit) c.read_slot.ensures.reads.shape ∙ size in
-    let track : track_at (heads_of c.args.head.device) c.args.label.now.vtoc.at ≡ c.track_number-track.result = sym (c.track_number-track.ensures ∙ track_is c.args.head.device c.args.label.now.vtoc.at) in
+    let track : track_at (heads_of c.args.head.device) c.args.label.now.vtoc.at ≡ c.track_of-track.result = sym c.track_of-track.ensures.value in
     from_slots _ _ c.args.head c.args.label.now run c.in_ok-slots.slots.items c.in_ok-volume.volume c.requires.head c.requires.inside
-    (run_stands c.args.head c.args.label.now.vtoc run _ c.track_number-track.result c.in_ok-slots.slots.items c.in_ok-slots.slots.items c.deref.result.now c.deref-2.result.now
+    (run_stands c.args.head c.args.label.now.vtoc run _ c.track_of-track.result c.in_ok-slots.slots.items c.in_ok-slots.slots.items c.deref.result.now c.deref-2.result.now
     c.in_ok-run.ensures.run track later refl (c.deref-2.ensures.value ∙ sym c.deref.ensures.value) c.in_ok-slots.ensures.at_hand)
     (subst (λ (l : List ℕ). (unit : Slots) → AreSlotsOf run (slot_of c.args.head.device) l unit → IsLoadedVtoc c.args.head c.args.label.now unit false c.in_ok-volume.volume)
     c.deref-3.ensures.value c.in_ok-volume.ensures.loaded)
