@@ -87,7 +87,7 @@ impl State {
             State::Today(test, place) => test.today(place, token),
             State::Star(test, place) => test.star(place, token),
             State::Shift(test, place) => test.shift(place, token),
-            State::Shifted(test, place, days) => close_step(test.dated(place, days), token),
+            State::Shifted(test, place, days) => close_step(test.from_today(place, days), token),
         }
     }
 }
@@ -246,13 +246,13 @@ impl Test {
         ensures { result ≡ spec.star_step self place (symbol_of token.entry) }
     {
         match token {
-            Token::Close => Some(self.dated(place, 0)),
+            Token::Close => Some(self.from_today(place, 0)),
             Token::Comma => Some(Step::Go(State::Shift(self, place))),
             _ => None,
         }
     }
 
-    fn dated(self, place: Place, days: i32) -> Step
+    fn from_today(self, place: Place, days: i32) -> Step
         ensures { result ≡ spec.days_from_today self place days }
     {
         Step::Keep(Value::Date(When::FromToday(days)), self.behind(place))

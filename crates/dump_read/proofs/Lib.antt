@@ -9,7 +9,7 @@ pub mod Delimited
 pub mod Bounds
 mod OneDump
 mod Ends
-pub mod Names
+mod Names
 mod PartFields
 pub mod PartChain
 mod PartStops

@@ -94,7 +94,7 @@ pub fn label_in(alloc: Global, head: DumpHead, bytes: &[u8]) -> Result<Option<La
 }
 
 /// Key and body, which have 140 bytes together.
-fn joined(key: &[u8], body: &[u8]) -> [u8; 140]
+fn key_and_body(key: &[u8], body: &[u8]) -> [u8; 140]
     requires { length key.now + length body.now ≡ 140 }
     ensures { result ≡ key.now ++ body.now }
 {
@@ -121,7 +121,7 @@ fn is_format_4(rec: &Rec) -> bool
     if rec.key.len() != 44 || rec.body.len() != 96 {
         return false;
     }
-    spells_format_4(&joined(rec.key.as_slice(), rec.body.as_slice()))
+    spells_format_4(&key_and_body(rec.key.as_slice(), rec.body.as_slice()))
 }
 
 /// Whether the slot of that track holds the record that the label names, and it is a format 4.

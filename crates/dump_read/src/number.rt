@@ -42,7 +42,7 @@ pub(crate) fn pair_in(bytes: &[u8]) -> Option<(u16, u16, &[u8])>
 }
 
 /// The number of four bytes.
-fn number_of(text: &[u8; 4]) -> u32
+fn from_big_bytes(text: &[u8; 4]) -> u32
     ensures { big_bytes 4 result ≡ text.now }
 {
     u32::from_be_bytes(*text)
@@ -63,5 +63,5 @@ pub(crate) fn padded(bytes: &[u8]) -> u32
     requires { length bytes.now < 4 }
     ensures { big_bytes 4 result ≡ bytes.now ++ replicate (4 - length bytes.now) 0 }
 {
-    number_of(&filled_up(bytes))
+    from_big_bytes(&filled_up(bytes))
 }

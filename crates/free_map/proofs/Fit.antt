@@ -1,24 +1,25 @@
 -- Runs that hold a need.
-use Rattle.std.proofs.Common.{◌≡◌, ℕ, zero, suc, ◌+◌, ◌*◌, ◌/◌, ◌%◌, ◌<◌, ◌≤◌, List, [], ◌∷◌, length, get_or, take, All, sym, ap, ◌∙◌, inl, inr, arith, add-zero}
+use Rattle.std.proofs.Common.{◌≡◌, ℕ, zero, suc, ◌+◌, ◌*◌, ◌/◌, ◌%◌, ◌<◌, ◌≤◌, List, [], ◌∷◌, length, get_or, take, All, sym, ap, subst, ◌∙◌, inl, inr, arith, add-zero}
 use Rattle.std.specs.List.{AllByRecursion}
-use Rattle.std.specs.Int.{div_ceil}
 use Rattle.std.proofs.lemmas.Bool.{cases_lt}
 use Rattle.std.proofs.lemmas.Grind.{div_ceil_times}
 use Rattle.std.proofs.lemmas.Nat.{le-div, mod-mul-add, div-add-mod'}
 use Rattle.std.proofs.lemmas.List.Elements.{recursion_from_All}
 use Rattle.std.proofs.Math.Nat.{mul-le-mul_right, div-mul-le_self}
+use Rattle.ckd_image.specs.Device.{ceil_div}
 use Rattle.free_map.specs.declared.run.Run.{Run}
 use Rattle.free_map.specs.Runs.{InRuns, AreApart}
 use Rattle.free_map.specs.Place.{rounded, aligned_part, IsPlace, IsLowestPlace}
+use Rattle.free_map.proofs.Ceilings.{ceiling_is}
 use Rattle.free_map.proofs.Apart.{from_le, Covers, OneCovers, one_covers, covered}
 
 -- a number is no more than the next multiple, which is less than one step further
 pub le_rounded : (n step : ℕ) → 1 ≤ step → (n ≤ rounded n step) × (rounded n step < n + step)
-le_rounded n step some = div_ceil_times n step (omega arith)
+le_rounded n step some = subst (λ (q : ℕ). (n ≤ q * step) × (q * step < n + step)) (ceiling_is n step some) (div_ceil_times n step (omega arith))
 
 pub rounded_multiple : (n step : ℕ) → 1 ≤ step → rounded n step % step ≡ 0
 rounded_multiple n step some =
-    let e = mod-mul-add (div_ceil n step) step 0 (omega arith) in
+    let e = mod-mul-add (ceil_div n step) step 0 (omega arith) in
     ap (λ (m : ℕ). m % step) (sym (add-zero (rounded n step))) ∙ e
 
 pub multiple_is : (n step : ℕ) → n % step ≡ 0 → n ≡ n / step * step
@@ -33,9 +34,9 @@ pub rounded_le : (n m step : ℕ) → 1 ≤ step → m % step ≡ 0 → n ≤ m 
 rounded_le n m step some h le =
     let e = multiple_is m step h in
     let near = le_rounded n step some in
-    elim (cases_lt (m / step) (div_ceil n step)) [
-      | inl lt ↦ (let more = mul_le (m / step + 1) (div_ceil n step) step (omega arith) in absurd (omega arith))
-      | inr small ↦ (let less = mul_le (div_ceil n step) (m / step) step small in omega arith)
+    elim (cases_lt (m / step) (ceil_div n step)) [
+      | inl lt ↦ (let more = mul_le (m / step + 1) (ceil_div n step) step (omega arith) in absurd (omega arith))
+      | inr small ↦ (let less = mul_le (ceil_div n step) (m / step) step small in omega arith)
     ]
 
 -- the last multiple up to an end is no less than any multiple up to there

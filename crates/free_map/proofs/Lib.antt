@@ -1,5 +1,6 @@
 pub mod Apart
 pub mod Gaps
+pub mod Ceilings
 pub mod Fit
 mod Counts
 pub mod Takes

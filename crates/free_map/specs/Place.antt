@@ -1,11 +1,11 @@
 -- Places for a number of tracks.
 use Rattle.std.specs.Prelude.{◌≡◌, ℕ, ◌+◌, ◌*◌, ◌-◌, ◌/◌, ◌%◌, ◌<◌, ◌≤◌}
-use Rattle.std.specs.Int.{div_ceil}
+use Rattle.ckd_image.specs.Device.{ceil_div}
 use Rattle.free_map.specs.declared.run.Run.{Run}
 
 -- a need in whole steps
 abbrev pub rounded : ℕ → ℕ → ℕ
-rounded need step = div_ceil need step * step
+rounded need step = ceil_div need step * step
 
 -- of a run, the part that lies on whole steps
 abbrev pub aligned_part : ℕ → Run → Run

@@ -10,7 +10,7 @@ use Rattle.sysin_words.specs.declared.lead.Verb.TheVariants as verbs
 use Rattle.sysin_forms.specs.declared.form.Form.{Form}
 use Rattle.sysin_forms.specs.declared.form.Form.TheVariants as forms
 use Rattle.sysin_forms.specs.declared.operand.Operand.{Operand}
-use Rattle.sysin_forms.specs.Operand.{number_of, name_of, clash}
+use Rattle.sysin_forms.specs.Operand.{operand_number, name_of, clash}
 use Rattle.sysin_forms.specs.Form.{verb_of_form, forms_of, keywords_of, place_of, is_one_of}
 use Rattle.sysin_commands.specs.Command.{takes_all}
 use Rattle.sysin_commands.specs.CommandProgress.{one_clashes, has_form, may_stand, has_room, may_have_more}
@@ -124,7 +124,7 @@ same_place keyword other e = sym (placed other) ∙ ap keyword_at (same_number (
 
 -- an operand clashes with itself
 pub clash_self : (keyword : Keyword) → clash keyword keyword ≡ true
-clash_self keyword = rw (equal_numbers (number_of keyword)) refl
+clash_self keyword = rw (equal_numbers (operand_number keyword)) refl
 
 -- one of a list passes a test that it passes
 pub one_passes : (list : List Keyword) (keyword : Keyword) (test : Keyword → Bool) → is_one_of list keyword ≡ true → test keyword ≡ true → list_any test list ≡ true

@@ -9,7 +9,7 @@ use Rattle.sysin_lang.specs.declared.command.Command.{Command}
 use Rattle.sysin_lang.specs.declared.command.Command.TheVariants as commands
 use Rattle.sysin_forms.specs.declared.form.Form.{Form}
 use Rattle.sysin_forms.specs.declared.form.Form.TheVariants as forms
-use Rattle.sysin_forms.specs.Operand.{number_of}
+use Rattle.sysin_forms.specs.Operand.{operand_number}
 
 -- the form of a command, which has a verb and keywords
 abbrev pub form_of : Command → Form
@@ -57,7 +57,7 @@ keywords_of forms.RestoreFull = Full ∷ Input ∷ Output ∷ Purge ∷ Wait ∷
 -- keywords have each a number
 abbrev pub place_of : Keyword → ℕ
 place_of LogicalInput = 0
-place_of keyword = number_of keyword
+place_of keyword = operand_number keyword
 
 -- whether a keyword is one of these
 abbrev pub is_one_of : List Keyword → Keyword → Bool

@@ -31,26 +31,26 @@ name_of operands.Wait = keywords.Wait
 name_of operands.Optimize = keywords.Optimize
 
 -- keywords of one operand have one number
-abbrev pub number_of : Keyword → ℕ
-number_of keywords.Vtoc = 1
-number_of keywords.Full = 2
-number_of keywords.Input = 3
-number_of keywords.LogicalInput = 3
-number_of keywords.Output = 4
-number_of keywords.Dataset = 5
-number_of keywords.Include = 6
-number_of keywords.Exclude = 7
-number_of keywords.By = 8
-number_of keywords.Index = 9
-number_of keywords.Limit = 10
-number_of keywords.Delete = 11
-number_of keywords.Purge = 12
-number_of keywords.Reset = 13
-number_of keywords.Replace = 14
-number_of keywords.Rename = 15
-number_of keywords.Tolerate = 16
-number_of keywords.Wait = 17
-number_of keywords.Optimize = 18
+abbrev pub operand_number : Keyword → ℕ
+operand_number keywords.Vtoc = 1
+operand_number keywords.Full = 2
+operand_number keywords.Input = 3
+operand_number keywords.LogicalInput = 3
+operand_number keywords.Output = 4
+operand_number keywords.Dataset = 5
+operand_number keywords.Include = 6
+operand_number keywords.Exclude = 7
+operand_number keywords.By = 8
+operand_number keywords.Index = 9
+operand_number keywords.Limit = 10
+operand_number keywords.Delete = 11
+operand_number keywords.Purge = 12
+operand_number keywords.Reset = 13
+operand_number keywords.Replace = 14
+operand_number keywords.Rename = 15
+operand_number keywords.Tolerate = 16
+operand_number keywords.Wait = 17
+operand_number keywords.Optimize = 18
 
 -- a part of a filter
 abbrev pub is_part : Keyword → Bool
@@ -65,7 +65,7 @@ is_dataset _ = false
 
 -- these two don't stand in one command: they are one operand, or a filter and a part of one
 abbrev pub clash : Keyword → Keyword → Bool
-clash a b = (number_of a == number_of b) || (is_dataset a && is_part b) || (is_part a && is_dataset b)
+clash a b = (operand_number a == operand_number b) || (is_dataset a && is_part b) || (is_part a && is_dataset b)
 
 -- each operand stands once
 abbrev pub StandOnce : List Operand → Type 0
@@ -74,4 +74,4 @@ StandOnce (operand ∷ more) = All (λ other. clash (name_of operand) (name_of o
 
 -- whether an operand stands
 abbrev pub has : Keyword → List Operand → Bool
-has keyword list = list_any (λ operand. number_of (name_of operand) == number_of keyword) list
+has keyword list = list_any (λ operand. operand_number (name_of operand) == operand_number keyword) list

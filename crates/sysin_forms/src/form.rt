@@ -6,7 +6,7 @@ ghost use Rattle.sysin_forms.specs.Operand.{name_of};
 ghost use Rattle.sysin_forms.specs.Form as spec;
 ghost use Rattle.sysin_forms.specs.declared.form.Form.TheVariants as forms;
 
-use crate::operand::{Operand, number_of};
+use crate::operand::{Operand, operand_number};
 use sysin_words::{Keyword, Verb};
 
 /// A command with the operands that it may have.
@@ -156,7 +156,7 @@ fn place_of(keyword: Keyword) -> u8
 {
     match keyword {
         Keyword::LogicalInput => 0,
-        _ => number_of(keyword),
+        _ => operand_number(keyword),
     }
 }
 

@@ -8,5 +8,5 @@ mod parts;
 
 pub use form::{Form, fits, forms_of};
 pub use made::command_of;
-pub use operand::{Operand, clashes, has, is_part, number_of};
+pub use operand::{Operand, clashes, has, is_part, operand_number};
 pub use parts::{Parts, filter_of};

@@ -76,8 +76,8 @@ impl Operand {
 }
 
 /// The number of the operand that a keyword is of.
-pub fn number_of(keyword: Keyword) -> u8
-    ensures { result ≡ spec.number_of keyword }
+pub fn operand_number(keyword: Keyword) -> u8
+    ensures { result ≡ spec.operand_number keyword }
 {
     match keyword {
         Keyword::Vtoc => 1,
@@ -119,7 +119,7 @@ fn is_dataset(keyword: Keyword) -> bool
 fn clash(left: Keyword, right: Keyword) -> bool
     ensures { result ≡ spec.clash left right }
 {
-    number_of(left) == number_of(right)
+    operand_number(left) == operand_number(right)
         || (is_dataset(left) && is_part(right))
         || (is_part(left) && is_dataset(right))
 }
@@ -137,7 +137,5 @@ pub fn clashes(operands: &[Operand], keyword: Keyword) -> bool
 pub fn has(operands: &[Operand], keyword: Keyword) -> bool
     ensures { result ≡ spec.has keyword operands.now }
 {
-    operands
-        .iter()
-        .any(|operand| number_of(operand.name()) == number_of(keyword))
+    operands.iter().any(|operand| operand_number(operand.name()) == operand_number(keyword))
 }

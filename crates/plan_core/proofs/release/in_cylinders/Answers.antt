@@ -1,5 +1,5 @@
 use Rattle.std.proofs.Common.{ap, ◌*◌, ◌∙◌, ℕ}
-use Rattle.plan_core.proofs.Ceilings.{ceiling_is}
+use Rattle.free_map.proofs.Ceilings.{ceiling_is}
 use Rattle.plan_core.proofs.release.in_cylinders.Goals as goal
 
 pub returns : goal.returns
