@@ -1,16 +1,16 @@
 -- The four steps of a commit, one after another.
 use Rattle.std.proofs.Common.{◌≡◌, inl, inr, ℕ, ◌≤◌, List, [], ◌∷◌, length, Bool, true, false, refl, ◌∙◌, ap, arith}
-use Rattle.std.specs.Prelude.{◌==◌, ◌||◌, All}
+use Rattle.std.specs.Prelude.{◌||◌, All}
 use Rattle.std.specs.List.{AllByRecursion}
-use Rattle.std.proofs.lemmas.Bool.{or_parts, and_left}
+use Rattle.std.proofs.lemmas.Bool.{or_parts}
 use Rattle.std.proofs.lemmas.List.Elements.{recursion_from_All}
 use Rattle.dasd_pool.specs.Disk.{Image, Shape, State, Disk, LeavesOnly, Runs, Spares, Touches, IsSynced, is_at, none}
 use Rattle.dasd_pool.proofs.Moments.{and_then, weaken, since_start}
 use Rattle.redo_core.specs.declared.entries.Entry.{Entry}
 use Rattle.redo_core.specs.Format.{is_open}
 use Rattle.redo_core.specs.Reading.{among, placed}
-use Rattle.redo_core.specs.Phases.{targets, of_commit}
-use Rattle.redo_core.specs.Steps.{HoldsEither, IsShut, IsDone, HasEntries, IsPlaced, of_body}
+use Rattle.redo_core.specs.Phases.{targets, of_body, of_commit}
+use Rattle.redo_core.specs.Steps.{HoldsEither, IsShut, IsDone, HasEntries, IsPlaced}
 use Rattle.redo_core.proofs.Crash.{not_place, other_block, not_gate, not_gate_block, not_body, low_not_body, body_same, placed_agree, staging_crash, opening_crash, placing_crash, closing_crash, IsReady}
 
 -- no entry is a block of the journal, apart from the control
@@ -89,8 +89,9 @@ module _ (size : ℕ → ℕ) (journal : ℕ) (entries : List Entry) where
 -- each step writes blocks of the journal, or targets
 pub of_commit_parts : (journal : ℕ) (entries : List Entry) (u b : ℕ) → of_commit journal entries u b ≡ false → (of_body journal u b ≡ false) × (is_at journal 1 u b ≡ false) × (among (targets entries) u b ≡ false)
 of_commit_parts journal entries u b apart =
-    let parts = or_parts (u == journal) (among (targets entries) u b) apart in
-    (and_left (u == journal) _ parts.0, and_left (u == journal) _ parts.0, parts.1)
+    let parts = or_parts (of_body journal u b || is_at journal 1 u b) (among (targets entries) u b) apart in
+    let own = or_parts (of_body journal u b) (is_at journal 1 u b) parts.0 in
+    (own.0, own.1, parts.1)
 
 -- each image that a crash since the start has left
 pub each_image : (size : ℕ → ℕ) (journal : ℕ) (entries : List Entry) (old new : Disk) → IsShut journal old.state → LeavesOnly old new (HoldsEither size journal old.state entries)

@@ -8,8 +8,8 @@ use Rattle.redo_core.specs.declared.entries.Entry.{Entry}
 use Rattle.redo_core.specs.declared.target.Target.{Target}
 use Rattle.redo_core.specs.Format.{is_open, directory_in}
 use Rattle.redo_core.specs.Reading.{is_place, among, set_block, placed, overlay, entry_for, body_for}
-use Rattle.redo_core.specs.Phases.{targets}
-use Rattle.redo_core.specs.Steps.{HoldsOld, HoldsNew, HoldsEither, IsShut, HasEntries, of_body}
+use Rattle.redo_core.specs.Phases.{targets, of_body}
+use Rattle.redo_core.specs.Steps.{HoldsOld, HoldsNew, HoldsEither, IsShut, HasEntries}
 
 -- another unit, or another block of the unit
 pub other_unit : (unit block u b : ℕ) → (u ≡ unit → ⊥) → is_at unit block u b ≡ false

@@ -1,5 +1,5 @@
 -- What a format leaves: the blocks read as it promises, and the volumes are spared.
-use Rattle.std.proofs.Common.{◌≡◌, ◌<◌, ◌≤◌, ℕ, ◌+◌, List, ◌++◌, length, sym, ◌∙◌, ap, subst, arith}
+use Rattle.std.proofs.Common.{◌≡◌, ◌<◌, ◌≤◌, ℕ, ◌+◌, ◌-◌, ◌*◌, List, ◌++◌, length, sym, ◌∙◌, ap, subst, arith}
 use Rattle.std.specs.Prelude.{replicate, ◌==◌, false}
 use Rattle.std.proofs.lemmas.Bool.{false≢true, ne_eqb}
 use Rattle.std.proofs.lemmas.List.{get_or-replicate}
@@ -41,16 +41,21 @@ module _ (shape : Shape) (names : List Serial) (room : ℕ) (image : Image) (res
         volumes_are = λ u b less. sym (closed_overlay shape.block_size (journal_of shape) image closed u b ∙ same u b less);
       }
 
-pub is_formatted : (shape : Shape) (journal : ℕ) (names : List Serial) (room : ℕ) (rest : List ℕ) (old new : Disk) → journal_of shape ≡ journal → HasHead shape → AreNames shape names → 3 ≤ room → room ≤ 8191
-    → 4 + room ≤ shape.blocks journal → new.state.contents journal 0 ≡ registration_text names room ++ rest → new.state.contents journal 1 ≡ replicate wide 0 → new.state.contents journal 2 ≡ replicate wide 0
-    → IsSynced new.state → Runs (of_journal journal) old new → IsFormatted shape old.state names room new.state
-is_formatted shape journal names room rest old new unit head are least most long registration gate control all run = record {
-  all = all;
-  closed = ap (λ (j : ℕ). is_open (new.state.contents j 1)) unit ∙ ap is_open gate;
-  reads = reads_as shape names room new.state.contents rest head are least most (subst (λ (j : ℕ). 4 + room ≤ shape.blocks j) (sym unit) long)
-      (ap (λ (j : ℕ). new.state.contents j 0) unit ∙ registration) (ap (λ (j : ℕ). new.state.contents j 1) unit ∙ gate) (ap (λ (j : ℕ). new.state.contents j 2) unit ∙ control)
-      old.state.contents (λ u b less. run.touches.contents u b (ne_eqb u journal (λ same. omega (arith, same, less, unit))));
-}
+pub is_formatted : (shape : Shape) (journal : ℕ) (names : List Serial) (room : ℕ) (old new : Disk) → journal_of shape ≡ journal → HasHead shape → AreNames shape names → 3 ≤ room → room ≤ 8191
+    → 4 + room ≤ shape.blocks journal → new.state.contents journal 0 ≡ registration_text names room ++ replicate (wide - (16 + 6 * length names)) 0 → new.state.contents journal 1 ≡ replicate wide 0
+    → new.state.contents journal 2 ≡ replicate wide 0 → IsSynced new.state → Runs (of_journal journal) old new → IsFormatted shape old.state names room new.state
+is_formatted shape journal names room old new unit head are least most long registration gate control all run =
+    let held : (b : ℕ) → new.state.contents (journal_of shape) b ≡ new.state.contents journal b = λ b. ap (λ (j : ℕ). new.state.contents j b) unit in
+    record {
+      all = all;
+      registration = held 0 ∙ registration;
+      gate = held 1 ∙ gate;
+      control = held 2 ∙ control;
+      closed = ap is_open (held 1 ∙ gate);
+      reads = reads_as shape names room new.state.contents (replicate (wide - (16 + 6 * length names)) 0) head are least most (subst (λ (j : ℕ). 4 + room ≤ shape.blocks j) (sym unit) long)
+          (held 0 ∙ registration) (held 1 ∙ gate) (held 2 ∙ control)
+          old.state.contents (λ u b less. run.touches.contents u b (ne_eqb u journal (λ same. omega (arith, same, less, unit))));
+    }
 
 -- a stop while a journal is made leaves the volumes
 pub volumes_spared : (shape : Shape) (journal : ℕ) (old new : Disk) → journal_of shape ≡ journal → Runs (of_journal journal) old new → LeavesOnly old new (SparesVolumes shape old.state)

@@ -9,8 +9,8 @@ use Rattle.redo_core.specs.declared.entries.Entry.{Entry}
 use Rattle.redo_core.specs.declared.target.Target.{Target}
 use Rattle.redo_core.specs.Format.{directory_in}
 use Rattle.redo_core.specs.Reading.{set_block, placed, among, entry_for}
-use Rattle.redo_core.specs.Phases.{targets}
-use Rattle.redo_core.specs.Steps.{HasEntries, of_body}
+use Rattle.redo_core.specs.Phases.{targets, of_body}
+use Rattle.redo_core.specs.Steps.{HasEntries}
 use Rattle.redo_core.proofs.Crash.{other_unit, other_block, images_from, images_same}
 
 -- a block of the body is one of its blocks

@@ -1,12 +1,12 @@
 -- What an opening keeps, and what a format makes.
-use Rattle.std.specs.Prelude.{◌≡◌, ◌≢◌, ◌<◌, ◌≤◌, ◌⊎◌, ℕ, List, length, replicate, All, AllPairs, Bool, true, false, ◌&&◌, ◌||◌}
+use Rattle.std.specs.Prelude.{◌≡◌, ◌≢◌, ◌<◌, ◌≤◌, ◌⊎◌, ℕ, ◌+◌, ◌-◌, ◌*◌, List, ◌++◌, length, replicate, All, AllPairs, Bool, true, false, ◌&&◌, ◌||◌}
 use Rattle.dasd_pool.specs.Disk.{Image, Shape, State, IsSynced, Spares, is_at}
 use Rattle.vol_label.specs.declared.serial.Serial.{Serial}
 use Rattle.vol_label.specs.Serial.{IsSerial}
 use Rattle.redo_core.specs.declared.control.Control.{Control}
 use Rattle.redo_core.specs.declared.target.Target.{Target}
 use Rattle.redo_core.specs.declared.control.Control.TheVariants.{Idle}
-use Rattle.redo_core.specs.Format.{wide, is_open, directory_in}
+use Rattle.redo_core.specs.Format.{wide, is_open, directory_in, registration_text}
 use Rattle.redo_core.specs.Reading.{journal_of, among, fills_of, Reading, Reads}
 
 -- names for the volumes of a pool: from 1 to 64 serials, which differ
@@ -60,8 +60,12 @@ MakingLeaves shape old image =
     Spares (is_at journal 0) old image
     ⊎ ((image journal 0 ≡ replicate wide 0) ⊎ ((image journal 1 ≡ replicate wide 0) × (image journal 2 ≡ replicate wide 0)))
 
--- A format ended well: the volumes are as they were, under these names, no body is open, nothing is under way, and all is synced.
+-- A format ended well: the volumes are as they were, under these names, no body is open, nothing is under way, and all is synced. Gate and
+-- control are zeros, and so is what stands behind the registration.
 pub record IsFormatted (shape : Shape) (old : State) (names : List Serial) (room : ℕ) (new : State) : Type 0 where
   pub all : IsSynced new
+  pub registration : new.contents (journal_of shape) 0 ≡ registration_text names room ++ replicate (wide - (16 + 6 * length names)) 0
+  pub gate : new.contents (journal_of shape) 1 ≡ replicate wide 0
+  pub control : new.contents (journal_of shape) 2 ≡ replicate wide 0
   pub closed : is_open (new.contents (journal_of shape) 1) ≡ false
   pub reads : Reads shape new.contents (record { volumes = old.contents; names = names; room = room; control = Idle; fills = λ u. false })

@@ -1,5 +1,5 @@
 -- What a commit leaves, at any moment and at its end.
-use Rattle.std.specs.Prelude.{◌<◌, ◌≡◌, ◌⊎◌, ℕ, List, length, map, Bool, true, false, ◌==◌, ◌||◌}
+use Rattle.std.specs.Prelude.{◌<◌, ◌≡◌, ◌⊎◌, ℕ, List, length, map, Bool, true, false, ◌==◌, ◌&&◌, ◌||◌, nat_le}
 use Rattle.dasd_pool.specs.Disk.{Image, Shape, State, IsSynced, is_at}
 use Rattle.vol_label.specs.declared.serial.Serial.{Serial}
 use Rattle.redo_core.specs.declared.control.Control.{Control}
@@ -28,9 +28,13 @@ pub record IsCommitted (shape : Shape) (old : State) (entries : List Entry) (new
   pub all : IsSynced new
   pub reads : ReadsNew shape old entries new.contents
 
--- the blocks that a commit may write: those of the journal, and the targets
+-- whether a block may be of the body
+abbrev pub of_body : ℕ → ℕ → ℕ → Bool
+of_body journal u b = (u == journal) && nat_le 3 b
+
+-- the blocks that a commit may write: the body, the gate, and the targets
 abbrev pub of_commit : ℕ → List Entry → ℕ → ℕ → Bool
-of_commit journal entries u b = (u == journal) || among (targets entries) u b
+of_commit journal entries u b = (of_body journal u b || is_at journal 1 u b) || among (targets entries) u b
 
 -- an entry for a block of a volume that is there, or for the control block, where it is a control block
 pub record IsEntry (shape : Shape) (entry : Entry) : Type 0 where

@@ -1,5 +1,5 @@
 -- The steps of a commit and of a redo, in terms of blocks.
-use Rattle.std.specs.Prelude.{◌<◌, ◌≡◌, ◌⊎◌, ℕ, ◌+◌, ◌≤◌, List, [], length, take, Option, Some, None, Bool, true, false, ◌==◌, ◌&&◌, ◌||◌, nat_le}
+use Rattle.std.specs.Prelude.{◌<◌, ◌≡◌, ◌⊎◌, ℕ, ◌+◌, ◌≤◌, List, [], length, take, Option, Some, None, Bool, true, false, ◌==◌, ◌||◌}
 use Rattle.dasd_pool.specs.Disk.{Image, Shape, State, IsSynced, is_at}
 use Rattle.redo_core.specs.declared.entries.Entry.{Entry}
 use Rattle.redo_core.specs.declared.target.Target.{Target}
@@ -20,10 +20,6 @@ pub record IsPlaced (shape : Shape) (journal : ℕ) (entry : Entry) : Type 0 whe
   pub place : is_place journal entry.unit entry.block ≡ true
   pub there : entry.block < shape.blocks entry.unit
   pub slot : length entry.slot ≡ shape.block_size entry.unit
-
--- whether a block may be of the body
-abbrev pub of_body : ℕ → ℕ → ℕ → Bool
-of_body journal u b = (u == journal) && nat_le 3 b
 
 -- whether a block is the gate or the control
 abbrev pub of_status : ℕ → ℕ → ℕ → Bool

@@ -6,8 +6,8 @@ ghost use Rattle.dasd_pool.specs.Disk.{Image, IsSynced, LeavesOnly, Runs, none};
 ghost use Rattle.redo_core.specs.declared.control.Control.{Control};
 ghost use Rattle.redo_core.specs.Format.{wide, room_in};
 ghost use Rattle.redo_core.specs.Reading.{journal_of, among, placed, body_for};
-ghost use Rattle.redo_core.specs.Phases.{targets, of_commit, IsEntry, IsAtRest, IsStatusAfter, OldOrNew, IsCommitted};
-ghost use Rattle.redo_core.specs.Steps.{of_body, IsJournal, IsPlaced, IsShut, HasEntries, HoldsEither, IsDone};
+ghost use Rattle.redo_core.specs.Phases.{targets, of_body, of_commit, IsEntry, IsAtRest, IsStatusAfter, OldOrNew, IsCommitted};
+ghost use Rattle.redo_core.specs.Steps.{IsJournal, IsPlaced, IsShut, HasEntries, HoldsEither, IsDone};
 
 use crate::blocks::{put_block, put_directory, set_gate};
 use crate::entries::Entry;

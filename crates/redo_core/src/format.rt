@@ -253,8 +253,10 @@ pub fn format_on<P: Pool>(
     ensures refused { P.tells → IfErr result (IsFormatFault (P.shape pool.old) (P.disk pool.old).state.contents names.now room) }
     ensures unwritten { P.tells → IfErr result (λ fault. (fault ≡ JournalFault.Pool → ⊥) → (P.disk pool.new).state ≡ (P.disk pool.old).state) }
     ensures untouched { P.tells → IfErr result (λ fault. (fault ≡ JournalFault.Pool → ⊥) → Runs none (P.disk pool.old) (P.disk pool.new)) }
+    ensures careful { P.tells → IfErr result (λ fault. MayFormat (P.shape pool.old) (P.disk pool.old).state.contents names.now room ⊎ Runs none (P.disk pool.old) (P.disk pool.new)) }
     ensures any_moment { P.tells → LeavesOnly (P.disk pool.old) (P.disk pool.new) (SparesVolumes (P.shape pool.old) (P.disk pool.old).state) }
     ensures left { P.tells → LeavesOnly (P.disk pool.old) (P.disk pool.new) (MakingLeaves (P.shape pool.old) (P.disk pool.old).state) }
+    ensures runs { P.tells → Runs (of_journal journal) (P.disk pool.old) (P.disk pool.new) }
     ensures faults { P.faults pool.old ≤ P.faults pool.new }
     ensures cause { IfErr result (λ fault. fault ≡ JournalFault.Pool → Rose (P.faults pool.old) (P.faults pool.new)) }
 {

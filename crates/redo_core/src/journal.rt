@@ -1,12 +1,12 @@
 //! The journal of a pool, between two commits.
 
-ghost use Rattle.std.specs.Prelude.{◌≡◌, ◌≢◌, ◌≤◌, ◌<◌, ℕ, [], All, AllPairs, length, false, IfOk, IfErr, OnOk};
+ghost use Rattle.std.specs.Prelude.{◌≡◌, ◌≢◌, ◌⊎◌, ◌≤◌, ◌<◌, ℕ, [], All, AllPairs, length, false, IfOk, IfErr, OnOk};
 ghost use Rattle.dasd_pool.specs.Calls.{size_in};
 ghost use Rattle.dasd_pool.specs.Count.{Rose, HasCause};
 ghost use Rattle.dasd_pool.specs.Disk.{Image, LeavesOnly, Runs, IsSynced, none, is_at};
 ghost use Rattle.redo_core.specs.declared.control.Control.TheVariants.{Idle};
 ghost use Rattle.redo_core.specs.Reading.{journal_of, fills_of};
-ghost use Rattle.redo_core.specs.Steps.{IsJournal};
+ghost use Rattle.redo_core.specs.Steps.{IsJournal, of_journal};
 ghost use Rattle.redo_core.specs.Phases.{targets, of_commit, IsAtRest, IsEntry, IsStatusAfter, OldOrNew, IsCommitted};
 ghost use Rattle.redo_core.specs.Opening.{AreNames, IsFormatted, IsJournalSynced, IsOpened, MakingLeaves, ReadsSame, SparesVolumes, of_opening};
 ghost use Rattle.redo_core.specs.Faults.{IsFormatFault, IsOpenFault, MayFormat, MayOpen};
@@ -79,13 +79,16 @@ impl<P: Pool> Journal<P> {
         ensures shape { P.shape (pool_of result) ≡ P.shape pool }
         ensures formatted { P.tells → IfOk result (λ new. IsFormatted (P.shape pool) (P.disk pool).state names.now room (P.disk new).state) }
 
-        // It is made only where nothing stands against it. A refusal names the first cause, and at no moment was anything written.
+        // It is made only where nothing stands against it. A refusal names the first cause, and at no moment was anything written; nor was it
+        // where a block can't be read before all causes are known not to stand.
         ensures allowed { P.tells → OnOk result (MayFormat (P.shape pool) (P.disk pool).state.contents names.now room) }
         ensures refused { P.tells → IfErr result (λ stop. IsFormatFault (P.shape pool) (P.disk pool).state.contents names.now room stop.cause) }
         ensures unwritten { P.tells → IfErr result (λ stop. (stop.cause ≡ JournalFault.Pool → ⊥) → (P.disk stop.pool).state ≡ (P.disk pool).state) }
         ensures untouched { P.tells → IfErr result (λ stop. (stop.cause ≡ JournalFault.Pool → ⊥) → Runs none (P.disk pool) (P.disk stop.pool)) }
+        ensures careful { P.tells → IfErr result (λ stop. MayFormat (P.shape pool) (P.disk pool).state.contents names.now room ⊎ Runs none (P.disk pool) (P.disk stop.pool)) }
 
-        // At every moment, whatever the answer.
+        // At every moment, whatever the answer. Written are at most blocks of the journal.
+        ensures runs { P.tells → Runs (of_journal (journal_of (P.shape pool))) (P.disk pool) (P.disk (pool_of result)) }
         ensures any_moment { P.tells → LeavesOnly (P.disk pool) (P.disk (pool_of result)) (SparesVolumes (P.shape pool) (P.disk pool).state) }
         ensures left { P.tells → LeavesOnly (P.disk pool) (P.disk (pool_of result)) (MakingLeaves (P.shape pool) (P.disk pool).state) }
         ensures faults { P.faults pool ≤ P.faults (pool_of result) }
@@ -122,10 +125,12 @@ impl<P: Pool> Journal<P> {
         ensures room { IfOk result (λ journal. 3 ≤ journal.room) }
         ensures idle { IfOk result (λ journal. (journal.control ≡ Idle) × ((u : ℕ) → u < journal_of (P.shape pool) → fills_of journal.fills u ≡ false)) }
 
-        // It opens only where nothing stands against it. A refusal names the first cause, and at no moment was anything written.
+        // It opens only where nothing stands against it. A refusal names the first cause, and at no moment was anything written; nor was it
+        // where a block can't be read before all causes are known not to stand.
         ensures allowed { P.tells → OnOk result (MayOpen (P.shape pool) (P.disk pool).state.contents names.now) }
         ensures refused { P.tells → IfErr result (λ stop. IsOpenFault (P.shape pool) (P.disk pool).state.contents names.now stop.cause) }
         ensures unwritten { P.tells → IfErr result (λ stop. (stop.cause ≡ JournalFault.Pool → ⊥) → Runs none (P.disk pool) (P.disk stop.pool)) }
+        ensures careful { P.tells → IfErr result (λ stop. MayOpen (P.shape pool) (P.disk pool).state.contents names.now ⊎ Runs none (P.disk pool) (P.disk stop.pool)) }
 
         // At every moment, whatever the answer. Written are at most the gate and the targets of an open body.
         ensures runs { P.tells → Runs (of_opening (journal_of (P.shape pool)) (P.disk pool).state.contents) (P.disk pool) (P.disk (pool_after result)) }

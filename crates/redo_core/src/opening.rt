@@ -385,6 +385,7 @@ pub fn open_on<P: Pool>(
     ensures quiet { IfOk result (λ f. (f.control ≡ Idle) × ((u : ℕ) → u < journal_of (P.shape pool.old) → fills_of f.fills u ≡ false)) }
     ensures refused { P.tells → IfErr result (IsOpenFault (P.shape pool.old) (P.disk pool.old).state.contents names.now) }
     ensures unwritten { P.tells → IfErr result (λ fault. (fault ≡ JournalFault.Pool → ⊥) → Runs none (P.disk pool.old) (P.disk pool.new)) }
+    ensures careful { P.tells → IfErr result (λ fault. MayOpen (P.shape pool.old) (P.disk pool.old).state.contents names.now ⊎ Runs none (P.disk pool.old) (P.disk pool.new)) }
     ensures runs { P.tells → Runs (of_opening journal (P.disk pool.old).state.contents) (P.disk pool.old) (P.disk pool.new) }
     ensures any_moment { P.tells → IsJournalSynced (P.shape pool.old) (P.disk pool.old).state
         → LeavesOnly (P.disk pool.old) (P.disk pool.new) (ReadsSame (P.shape pool.old) (P.disk pool.old).state) }

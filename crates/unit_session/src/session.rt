@@ -1,6 +1,6 @@
 //! Volumes over an open journal.
 
-ghost use Rattle.std.specs.Prelude.{◌≡◌, ◌≤◌, ◌<◌, ℕ, false, [], None, Some, List, length, slice_get, IfOk, IfErr, OnOk, IsErr};
+ghost use Rattle.std.specs.Prelude.{◌≡◌, ◌⊎◌, ◌≤◌, ◌<◌, ℕ, false, [], None, Some, List, length, slice_get, IfOk, IfErr, OnOk, IsErr};
 ghost use Rattle.ckd_image.specs.Head.{IsHead, IsHeadFault};
 ghost use Rattle.dasd_pool.specs.Calls.{size_in};
 ghost use Rattle.dasd_pool.specs.Count.{Rose};
@@ -125,10 +125,12 @@ impl<P: Pool> Session<P> {
         // The gate is closed behind it.
         ensures closed { P.tells → IfOk result (λ session. is_open ((P.disk session.pool).state.contents (journal_of (P.shape session.pool)) 1) ≡ false) }
 
-        // A refusal names the first cause that stands against the opening, and at no moment was anything written.
+        // A refusal names the first cause that stands against the opening, and at no moment was anything written; nor was it where memory or the
+        // pool failed before all causes were known not to stand.
         ensures allowed { P.tells → OnOk result (MayOpen (P.shape pool) (P.disk pool).state.contents names.now) }
         ensures refused { P.tells → IfErr result (λ stop. IsOpenFault (P.shape pool) (P.disk pool).state.contents names.now stop.cause) }
         ensures unwritten { P.tells → IfErr result (λ stop. IsRefusal stop.cause → Runs none (P.disk pool) (P.disk stop.pool)) }
+        ensures careful { P.tells → IfErr result (λ stop. MayOpen (P.shape pool) (P.disk pool).state.contents names.now ⊎ Runs none (P.disk pool) (P.disk stop.pool)) }
         ensures runs { P.tells → Runs (of_opening (journal_of (P.shape pool)) (P.disk pool).state.contents) (P.disk pool) (P.disk (begun result)) }
     {
         let mut journal = match Journal::open_units(alloc, pool, names) {

@@ -3,8 +3,7 @@ use Rattle.dasd_pool.specs.Disk.{Runs, is_at}
 use Rattle.dasd_pool.proofs.Moments.{runs_then}
 use Rattle.redo_core.specs.Format.{is_open}
 use Rattle.redo_core.specs.Reading.{among}
-use Rattle.redo_core.specs.Phases.{targets, of_commit}
-use Rattle.redo_core.specs.Steps.{of_body}
+use Rattle.redo_core.specs.Phases.{targets, of_body, of_commit}
 use Rattle.redo_core.proofs.CommitMoments.{unlisted, body_moments, body_ready, opened_moments, gate_ready, placed_moments, placed_ready, closed_moments, is_done, of_commit_parts}
 use Rattle.redo_core.proofs.commit.apply_steps.Goals as goal
 

@@ -5,7 +5,8 @@ use Rattle.std.proofs.lemmas.List.Elements.{All-get_or}
 use Rattle.dasd_pool.specs.Disk.{Shape, is_at}
 use Rattle.dasd_pool.proofs.Moments.{runs_then}
 use Rattle.redo_core.specs.declared.entries.Entry.{Entry}
-use Rattle.redo_core.specs.Steps.{IsPlaced, of_body}
+use Rattle.redo_core.specs.Phases.{of_body}
+use Rattle.redo_core.specs.Steps.{IsPlaced}
 use Rattle.redo_core.proofs.Transitions.{body_within, images_more}
 use Rattle.redo_core.proofs.commit.stage.Goals as goal
 

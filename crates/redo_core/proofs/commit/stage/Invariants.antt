@@ -2,7 +2,7 @@ use Rattle.std.proofs.Common.{◌≡◌, ◌≤◌, ◌+◌, take}
 use Rattle.dasd_pool.specs.Disk.{Runs}
 use Rattle.redo_core.specs.Reading.{body_for}
 use Rattle.redo_core.specs.Phases.{targets}
-use Rattle.redo_core.specs.Steps.{of_body}
+use Rattle.redo_core.specs.Phases.{of_body}
 use Rattle.redo_core.proofs.commit.stage.Given as goal
 
 abbrev pub invariant-loop-entry : goal.invariant-loop-entry

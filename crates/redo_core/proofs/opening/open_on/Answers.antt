@@ -1,4 +1,4 @@
-use Rattle.std.proofs.Common.{ℕ, ◌≡◌, List, length, refl, sym, ap, subst, arith}
+use Rattle.std.proofs.Common.{ℕ, ◌≡◌, List, length, inl, inr, refl, sym, ap, subst, arith}
 use Rattle.std.specs.Prelude.{All}
 use Rattle.dasd_pool.specs.Disk.{Image, Shape, LeavesOnly}
 use Rattle.redo_core.specs.declared.target.Target.{Target}
@@ -94,3 +94,9 @@ returns-in-Ok-finish-clause-runs g c = λ told.
 pub returns-in-Err-finish-clause-runs : goal.returns-in-Err-finish-clause-runs
 returns-in-Err-finish-clause-runs g c = λ told.
     opening_runs c.args.journal (g.P.Pool.disk c.args.pool.now) (g.P.Pool.disk c.look.new.pool) (g.P.Pool.disk c.finish.new.pool) (c.look.ensures.runs told) (c.finish.ensures.runs told)
+
+pub returns-in-Err-clause-careful : goal.returns-in-Err-clause-careful
+returns-in-Err-clause-careful g c = λ told. inr (c.look.ensures.runs told)
+
+pub returns-in-Err-finish-clause-careful : goal.returns-in-Err-finish-clause-careful
+returns-in-Err-finish-clause-careful g c = λ told. inl (c.in-Ok.ensures.allowed told)

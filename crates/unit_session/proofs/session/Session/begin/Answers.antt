@@ -1,4 +1,4 @@
-use Rattle.std.proofs.Common.{List, length, refl, sym, ap, ◌∙◌}
+use Rattle.std.proofs.Common.{List, length, inl, refl, sym, ap, ◌∙◌}
 use Rattle.dasd_pool.specs.Count.{Rose}
 use Rattle.dasd_pool.specs.Disk.{Shape}
 use Rattle.vol_label.specs.declared.serial.Serial.{Serial}
@@ -85,3 +85,6 @@ returns-in-Err-loaded-clause-run g c =
 
 pub returns-in-Err-loaded-clause-runs : goal.returns-in-Err-loaded-clause-runs
 returns-in-Err-loaded-clause-runs g c told = rw (c.into_pool.ensures) (opened_reads (c.in-Ok.ensures.runs told) (c.loaded.ensures.reads.runs told))
+
+pub returns-in-Err-loaded-clause-careful : goal.returns-in-Err-loaded-clause-careful
+returns-in-Err-loaded-clause-careful g c told = inl (c.in-Ok.ensures.allowed told)
