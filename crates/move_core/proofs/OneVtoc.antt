@@ -1,5 +1,5 @@
--- A VTOC of an image reads in one way, however long its slots are.
-use Rattle.std.proofs.Common.{◌≡◌, ℕ, ◌+◌, ◌<◌, ◌≤◌, List, Bool, arith}
+-- A VTOC of an image reads in one way, however long its slots are, and any other where they are short.
+use Rattle.std.proofs.Common.{◌≡◌, ◌⊎◌, inl, inr, ℕ, ◌+◌, ◌<◌, ◌≤◌, List, Bool, arith}
 use Rattle.ckd_image.specs.declared.head.Head.{Head}
 use Rattle.ckd_image.specs.declared.track.Cchhr.{Cchhr}
 use Rattle.ckd_image.specs.Device.{heads_of}
@@ -8,6 +8,8 @@ use Rattle.volume_model.specs.Space.{track_at}
 use Rattle.volume_model.specs.Sound.{Slots, IsFormat4, IsVtoc}
 use Rattle.volume_model.proofs.OneText.{one_text, one_text_on}
 use Rattle.volume_model.proofs.OneVtoc.{spelled_format_4, spelled_vtoc}
+use Rattle.volume_model.proofs.OneVtoc as vtocs
+use Rattle.move_core.specs.Loaded.{AreShort}
 use Rattle.move_core.proofs.Frames.{vtoc_below, pointer_held}
 
 -- one slot says one format 4
@@ -29,3 +31,15 @@ one_vtoc head slots pointer sliding a b few one other =
     let below : track_at (heads_of head.device) pointer.at < head.tracks =
     vtoc_below head pointer slots sliding a one (track_at (heads_of head.device) pointer.at) (pointer_held head pointer slots sliding a one) in
     named_vtoc head slots pointer sliding a b (omega (arith, few, below)) one other
+
+-- the track of the format 4 is one of its run
+short_vtoc : (head : Head) (slots : Slots) (pointer : Cchhr) (sliding : Bool) (a b : Vtoc) → AreShort slots a.run
+    → (one : IsVtoc head slots pointer sliding a) → (other : IsVtoc head slots pointer sliding b) → (a ≡ b) × (one.bytes ≡ other.bytes)
+short_vtoc head slots pointer sliding a b short one other =
+    vtocs.one_vtoc head slots pointer sliding a b (short (track_at (heads_of head.device) pointer.at) (pointer_held head pointer slots sliding a one))
+    (λ k less. short (a.run.first + k) (omega arith, omega (arith, less))) one other
+
+pub read_vtoc : (head : Head) (slots : Slots) (pointer : Cchhr) (sliding : Bool) (a b : Vtoc) → (head.tracks ≤ 65535) ⊎ AreShort slots a.run
+    → (one : IsVtoc head slots pointer sliding a) → (other : IsVtoc head slots pointer sliding b) → (a ≡ b) × (one.bytes ≡ other.bytes)
+read_vtoc head slots pointer sliding a b (inl few) = one_vtoc head slots pointer sliding a b few
+read_vtoc head slots pointer sliding a b (inr short) = short_vtoc head slots pointer sliding a b short
