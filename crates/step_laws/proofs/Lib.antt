@@ -1,0 +1,13 @@
+mod Pairs
+mod Names
+mod Insertion
+mod Fives
+mod Changes
+mod Units
+mod Extents
+mod Copies
+mod Staying
+mod EachStep
+mod Outcome
+mod RowNames
+mod Standing
