@@ -17,7 +17,7 @@ use Rattle.job_lines.specs.declared.severity.Severity.{Severity}
 use Rattle.job_lines.specs.declared.severity.Severity.TheVariants as severities
 use Rattle.job_lines.specs.Severity as severity
 use Rattle.job_lines.specs.Severity.{greatest_code, severity_in}
-use Rattle.job_script.specs.Runs.{Ran, answers_of, HasGravest}
+use Rattle.job_script.specs.Runs.{Ran, answers_of, IsReported}
 
 -- ---- of a statement
 
@@ -117,8 +117,8 @@ end_small ran plan end sets small run =
     (subst IsSmallNext run.3 (next_small run.0 run.1 left.0 left.1)).1
 
 -- what each statement answered is the code of its gravest message
-pub answers_small : (ran : List Ran) → All HasGravest ran → All (λ one. one.1 ≤ 12) (answers_of ran)
+pub answers_small : (ran : List Ran) → All IsReported ran → All (λ one. one.1 ≤ 12) (answers_of ran)
 answers_small [] are = All-nil (λ (one : Statement × ℕ). one.1 ≤ 12)
 answers_small (one ∷ more) are =
     All-cons (λ (one : Statement × ℕ). one.1 ≤ 12) (one.statement, one.report.code) (answers_of more)
-    (subst (λ (m : ℕ). m ≤ 12) (sym (All-head HasGravest one more are)) (greatest_small one.report.messages)) (answers_small more (All-tail HasGravest one more are))
+    (subst (λ (m : ℕ). m ≤ 12) (sym (All-head IsReported one more are).code_is) (greatest_small one.report.messages)) (answers_small more (All-tail IsReported one more are))

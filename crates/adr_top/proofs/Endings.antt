@@ -118,7 +118,7 @@ module _ {P : Type 0} (pools : Ghosts P) (given : Given) (pool : P) (left : Afte
     | inr text ↦ elim text.end_is [
       | inl wanted ↦
           let has = subst (λ (e : RunEnd). HasRun ready.plan text.ran text.under e) (sym wanted ∙ is) text.statements in
-          let small = end_small (answers_of text.ran) ready.plan has.1.0 (text_sets ready.ready.ready.plan_is) (answers_small text.ran text.codes) has.1.1 in
+          let small = end_small (answers_of text.ran) ready.plan has.1.0 (text_sets ready.ready.ready.plan_is) (answers_small text.ran text.reports) has.1.1 in
           subst (λ (n : ℕ). n ≤ 12) (sym has.1.2) small
       | inr sink ↦ absurd (differ (sym sink.0 ∙ is) (λ k. omega (arith, k)))
     ]

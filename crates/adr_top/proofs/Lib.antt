@@ -4,3 +4,4 @@ mod Endings
 mod Named
 mod Opened
 mod Prepared
+mod Unmade

@@ -1,5 +1,5 @@
 -- A run over a session that was opened, as a run over the pool that was handed in.
-use Rattle.std.proofs.Common.{◌≡◌, ◌≢◌, inl, false, List, [], None, refl, sym, ap, subst, ◌∙◌}
+use Rattle.std.proofs.Common.{◌≡◌, ◌≢◌, ◌⊎◌, inl, false, List, [], None, refl, sym, ap, subst, ◌∙◌}
 use Rattle.by_rules.specs.declared.day.Day.{Day}
 use Rattle.dasd_pool.specs.Disk.{Runs, none}
 use Rattle.dasd_pool.proofs.Moments.{runs_then}
@@ -55,9 +55,10 @@ pub opens_not : {P : Type 0} (pools : Ghosts P) (pool stopped : P) (fault : Jour
     (left : After P) → IsRefused out stopped end left → end ≡ end_of fault → IsRun pools.tells (shown pools pool) (shown pools stopped) (fault ≡ faults.Pool → ⊥) [] None
     → (pools.tells → IsOpenFault (pools.shape pool) (pools.disk pool).state.contents serials fault)
     → (pools.tells → IsRefusal fault → Runs none (pools.disk pool) (pools.disk stopped))
+    → (pools.tells → MayOpen (pools.shape pool) (pools.disk pool).state.contents serials ⊎ Runs none (pools.disk pool) (pools.disk stopped))
     → (pools.tells → Runs (of_opening (journal_of (pools.shape pool)) (pools.disk pool).state.contents) (pools.disk pool) (pools.disk stopped))
     → Opens pools files out pool serials table today plan left
-opens_not {P} pools pool stopped fault end files out serials table today plan left refused end_is run cause unwritten opening =
+opens_not {P} pools pool stopped fault end files out serials table today plan left refused end_is run cause unwritten careful opening =
     subst (λ (a : After P). Opens pools files out pool serials table today plan a) same (record {
       run = refused_run end_is run;
       how = inl (record {
@@ -65,6 +66,7 @@ opens_not {P} pools pool stopped fault end files out serials table today plan le
         end_is = end_is;
         cause = cause;
         unwritten = unwritten;
+        careful = careful;
         opening = opening;
         did = record {
           steps = refl;
@@ -107,7 +109,7 @@ module _ {P : Type 0} (pools : Ghosts P) (pool : P) (session : SessionView P) (p
     wanted = runs.wanted;
     added = runs.leaves.added;
     statements = runs.statements;
-    codes = runs.leaves.codes;
+    reports = runs.leaves.reports;
     steps_are = runs.leaves.steps_are;
     none_added = runs.leaves.none_added;
     none_pending = runs.leaves.none_pending;

@@ -12,6 +12,7 @@ use Rattle.volume_model.specs.Unit.{UnitModel}
 use Rattle.redo_core.specs.declared.fault.JournalFault.{JournalFault}
 use Rattle.redo_core.specs.Faults.{IsFormatFault, IsOpenFault, MayFormat, MayOpen}
 use Rattle.redo_core.specs.Opening.{IsFormatted, MakingLeaves, SparesVolumes, of_opening}
+use Rattle.redo_core.specs.Steps.{of_journal}
 use Rattle.redo_core.specs.Reading.{journal_of}
 use Rattle.move_core.specs.declared.steps.Step.{Step}
 use Rattle.move_core.specs.Facts.{Facts, shown}
@@ -27,7 +28,7 @@ use Rattle.run_lines.specs.Endings.{end_of, last_line}
 use Rattle.run_lines.specs.Texts.{AppendsLess, Tells}
 use Rattle.job_script.specs.unit_session.Sessions.{IsRefusal}
 use Rattle.dump_fmt.specs.Outs.{FilesSeen}
-use Rattle.job_script.specs.Runs.{Ran, HandsOn, HasGravest, OnlyListed, steps_of, lines_of, RunOn, HasRun, printed_text}
+use Rattle.job_script.specs.Runs.{Ran, HandsOn, IsReported, OnlyListed, steps_of, lines_of, RunOn, HasRun, printed_text}
 use Rattle.job_script.specs.Ends.{SinkSeen, After, IsEndOf, Prints, Took, ended_before}
 use Rattle.adr_top.specs.Asked.{AskFor, Agrees, serials_of}
 use Rattle.adr_top.specs.Texts.{SourceSeen, Texts, AreReady, StopsTexts, TakesTexts, IsUncalled}
@@ -100,23 +101,25 @@ pub record WasMade {P : Type 0} (pools : Ghosts P) (out : SinkSeen) (pool : P) (
   pub line : ((left.end ≡ ends.Formatted (length serials) room) × Appends out.before out.after (last_line left.end))
       ⊎ ((left.end ≡ ends.Sink) × AppendsLess out.before out.after (last_line (ends.Formatted (length serials) room)) × Rose out.faults_before out.faults_after)
 
--- it wasn't, by the first cause; a refusal leaves the pool as it was
+-- It wasn't, by the first cause. A refusal leaves the pool as it was, and nothing is written before all causes are known not to stand.
 pub record WasNotMade {P : Type 0} (pools : Ghosts P) (out : SinkSeen) (pool : P) (serials : List Serial) (room : ℕ) (left : After P) : Type 0 where
   pub fault : JournalFault
   pub end_is : left.end ≡ end_of fault
   pub cause : pools.tells → IsFormatFault (pools.shape pool) (pools.disk pool).state.contents serials room fault
   pub failed : left.end ≡ ends.Pool → Rose (pools.faults pool) (pools.faults left.pool)
   pub unwritten : pools.tells → left.end ≢ ends.Pool → Runs none (pools.disk pool) (pools.disk left.pool)
+  pub careful : pools.tells → MayFormat (pools.shape pool) (pools.disk pool).state.contents serials room ⊎ Runs none (pools.disk pool) (pools.disk left.pool)
   pub did : DidNothing out left
 
--- No block of a volume is written, whatever moment a stop comes at, and of the journal's own none so that a registration comes to stand over an open gate.
+-- No block of a volume is written, whatever moment a stop comes at, and of the journal's own blocks a stop leaves what `MakingLeaves` says.
 pub record Formats {P : Type 0} (pools : Ghosts P) (out : SinkSeen) (pool : P) (serials : List Serial) (room : ℕ) (left : After P) : Type 0 where
   pub no_steps : left.steps ≡ []
   pub none_pending : left.pending ≡ None
   pub shape : pools.shape left.pool ≡ pools.shape pool
   pub later : pools.faults pool ≤ pools.faults left.pool
+  pub runs : pools.tells → Runs (of_journal (journal_of (pools.shape pool))) (pools.disk pool) (pools.disk left.pool)
   pub spares : pools.tells → LeavesOnly (pools.disk pool) (pools.disk left.pool) (SparesVolumes (pools.shape pool) (pools.disk pool).state)
-  pub registers_last : pools.tells → LeavesOnly (pools.disk pool) (pools.disk left.pool) (MakingLeaves (pools.shape pool) (pools.disk pool).state)
+  pub stops : pools.tells → LeavesOnly (pools.disk pool) (pools.disk left.pool) (MakingLeaves (pools.shape pool) (pools.disk pool).state)
   pub made : WasMade pools out pool serials room left ⊎ WasNotMade pools out pool serials room left
 
 pub record EndsFormat {P : Type 0} (pools : Ghosts P) (given : Given) (pool : P) (left : After P) : Type 0 where
@@ -136,17 +139,19 @@ pub record WasReady (given : Given) (volumes : List (Serial × List ℕ)) (table
   pub ready : AreReady path given.held given.sysin texts table plan
   pub takes : TakesTexts path given.held given.sysin
 
--- The journal wasn't opened, by the first cause. No more than its opening was written, and nothing where it was refused.
+-- The journal wasn't opened, by the first cause. No more than its opening was written, and nothing where it was refused, or where a cause to
+-- refuse it stands.
 pub record OpensNot {P : Type 0} (pools : Ghosts P) (out : SinkSeen) (pool : P) (serials : List Serial) (left : After P) : Type 0 where
   pub fault : JournalFault
   pub end_is : left.end ≡ end_of fault
   pub cause : pools.tells → IsOpenFault (pools.shape pool) (pools.disk pool).state.contents serials fault
   pub unwritten : pools.tells → IsRefusal fault → Runs none (pools.disk pool) (pools.disk left.pool)
+  pub careful : pools.tells → MayOpen (pools.shape pool) (pools.disk pool).state.contents serials ⊎ Runs none (pools.disk pool) (pools.disk left.pool)
   pub opening : pools.tells → Runs (of_opening (journal_of (pools.shape pool)) (pools.disk pool).state.contents) (pools.disk pool) (pools.disk left.pool)
   pub did : DidNothing out left
 
--- The journal was opened, and the text ran: statements of its plan by their codes, each as it means on the units for which the pool stood, and none began before the lines of
--- all before it were taken. Only one that was cut adds steps of its own, and only where the pool failed one is under way. Where they all only list, or no step was done and
+-- The journal was opened, and the text ran: statements of its plan by their codes, each as it means on the units for which the pool stood, and no step of one was done unless the
+-- lines of all before it were taken. Only one that was cut adds steps of its own, and only where the pool failed one is under way. Where they all only list, or no step was done and
 -- none is under way, no more than the opening was written.
 pub record RunsText {P : Type 0} (pools : Ghosts P) (files : FilesSeen) (out : SinkSeen) (pool : P) (serials : List Serial) (table : List Hold) (today : Day) (plan : Plan) (left : After P) : Type 0 where
   pub opened : pools.tells → MayOpen (pools.shape pool) (pools.disk pool).state.contents serials
@@ -155,7 +160,7 @@ pub record RunsText {P : Type 0} (pools : Ghosts P) (files : FilesSeen) (out : S
   pub wanted : RunEnd
   pub added : List Step
   pub statements : HasRun plan ran under wanted
-  pub codes : All HasGravest ran
+  pub reports : All IsReported ran
   pub steps_are : left.steps ≡ steps_of ran ++ added
   pub none_added : IfNone under (added ≡ [])
   pub none_pending : left.end ≢ ends.Pool → left.pending ≡ None

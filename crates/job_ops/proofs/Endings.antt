@@ -20,12 +20,13 @@ use Rattle.job_lines.specs.Severity.{greatest_code}
 use Rattle.job_ops.specs.declared.outcome.Outcome.{Outcome}
 use Rattle.job_ops.specs.declared.outcome.Outcome.TheVariants as outcomes
 use Rattle.job_ops.specs.Ends.{KeepsFacts, Ends, EndsStatement, HasOuts, IsCutOutcome, IsDoneOutcome, LeavesSession, IsUnchanged}
-use Rattle.job_ops.specs.Meaning.{MeansOnVolumes, MeansWhole, IsCutOnVolumes, verb_of}
+use Rattle.job_ops.specs.Meaning.{IsFramed, MeansOnVolumes, MeansWhole, IsCutOnVolumes, verb_of}
 use Rattle.job_ops.specs.Setting.{setting_of}
 
 module _ {P B : Type 0} {Own : B → Type 0} (pools : Ghosts P) (seen : OutDd B Own → OutSeen) (files : Files) (ins : List InSeen) (given : List (OutDd B Own)) (session : SessionView P) where
   module _ (next : SessionView P) (command : Command) (held : List Hold) (today : Day) (before after : List Step) (said : List Message)
-      (ends : Ends pools (MeansWhole (MeansOnVolumes (setting_of pools session held today) command) command) (IsCutOnVolumes (setting_of pools session held today) command) session before after [] said (Ok next)) where
+      (ends : Ends pools (MeansWhole (MeansOnVolumes (setting_of pools session held today) command) command) (IsCutOnVolumes (setting_of pools session held today) command) session before after [] said (Ok next))
+      (framed : IsFramed command said) where
     pub ends_done : (outcome : Outcome P B Own) → IsDoneOutcome next given after said outcome → EndsStatement pools seen files ins session command held today before outcome
     ends_done (outcomes.Done kept outs report steps) is = (
       ends.added,
@@ -36,7 +37,7 @@ module _ {P B : Type 0} {Own : B → Type 0} (pools : Ghosts P) (seen : OutDd B 
         means = subst (λ (l : List Message). MeansWhole (MeansOnVolumes (setting_of pools session held today) command) command units ends.added l) (sym (is.2 ∙ ends.messages_are)) (ends.ended told units settled);
         code_is = is.3 ∙ ap (λ (l : List Message). greatest_code l) (sym is.2);
       },
-      is.3 ∙ ap (λ (l : List Message). greatest_code l) (sym is.2),
+      record { code_is = is.3 ∙ ap (λ (l : List Message). greatest_code l) (sym is.2); framed = (framed.0, is.2 ∙ framed.1) },
     )
     ends_done (outcomes.Halted broken outs report steps) is = absurd is
     ends_done (outcomes.Short kept outs report steps) is = absurd is
@@ -70,10 +71,11 @@ module _ {P B : Type 0} {Own : B → Type 0} (pools : Ghosts P) (seen : OutDd B 
           is.2 ∙ starts (λ short. subst (λ (c : Cut P). IsShort c) is.0 short),
           was.run,
           was.cut,
+          is.4,
         )
     ends_cut (outcomes.Short kept outs report steps) is =
         let was : EndsAs (cuts.Short kept) = subst EndsAs is.0 ends in
-        (was.added, is.1 ∙ was.steps_are, was.facts, says report.messages is.2, was.run, was.cut)
+        (was.added, is.1 ∙ was.steps_are, was.facts, says report.messages is.2, was.run, was.cut, is.4)
 
 -- ---- what only reads
 

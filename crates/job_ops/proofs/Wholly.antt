@@ -24,7 +24,7 @@ use Rattle.job_steps.specs.declared.cut.Cut.TheVariants as cuts
 use Rattle.job_ops.specs.Consolidate.{ConsolidatesSet}
 use Rattle.job_ops.specs.Ends.{Ends}
 use Rattle.job_ops.specs.Copy.{CopiesSet, CopiesSets, IsCutCopy, request_of}
-use Rattle.job_ops.specs.Meaning.{MeansOnVolumes, MeansWhole, IsCutOnVolumes, verb_of, wish_of}
+use Rattle.job_ops.specs.Meaning.{IsFramed, MeansOnVolumes, MeansWhole, IsCutOnVolumes, verb_of, wish_of}
 use Rattle.job_ops.specs.Release.{ReleasesSet}
 use Rattle.job_ops.specs.Sets.{OverSets, IsCutOverSets}
 use Rattle.job_copies.specs.declared.wish.Wish.{Wish}
@@ -128,6 +128,19 @@ module _ {P : Type 0} (pools : Ghosts P) (command : Command) (held : List Hold) 
         ended = tt;
         cut = ends.cut;
       }
+
+  -- the lines around it are as they ought to be, whatever it did
+  pub ended_framed : (from next : SessionView P) (before after : List Step) (first between last : List Message) (code : ℕ) (result : Result (SessionView P) (Cut P))
+      → first ≡ messages.Started (verb_of command) ∷ [] → EndsWithin from before after first between (Ok next) → code ≡ greatest_code between
+      → IfOk result (λ kept. (kept ≡ next) × (last ≡ between ++ (messages.Ended (verb_of command) code ∷ []))) → IfOk result (λ kept. IsFramed command last)
+  ended_framed from next before after first between last code result started ends code_is ok =
+      let verb = verb_of command in
+      let between_is : between ≡ messages.Started verb ∷ ends.said = ends.messages_are ∙ ap (λ (l : List Message). l ++ ends.said) started in
+      let code_told : code ≡ greatest_code ends.said = code_is ∙ ap (λ (l : List Message). greatest_code l) between_is ∙ code_started verb ends.said in
+      IfOk-weaker result _ _ (λ kept p. (
+        ends.said,
+        p.1 ∙ ap (λ (l : List Message). l ++ (messages.Ended verb code ∷ [])) between_is ∙ ap (λ (c : ℕ). messages.Started verb ∷ (ends.said ++ (messages.Ended verb c ∷ []))) code_told,
+      )) ok
 
   -- it ended, and said so, or couldn't
   pub ended_wholly : (from next : SessionView P) (before after : List Step) (first between last : List Message) (code : ℕ) (result : Result (SessionView P) (Cut P)) → from ≡ session

@@ -23,7 +23,7 @@ use Rattle.job_lines.specs.Severity.{greatest_code}
 use Rattle.job_ops.specs.declared.report.Report.{Report}
 use Rattle.job_ops.specs.declared.outcome.Outcome.{Outcome}
 use Rattle.job_ops.specs.declared.outcome.Outcome.TheVariants as outcomes
-use Rattle.job_ops.specs.Meaning.{verb_of, MeansStatement, IsCutCommand}
+use Rattle.job_ops.specs.Meaning.{verb_of, IsReport, MeansStatement, IsCutCommand}
 use Rattle.job_ops.specs.Setting.{facts_of, setting_of}
 use Rattle.job_ops.specs.Turns.{Action}
 
@@ -76,7 +76,7 @@ IsUnchanged session (outcomes.Short kept outs report steps) = kept ≡ session
 
 -- ---- a statement
 
--- it is cut short: it says only that it started, or nothing where there was no memory for that
+-- It is cut short: it says only that it started, or nothing where there was no memory for that. Its code is 0 then.
 abbrev pub SaysStarted : Command → Report → Type 0
 SaysStarted command report = report.messages ≡ messages.Started (verb_of command) ∷ []
 
@@ -97,23 +97,23 @@ EndsStatement pools seen files ins session command held today before (outcomes.D
     (added : List Step) × (steps.items ≡ before ++ added) × KeepsFacts pools session next
     × IsRun pools.tells (shown pools session.pool) (shown pools next.pool) (Unit {0}) added None
     × ForUnits pools session (λ units. MeansStatement (setting_of pools session held today) command (left_files seen files ins outs.items) units added report)
-    × (report.code ≡ greatest_code report.messages)
+    × IsReport command report
 EndsStatement pools seen files ins session command held today before (outcomes.Halted broken outs report steps) =
     (added : List Step) × (steps.items ≡ before ++ added) × Rose (pools.faults session.pool) (pools.faults broken.pool) × SaysStarted command report
     × IsRun pools.tells (shown pools session.pool) (shown pools broken.pool) ⊥ added broken.pending
-    × ForUnits pools session (λ units. IsCutCommand (setting_of pools session held today) command (left_files seen files ins outs.items) units added broken.pending)
+    × ForUnits pools session (λ units. IsCutCommand (setting_of pools session held today) command (left_files seen files ins outs.items) units added broken.pending) × (report.code ≡ 0)
 EndsStatement pools seen files ins session command held today before (outcomes.Short kept outs report steps) =
     (added : List Step) × (steps.items ≡ before ++ added) × KeepsFacts pools session kept × ((report.messages ≡ []) ⊎ SaysStarted command report)
     × IsRun pools.tells (shown pools session.pool) (shown pools kept.pool) (Unit {0}) added None
-    × ForUnits pools session (λ units. IsCutCommand (setting_of pools session held today) command (left_files seen files ins outs.items) units added None)
+    × ForUnits pools session (λ units. IsCutCommand (setting_of pools session held today) command (left_files seen files ins outs.items) units added None) × (report.code ≡ 0)
 
 -- a statement that was cut ended so, with these outputs and steps and the first of its messages
 abbrev pub IsCutOutcome : {P B : Type 0} {Own : B → Type 0} → Cut P → List (OutDd B Own) → List Step → List Message → Outcome P B Own → Type 0
 IsCutOutcome cut given steps messages (outcomes.Done next outs report done) = ⊥
 IsCutOutcome cut given steps messages (outcomes.Halted broken outs report done) =
-    (cut ≡ cuts.Halted broken) × (done.items ≡ steps) × (report.messages ≡ take 1 messages) × (outs.items ≡ given)
+    (cut ≡ cuts.Halted broken) × (done.items ≡ steps) × (report.messages ≡ take 1 messages) × (outs.items ≡ given) × (report.code ≡ 0)
 IsCutOutcome cut given steps messages (outcomes.Short kept outs report done) =
-    (cut ≡ cuts.Short kept) × (done.items ≡ steps) × (report.messages ≡ take 1 messages) × (outs.items ≡ given)
+    (cut ≡ cuts.Short kept) × (done.items ≡ steps) × (report.messages ≡ take 1 messages) × (outs.items ≡ given) × (report.code ≡ 0)
 
 abbrev pub IsDoneOutcome : {P B : Type 0} {Own : B → Type 0} → SessionView P → List (OutDd B Own) → List Step → List Message → Outcome P B Own → Type 0
 IsDoneOutcome session given steps messages (outcomes.Done next outs report done) =

@@ -79,11 +79,21 @@ IsCutCommand setting command files = IsCutOnVolumes setting command
 abbrev pub verb_of : Command → Verb
 verb_of command = verb_of_form (form_of command)
 
+-- messages begin with the line that a command started, and end with the line that it ended, with the code of the gravest between
+abbrev pub IsFramed : Command → List Message → Type 0
+IsFramed command whole =
+    (said : List Message) × (whole ≡ messages.Started (verb_of command) ∷ (said ++ (messages.Ended (verb_of command) (greatest_code said) ∷ [])))
+
 -- what a command means, with the line that it started before, and behind it the line that it ended, with the code of its gravest message
 abbrev pub MeansWhole : Action → Command → Action
 MeansWhole Does command units steps whole =
     (said : List Message) × Does units steps said
     × (whole ≡ messages.Started (verb_of command) ∷ (said ++ (messages.Ended (verb_of command) (greatest_code said) ∷ [])))
+
+-- the report of a statement that ended, whatever it did
+pub record IsReport (command : Command) (report : Report) : Type 0 where
+  pub code_is : report.code ≡ greatest_code report.messages
+  pub framed : IsFramed command report.messages
 
 -- the report of a whole statement
 pub record MeansStatement (setting : Setting) (command : Command) (files : FilesSeen) (units : List UnitModel) (steps : List Step) (report : Report) : Type 0 where

@@ -21,18 +21,18 @@ use job_lines::{ExtentSummary, Message, SetSummary, VolumeSummary};
 use job_steps::unit_session::Session;
 use unit_load::UnitState;
 use vol_label::Serial;
-use vtoc_core::{Row, Volume};
+use vtoc_core::{Row, Volume, run_of};
 
 /// An extent with its number.
 fn extent_summary(device: Device, number: usize, extent: Extent) -> ExtentSummary
     ensures { Message.Extent result ∷ [] ≡ messages_of_extents number (extents_from device (extent ∷ [])) }
 {
-    let first = device.track_of(extent.first);
+    let run = run_of(device, &extent);
     ExtentSummary {
         number,
         kind: extent.kind,
-        first,
-        tracks: (device.track_of(extent.last) + 1).saturating_sub(first),
+        first: run.first,
+        tracks: run.len,
     }
 }
 

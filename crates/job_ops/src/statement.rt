@@ -1,12 +1,12 @@
 //! A statement over a session.
 
-ghost use Rattle.std.specs.Prelude.{◌≡◌, ◌↔◌, ◌⊎◌, ◌∷◌, [], map, take, IsTrue, IfErr};
+ghost use Rattle.std.specs.Prelude.{◌≡◌, ◌↔◌, ◌⊎◌, ◌∷◌, [], map, take, IsTrue, IfOk, IfErr};
 ghost use Rattle.by_rules.specs.Day.{IsToday};
 ghost use Rattle.job_lines.specs.Severity.{greatest_code as greatest_code_of};
 ghost use Rattle.job_steps.specs.Carried.{IsShort};
 ghost use Rattle.dump_fmt.specs.Outs.{files_of};
 ghost use Rattle.job_ops.specs.Ends.{Ends, EndsStatement, HasOuts, IsCutOutcome, IsDoneOutcome, LeavesSession, IsUnchanged, OnlyReads};
-ghost use Rattle.job_ops.specs.Meaning.{CallsNoFile, IsBuilt, MeansOnVolumes, MeansWhole, IsCutOnVolumes, verb_of as verb_in};
+ghost use Rattle.job_ops.specs.Meaning.{CallsNoFile, IsBuilt, IsFramed, MeansOnVolumes, MeansWhole, IsCutOnVolumes, verb_of as verb_in};
 ghost use Rattle.job_ops.specs.Setting.{setting_of};
 
 use crate::copies::{CopyJob, copy};
@@ -151,7 +151,8 @@ fn perform<P: Pool>(
 
 /// What a statement says that was cut: that it started, if it says anything.
 fn cut_report(messages: Vec<Message>) -> Report
-    ensures { result.messages ≡ take 1 messages.items }
+    ensures messages { result.messages ≡ take 1 messages.items }
+    ensures code { result.code ≡ 0 }
 {
     let mut messages = messages;
     messages.truncate(1);
@@ -199,6 +200,7 @@ fn whole<P: Pool>(
         log.old.steps.items log.new.steps.items [] log.new.messages.items result }
     ensures begins { IfErr result (λ cut. ((log.new.messages.items ≡ []) × IsShort cut) ⊎ (take 1 log.new.messages.items ≡ Message.Started (verb_in command.now) ∷ [])) }
     ensures reads { OnlyReads command.now → LeavesSession session result }
+    ensures framed { IfOk result (λ next. IsFramed command.now log.new.messages.items) }
 {
     let verb = verb_of(command);
     let session = say(session, &mut log.messages, Message::Started(verb))?;

@@ -33,7 +33,7 @@ use Rattle.job_script.specs.declared.run.Between.{Between}
 use Rattle.job_script.specs.Built.{AreBuilt}
 use Rattle.job_script.specs.Ends.{After, after_of, SinkSeen, Prints, LeavesAfter, EndsScript}
 use Rattle.job_script.specs.One.{GoesOn, EndsOne, IsStoppedIn, seen_files}
-use Rattle.job_script.specs.Runs.{Ran, HasGravest, IsListing, steps_of, lines_of, lines_in, answers_of, started_line, printed_text, Follow, RunOn, HandOn, HasRun, IsNext, IsFront}
+use Rattle.job_script.specs.Runs.{Ran, IsReported, IsListing, steps_of, lines_of, lines_in, answers_of, started_line, printed_text, Follow, RunOn, HandOn, HasRun, IsNext, IsFront}
 use Rattle.job_script.proofs.Earlier.{took_none, took_then}
 use Rattle.job_script.proofs.Rans.{steps_join, lines_join, steps_one, lines_one, follow_join, hand_join, leaves_more}
 use Rattle.job_script.proofs.Plans.{built_then}
@@ -62,7 +62,7 @@ SettledAfter pools first now setting ran units =
 pub record RanSoFar {P : Type 0} (pools : Ghosts P) (first now : SessionView P) (held : List Hold) (today : Day) (plan left : Plan) (codes : Codes) (steps : List Step)
     (files_first files_now : Files) (taken_first taken_now : Option (List ℕ)) (faults_first faults_now : ℕ) : Type 0 where
   pub ran : List Ran
-  pub gravest : All HasGravest ran
+  pub reports : All IsReported ran
   pub leaves : Leaves plan zero_codes (answers_of ran) left codes
   pub built : AreBuilt left
   pub steps_are : steps ≡ steps_of ran
@@ -91,7 +91,7 @@ pub ran_none : {P : Type 0} (pools : Ghosts P) (first : SessionView P) (held : L
     → RanSoFar pools first first held today plan left codes steps files files taken taken faults faults
 ran_none {P} pools first held today plan left codes steps files taken faults built same zero none = record {
   ran = [];
-  gravest = All-nil HasGravest;
+  reports = All-nil IsReported;
   leaves = (same, zero);
   built = subst AreBuilt (sym same) built;
   steps_are = none;
@@ -125,8 +125,8 @@ module _ {P B : Type 0} {Own : B → Type 0} (pools : Ghosts P) (seen : OutDd B 
         faults_first faults_new
     ran_more {next} goes = record {
       ran = so_far.ran ++ (ran_of statement goes.added goes.said goes.files ∷ []);
-      gravest = All-append HasGravest so_far.ran (ran_of statement goes.added goes.said goes.files ∷ []) so_far.gravest
-          (All-cons HasGravest (ran_of statement goes.added goes.said goes.files) [] goes.gravest (All-nil HasGravest));
+      reports = All-append IsReported so_far.ran (ran_of statement goes.added goes.said goes.files ∷ []) so_far.reports
+          (All-cons IsReported (ran_of statement goes.added goes.said goes.files) [] goes.reported (All-nil IsReported));
       leaves = subst (λ (code : ℕ). Leaves plan zero_codes (answers_of (so_far.ran ++ (ran_of statement goes.added goes.said goes.files ∷ []))) rest (answered code then')) (sym goes.code_is)
           (leaves_more plan left rest codes then' zero_codes statement so_far.ran (ran_of statement goes.added goes.said goes.files) so_far.leaves refl next_is);
       built = (built_then left codes so_far.built next_is).1;
@@ -213,7 +213,7 @@ module _ {P B : Type 0} {Own : B → Type 0} (pools : Ghosts P) (seen : OutDd B 
     pub leaves_all : LeavesAfter pools first held today [] (record { before = files_first; after = files_new }) whole_out (so_far.ran ++ ran) under wanted after
     leaves_all = record {
       added = leaves.added;
-      codes = All-append HasGravest so_far.ran ran so_far.gravest leaves.codes;
+      reports = All-append IsReported so_far.ran ran so_far.reports leaves.reports;
       steps_are = leaves.steps_are ∙ ap (λ (l : List Step). l ++ (steps_of ran ++ leaves.added)) so_far.steps_are ∙ steps_all;
       none_added = leaves.none_added;
       none_pending = leaves.none_pending;
@@ -289,7 +289,7 @@ module _ {P B : Type 0} {Own : B → Type 0} (pools : Ghosts P) (seen : OutDd B 
         (record { pool = now.session.pool; steps = now.steps.items; pending = None; end = result })
     whole_run = record {
       added = [];
-      codes = All-nil HasGravest;
+      reports = All-nil IsReported;
       steps_are = sym (append-nil now.steps.items);
       none_added = refl;
       none_pending = λ apart. refl;

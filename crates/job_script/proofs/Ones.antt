@@ -2,7 +2,6 @@
 use Rattle.std.proofs.Common.{◌≡◌, ◌≢◌, ◌⊎◌, inl, inr, ℕ, ◌≤◌, List, [], ◌∷◌, ◌++◌, map, Option, Some, None, Result, Ok, Err, refl, sym, ap, subst, ◌∙◌, arith}
 use Rattle.std.proofs.lemmas.List.{append-nil}
 use Rattle.std.proofs.lemmas.List.Elements.{All-nil, All-cons, All-head}
-use Rattle.job_lines.specs.Severity.{greatest_code}
 use Rattle.by_rules.specs.declared.day.Day.{Day}
 use Rattle.dasd_pool.specs.Count.{Rose}
 use Rattle.dasd_pool.specs.Stream.{Appends, AppendsSome}
@@ -23,14 +22,14 @@ use Rattle.sysin_lang.specs.declared.command.Statement.{Statement}
 use Rattle.job_ops.specs.unit_session.Sessions.{SessionView}
 use Rattle.job_ops.specs.declared.report.Report.{Report}
 use Rattle.job_ops.specs.Ends.{ForUnits, KeepsFacts, OnlyReads}
-use Rattle.job_ops.specs.Meaning.{MeansStatement, IsCutCommand}
+use Rattle.job_ops.specs.Meaning.{IsReport, MeansStatement, IsCutCommand}
 use Rattle.job_ops.specs.Setting.{facts_of, setting_of}
 use Rattle.job_script.specs.declared.left.Left.{Left}
 use Rattle.job_script.specs.declared.run.Between.{Between}
 use Rattle.job_script.specs.Ends.{After, after_of, SinkSeen, Prints, LeavesAfter}
 use Rattle.job_script.specs.One.{EndsReport, EndsOne, KeepsOuts, seen_files}
 use Rattle.job_script.proofs.Earlier.{took_none}
-use Rattle.job_script.specs.Runs.{Ran, HasGravest, IsListing, KeepsFiles, steps_of, started_line, lines_in, lines_of, printed_text, RunOn}
+use Rattle.job_script.specs.Runs.{Ran, IsReported, IsListing, KeepsFiles, steps_of, started_line, lines_in, lines_of, printed_text, RunOn}
 
 -- ---- ends that differ
 
@@ -121,7 +120,7 @@ module _ {P B : Type 0} {Own : B → Type 0} (pools : Ghosts P) (seen : OutDd B 
     inr (inr (refl, refl, refl)),
     subst (λ (a : After P). Leaves left.outs.items [] None ends.Memory a) (after_parts left pool steps pending end) (record {
       added = [];
-      codes = All-nil HasGravest;
+      reports = All-nil IsReported;
       steps_are = sym (append-nil before.steps.items);
       none_added = refl;
       none_pending = λ apart. refl;
@@ -150,7 +149,7 @@ module _ {P B : Type 0} {Own : B → Type 0} (pools : Ghosts P) (seen : OutDd B 
   module _ (session : SessionView P) (outs : List (OutDd B Own)) (said : Report) (steps added : List Step) (steps_are : steps ≡ before.steps.items ++ added) (facts : KeepsFacts pools before.session session)
       (run : IsRun pools.tells (shown pools before.session.pool) (shown pools session.pool) (Unit {0}) added None)
       (means : ForUnits pools before.session (λ units. MeansStatement (setting_of pools before.session held today) statement.command (files_with outs) units added said))
-      (gravest : said.code ≡ greatest_code said.messages) (quiet : OnlyReads statement.command → session.pool ≡ before.session.pool) (kept : KeepsFiles statement (files_with outs)) where
+      (report_is : IsReport statement.command said) (quiet : OnlyReads statement.command → session.pool ≡ before.session.pool) (kept : KeepsFiles statement (files_with outs)) where
     abbrev one : Ran
     one = record { statement = statement; steps = added; report = said; files = files_with outs }
 
@@ -171,7 +170,7 @@ module _ {P B : Type 0} {Own : B → Type 0} (pools : Ghosts P) (seen : OutDd B 
         → Leaves left (one ∷ []) None end (record { pool = session.pool; steps = steps; pending = None; end = end })
     stopped_in left end same apart none prints = record {
       added = [];
-      codes = All-cons HasGravest one [] gravest (All-nil HasGravest);
+      reports = All-cons IsReported one [] report_is (All-nil IsReported);
       steps_are = steps_all;
       none_added = refl;
       none_pending = λ apart. refl;
@@ -226,7 +225,7 @@ module _ {P B : Type 0} {Own : B → Type 0} (pools : Ghosts P) (seen : OutDd B 
       said = said;
       steps_are = told.1 ∙ steps_are;
       code_is = told.2;
-      gravest = gravest;
+      reported = report_is;
       taken = told.3;
       later = told.4;
       facts = subst (λ (s : SessionView P). KeepsFacts pools before.session s) (sym told.0) facts;
@@ -264,7 +263,7 @@ module _ {P B : Type 0} {Own : B → Type 0} (pools : Ghosts P) (seen : OutDd B 
       inr (inl (refl, refl, inl refl)),
       subst (λ (a : After P). Leaves left.outs.items [] (Some statement) ends.Pool a) (after_parts left at steps under end) (record {
         added = added;
-        codes = All-nil HasGravest;
+        reports = All-nil IsReported;
         steps_are = refl;
         none_added = tt {0};
         none_pending = λ apart. absurd (apart refl);
@@ -302,7 +301,7 @@ module _ {P B : Type 0} {Own : B → Type 0} (pools : Ghosts P) (seen : OutDd B 
     inr (inl (refl, refl, inr refl)),
     subst (λ (a : After P). Leaves left.outs.items [] (Some statement) ends.Memory a) (after_parts left at steps under end) (record {
       added = added;
-      codes = All-nil HasGravest;
+      reports = All-nil IsReported;
       steps_are = refl;
       none_added = tt {0};
       none_pending = λ apart. refl;

@@ -18,7 +18,7 @@ use Rattle.run_lines.specs.declared.ending.RunEnd.{RunEnd}
 use Rattle.run_lines.specs.declared.ending.RunEnd.TheVariants as ends
 use Rattle.run_lines.specs.Texts.{AppendsLess}
 use Rattle.job_script.specs.declared.left.Left.{Left}
-use Rattle.job_script.specs.Runs.{Ran, HandsOn, HasGravest, OnlyListed, steps_of, lines_of, RunOn, HasRun, printed_text}
+use Rattle.job_script.specs.Runs.{Ran, HandsOn, IsReported, OnlyListed, steps_of, lines_of, RunOn, HasRun, printed_text}
 
 -- what a run leaves
 pub record After (P : Type 0) : Type 0 where
@@ -59,12 +59,12 @@ abbrev pub ended_before : List Ran → Option Statement → List Ran
 ended_before ran (Some statement) = ran
 ended_before ran None = take (length ran - 1) ran
 
--- What a run leaves that began on a session, after statements that ended and one that was cut, if one was: none of them began before the lines of all before it were
+-- What a run leaves that began on a session, after statements that ended and one that was cut, if one was: no step of one was done unless the lines of all before it were
 -- taken. Only one that was cut adds steps of its own, and only where the pool failed one is under way. The steps of the run before are given.
 pub record LeavesAfter {P : Type 0} (pools : Ghosts P) (session : SessionView P) (held : List Hold) (today : Day) (before : List Step) (files : FilesSeen) (out : SinkSeen)
     (ran : List Ran) (under : Option Statement) (wanted : RunEnd) (left : After P) : Type 0 where
   pub added : List Step
-  pub codes : All HasGravest ran
+  pub reports : All IsReported ran
   pub steps_are : left.steps ≡ before ++ (steps_of ran ++ added)
   pub none_added : IfNone under (added ≡ [])
   pub none_pending : left.end ≢ ends.Pool → left.pending ≡ None

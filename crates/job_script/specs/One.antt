@@ -12,10 +12,9 @@ use Rattle.move_core.specs.Facts.{shown}
 use Rattle.move_core.specs.Runs.{IsRun}
 use Rattle.sysin_lang.specs.declared.command.Statement.{Statement}
 use Rattle.job_ops.specs.unit_session.Sessions.{SessionView}
-use Rattle.job_lines.specs.Severity.{greatest_code}
 use Rattle.job_ops.specs.declared.report.Report.{Report}
 use Rattle.job_ops.specs.Ends.{ForUnits, KeepsFacts, OnlyReads}
-use Rattle.job_ops.specs.Meaning.{MeansStatement}
+use Rattle.job_ops.specs.Meaning.{IsReport, MeansStatement}
 use Rattle.job_ops.specs.Setting.{setting_of}
 use Rattle.run_lines.specs.declared.ending.RunEnd.{RunEnd}
 use Rattle.run_lines.specs.declared.ending.RunEnd.TheVariants as ends
@@ -48,7 +47,7 @@ pub record GoesOn {P B : Type 0} {Own : B → Type 0} (pools : Ghosts P) (seen :
   pub said : Report
   pub steps_are : next.steps.items ≡ before.steps.items ++ added
   pub code_is : next.code ≡ said.code
-  pub gravest : said.code ≡ greatest_code said.messages
+  pub reported : IsReport statement.command said
   pub taken : Appends taken_before taken_after (lines_in statement.number said.messages)
   pub later : faults_before ≤ faults_after
   pub facts : KeepsFacts pools before.session next.session

@@ -10,10 +10,9 @@ use Rattle.sysin_lang.specs.Flow.{Codes, Plan, Command, zero_codes, next_of, Lea
 use Rattle.job_lines.specs.declared.message.Message.{Message}
 use Rattle.job_lines.specs.declared.message.Message.TheVariants as messages
 use Rattle.job_lines.specs.Lines.{line}
-use Rattle.job_lines.specs.Severity.{greatest_code}
 use Rattle.job_ops.specs.declared.report.Report.{Report}
 use Rattle.job_ops.specs.Ends.{OnlyReads}
-use Rattle.job_ops.specs.Meaning.{verb_of, CallsNoFile, MeansStatement, IsCutCommand}
+use Rattle.job_ops.specs.Meaning.{verb_of, CallsNoFile, IsReport, MeansStatement, IsCutCommand}
 use Rattle.job_ops.specs.Setting.{Setting}
 use Rattle.run_lines.specs.declared.ending.RunEnd.{RunEnd}
 use Rattle.run_lines.specs.declared.ending.RunEnd.TheVariants as ends
@@ -26,9 +25,9 @@ pub record Ran : Type 0 where
   pub report : Report
   pub files : FilesSeen
 
--- its code is that of its gravest message
-abbrev pub HasGravest : Ran → Type 0
-HasGravest one = one.report.code ≡ greatest_code one.report.messages
+-- its report begins and ends with the lines of its command, and its code is that of its gravest message
+abbrev pub IsReported : Ran → Type 0
+IsReported one = IsReport one.statement.command one.report
 
 -- it only reads
 abbrev pub IsListing : Ran → Type 0

@@ -3,12 +3,14 @@ use Rattle.std.specs.Prelude.{◌≡◌, ◌≢◌, ℕ, ◌<◌, ◌≤◌, Lis
 use Rattle.dasd_pool.specs.Disk.{Image, MayLeave}
 use Rattle.dasd_pool.specs.Calls.{shape_of}
 use Rattle.dasd_pool.specs.Memory.{MemoryView, disk_of, state_of}
+use Rattle.dasd_pool.specs.declared.calls.Tear.{Tear}
+use Rattle.dasd_pool.specs.Tears.{IsTornFrom}
 use Rattle.redo_core.specs.Faults.{IsAllClosed, MayOpen}
 use Rattle.volume_model.specs.Unit.{UnitModel}
 use Rattle.move_core.specs.declared.steps.Step.{Step}
 use Rattle.move_core.specs.Facts.{Facts, Shown}
 use Rattle.move_core.specs.Steps.{Reaches}
-use Rattle.move_core.specs.Runs.{EndsSettled, StandsAfterMost, StandsAfterSome, moves_of}
+use Rattle.move_core.specs.Runs.{EndsSettled, IsRun, StandsAfterMost, StandsAfterSome, moves_of}
 use Rattle.move_core.specs.Stands.{IsSettled}
 use Rattle.rows_headline.specs.declared.stopped.Ran.{Ran}
 
@@ -56,3 +58,9 @@ abbrev pub EachRunsOn : MemoryView → Ran → ℕ → Ran → Type 0
 EachRunsOn old earlier calls later =
     0 < old.keep → length old.calls ≤ calls → (facts : Facts) (units : List UnitModel) → facts.shape ≡ shape_of old.units → IsSettled facts (state_of old) units
     → RunsOn facts units earlier (length earlier.pool.calls ≤ calls) later
+
+-- The second run began on what a stop of the first left, after so many of its calls, and is a run as any other, where no journal is made.
+pub record BeginsOnStop (no_journal : Type 0) (tear : Tear) (calls : ℕ) (earlier later : Ran) : Type 0 where
+  pub left : MemoryView
+  pub torn : IsTornFrom tear earlier.pool.units (take calls earlier.pool.calls) left.units
+  pub run : no_journal → IsRun (Unit {0}) (shown_of left) (shown_of later.pool) (later.status ≢ 16) later.steps.items later.pending

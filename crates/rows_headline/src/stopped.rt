@@ -5,7 +5,7 @@ ghost use Rattle.dasd_pool.specs.Tears.{IsTornFrom};
 ghost use Rattle.by_rules.specs.Day.{IsToday};
 ghost use Rattle.adr_top.specs.Asked.{AsksForJournal};
 ghost use Rattle.move_core.specs.Runs.{IsRun};
-ghost use Rattle.rows_headline.specs.Again.{shown_of, EachStopIsReady, EachRunsOn};
+ghost use Rattle.rows_headline.specs.Again.{shown_of, BeginsOnStop, EachStopIsReady, EachRunsOn};
 ghost use Rattle.rows_headline.specs.Stopped.{EachStopStands};
 
 use adr_top::{Day, Step, batch};
@@ -108,6 +108,9 @@ pub fn run_again<S: Source, H: Source, O: Sink>(
     tear: Tear,
 ) -> Result<Resumed, NoMemory>
     requires { IsToday today }
+
+    // The second begins on what the stop of the first left.
+    ensures begins { IfOk result (λ resumed. BeginsOnStop (¬ AsksForJournal words.now) tear calls resumed.first resumed.second) }
 
     // Each premise of the second run is met by the first: there are units to which a prefix of the first run's steps leads, all of them where
     // it had returned, and from them the second goes on, whatever moment it is stopped at.

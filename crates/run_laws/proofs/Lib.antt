@@ -1,1 +1,3 @@
 mod Whole
+mod Words
+mod Made

@@ -28,25 +28,9 @@ use Rattle.adr_top.specs.job_script.Runs.{Ran, HasRun}
 use Rattle.adr_top.specs.Asked.{AskFor, serials_of}
 use Rattle.adr_top.specs.Ends.{Given, AsksText, StopsBefore, EndsReady, OpensNot, RunsText, EndsRun}
 use Rattle.adr_top.specs.Texts.{SourceSeen, IsHeldText, IsLong, StopsTexts}
+use Rattle.run_laws.proofs.Words.{kind_in, path_in, volumes_in}
 use Rattle.run_laws.specs.Complete.{IsWellAsked, HasRightTexts, HasNoFault, OpensFor, RunsAreWhole}
 use Rattle.sysin_read.proofs.OnePlace.{never_refused}
-
--- ---- what words ask for
-
-abbrev kind_in : Run → ℕ
-kind_in (Jobs volumes journal sysin path outs ins) = 0
-kind_in (Format volumes journal room) = 1
-kind_in (Make number) = 2
-
-abbrev path_in : Run → Option (List ℕ)
-path_in (Jobs volumes journal sysin path outs ins) = path
-path_in (Format volumes journal room) = None
-path_in (Make number) = None
-
-abbrev volumes_in : Run → List (Serial × List ℕ)
-volumes_in (Jobs volumes journal sysin path outs ins) = volumes
-volumes_in (Format volumes journal room) = volumes
-volumes_in (Make number) = []
 
 -- ---- texts
 

@@ -1,11 +1,12 @@
 //! Runs that nothing stands against.
 
-ghost use Rattle.run_laws.specs.Complete.{RunsAreWhole};
+ghost use Rattle.run_laws.specs.Complete.{MakingsAreWhole, RunsAreWhole};
 
 use dasd_pool::Pool;
 
 /// A run whose words agree, whose texts and journal are right, and of which nothing fails, ends with the greatest code of its statements, unless memory runs
-/// out.
+/// out. One that is to make a journal, and that nothing stands against, makes it.
 pub fn run_laws<P: Pool>()
-    ensures { RunsAreWhole P.Pool }
+    ensures texts { RunsAreWhole P.Pool }
+    ensures makings { MakingsAreWhole P.Pool }
 {}

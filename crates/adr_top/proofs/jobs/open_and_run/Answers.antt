@@ -25,4 +25,4 @@ returns-in-Err-clause-ends g c =
     let stop = c.in-Err.stop in
     opens_not g.P.Pool c.args.pool stop.pool stop.cause c.from.result _ (sink_seen g.O.Sink c.args.out.now c.refuse.new.out) c.args.serials.now c.args.ready.now.held c.args.today
     (plan_of_script c.args.ready.now.script) (after_of c.refuse.result) c.refuse.ensures.ends c.from.ensures does.run (λ told. does.refused told) (λ told refusal. does.unwritten told refusal)
-    (λ told. does.runs told)
+    (λ told. does.careful told) (λ told. does.runs told)

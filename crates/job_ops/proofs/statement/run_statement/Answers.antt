@@ -4,7 +4,7 @@ use Rattle.job_ops.proofs.statement.run_statement.Goals as goal
 pub returns-in-Ok-clause-ends : goal.returns-in-Ok-clause-ends
 returns-in-Ok-clause-ends g c =
     ends_done g.P.Pool _ _ _ c.args.outs.items c.args.session c.in-Ok.session c.args.statement.now.command c.args.held.now c.args.today c.args.steps.items c.whole.new.log.steps.items
-    c.whole.new.log.messages.items c.in-Ok.ensures.ends c.done.result c.done.ensures
+    c.whole.new.log.messages.items c.in-Ok.ensures.ends c.in-Ok.ensures.framed c.done.result c.done.ensures
 
 pub returns-in-Ok-clause-outs : goal.returns-in-Ok-clause-outs
 returns-in-Ok-clause-outs g c = λ none. outs_done c.in-Ok.session c.args.outs.items _ _ c.done.result c.done.ensures

@@ -5,7 +5,7 @@ use Rattle.job_lines.specs.declared.message.Message.TheVariants as messages
 use Rattle.job_lines.specs.Severity.{greatest_code}
 use Rattle.sysin_words.specs.declared.lead.Verb.{Verb}
 use Rattle.job_ops.proofs.Endings.{short_leaves, leaves_first, say_leaves}
-use Rattle.job_ops.proofs.Wholly.{not_started, cut_within, ended_wholly}
+use Rattle.job_ops.proofs.Wholly.{not_started, cut_within, ended_framed, ended_wholly}
 use Rattle.job_ops.proofs.statement.whole.Goals as goal
 
 -- src/statement.rt:128:19
@@ -56,3 +56,16 @@ pub returns-clause-reads : goal.returns-clause-reads
 returns-clause-reads g c = λ reads.
     say_leaves c.args.session c.in_ok-session-2.session c.say-2.result (c.in_ok-session-2.ensures.reads reads ∙ c.in_ok-session.ensures.said.0)
     (IfOk-weaker c.say-2.result _ _ (λ kept p. p.0) c.say-2.ensures.said) (IfErr-weaker c.say-2.result _ _ (λ cut p. p.0) c.say-2.ensures.short)
+
+-- ---- its two lines
+
+pub returns-clause-framed : goal.returns-clause-framed
+returns-clause-framed g c =
+    let between = c.perform.new.log.messages.items in
+    ended_framed g.P.Pool c.args.command.now c.args.held.now c.args.today c.args.session c.in_ok-session.session c.in_ok-session-2.session c.args.log.now.steps.items
+    c.perform.new.log.steps.items c.say.new.messages.items between c.say-2.new.messages.items c.greatest_code-code.result c.say-2.result
+    (c.in_ok-session.ensures.said.1 ∙ ap (λ (l : List Message). l ++ (messages.Started c.verb_of-verb.result ∷ [])) c.requires.start
+    ∙ ap (λ (v : Verb). messages.Started v ∷ []) c.verb_of-verb.ensures)
+    c.in_ok-session-2.ensures.ends (c.greatest_code-code.ensures ∙ ap (λ (l : List Message). greatest_code l) c.deref.ensures.value)
+    (IfOk-weaker c.say-2.result _ _
+    (λ kept p. (p.0, p.1 ∙ ap (λ (v : Verb). between ++ (messages.Ended v c.greatest_code-code.result ∷ [])) c.verb_of-verb.ensures)) c.say-2.ensures.said)
