@@ -9,7 +9,7 @@ use Rattle.redo_core.specs.declared.fault.JournalFault.TheVariants as faults
 use Rattle.redo_core.specs.Faults.{IsFormatFault, MayFormat}
 use Rattle.redo_core.specs.Opening.{MakingLeaves, SparesVolumes}
 use Rattle.redo_core.specs.Reading.{journal_of}
-use Rattle.redo_core.specs.Steps.{of_journal}
+use Rattle.redo_core.specs.Steps.{of_making}
 use Rattle.job_script.specs.Ends.{SinkSeen, After}
 use Rattle.run_lines.specs.declared.ending.RunEnd.{RunEnd}
 use Rattle.run_lines.specs.Endings.{end_of, last_line}
@@ -20,7 +20,7 @@ use Rattle.adr_top.proofs.Opened.{only_pool}
 
 pub formats_not : {P : Type 0} (pools : Ghosts P) (out : SinkSeen) (pool stopped : P) (fault : JournalFault) (end : RunEnd) (serials : List Serial) (room : ℕ) (left : After P)
     → IsRefused out stopped end left → end ≡ end_of fault → pools.shape stopped ≡ pools.shape pool → pools.faults pool ≤ pools.faults stopped
-    → (pools.tells → Runs (of_journal (journal_of (pools.shape pool))) (pools.disk pool) (pools.disk stopped))
+    → (pools.tells → Runs (of_making (journal_of (pools.shape pool))) (pools.disk pool) (pools.disk stopped))
     → (pools.tells → LeavesOnly (pools.disk pool) (pools.disk stopped) (SparesVolumes (pools.shape pool) (pools.disk pool).state))
     → (pools.tells → LeavesOnly (pools.disk pool) (pools.disk stopped) (MakingLeaves (pools.shape pool) (pools.disk pool).state))
     → (pools.tells → IsFormatFault (pools.shape pool) (pools.disk pool).state.contents serials room fault)

@@ -12,7 +12,7 @@ use Rattle.volume_model.specs.Unit.{UnitModel}
 use Rattle.redo_core.specs.declared.fault.JournalFault.{JournalFault}
 use Rattle.redo_core.specs.Faults.{IsFormatFault, IsOpenFault, MayFormat, MayOpen}
 use Rattle.redo_core.specs.Opening.{IsFormatted, MakingLeaves, SparesVolumes, of_opening}
-use Rattle.redo_core.specs.Steps.{of_journal}
+use Rattle.redo_core.specs.Steps.{of_making}
 use Rattle.redo_core.specs.Reading.{journal_of}
 use Rattle.move_core.specs.declared.steps.Step.{Step}
 use Rattle.move_core.specs.Facts.{Facts, shown}
@@ -117,7 +117,7 @@ pub record Formats {P : Type 0} (pools : Ghosts P) (out : SinkSeen) (pool : P) (
   pub none_pending : left.pending ≡ None
   pub shape : pools.shape left.pool ≡ pools.shape pool
   pub later : pools.faults pool ≤ pools.faults left.pool
-  pub runs : pools.tells → Runs (of_journal (journal_of (pools.shape pool))) (pools.disk pool) (pools.disk left.pool)
+  pub runs : pools.tells → Runs (of_making (journal_of (pools.shape pool))) (pools.disk pool) (pools.disk left.pool)
   pub spares : pools.tells → LeavesOnly (pools.disk pool) (pools.disk left.pool) (SparesVolumes (pools.shape pool) (pools.disk pool).state)
   pub stops : pools.tells → LeavesOnly (pools.disk pool) (pools.disk left.pool) (MakingLeaves (pools.shape pool) (pools.disk pool).state)
   pub made : WasMade pools out pool serials room left ⊎ WasNotMade pools out pool serials room left

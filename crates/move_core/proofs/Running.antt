@@ -4,7 +4,7 @@ use Rattle.std.specs.Prelude.{◌&&◌}
 use Rattle.std.proofs.lemmas.List.{append-nil}
 use Rattle.std.proofs.lemmas.Option.{none-some}
 use Rattle.dasd_pool.specs.Count.{Rose}
-use Rattle.dasd_pool.specs.Disk.{Image, Shape, State, Disk, LeavesOnly, Touches, Runs, none}
+use Rattle.dasd_pool.specs.Disk.{Image, Shape, State, LeavesOnly, Touches, Runs, none}
 use Rattle.dasd_pool.proofs.Moments.{runs_start, runs_then}
 use Rattle.vol_label.specs.declared.serial.Serial.{Serial}
 use Rattle.redo_core.specs.declared.control.Control.{Control}
@@ -13,7 +13,7 @@ use Rattle.redo_core.specs.declared.entries.Entry.{Entry}
 use Rattle.redo_core.specs.Format.{is_open, directory_in}
 use Rattle.redo_core.specs.Reading.{journal_of, fills_of}
 use Rattle.redo_core.specs.Faults.{IsAllClosed}
-use Rattle.redo_core.specs.Opening.{IsJournalSynced, IsOpened, ReadsSame, of_opening, of_redo}
+use Rattle.redo_core.specs.Opening.{IsOpened, ReadsSame, of_opening, of_redo}
 use Rattle.redo_core.specs.Phases.{IsAtRest, OldOrNew, IsCommitted}
 use Rattle.volume_model.specs.Unit.{UnitModel}
 use Rattle.move_core.specs.declared.steps.Step.{Step}
@@ -181,10 +181,6 @@ run_closed {tells} {old} {new} {ended} {steps} {pending} run told facts same uni
 
 -- ---- the journal is opened
 
-moments_for : (old new : Disk) {given shape : Shape} → given ≡ shape → (IsJournalSynced shape old.state → LeavesOnly old new (ReadsSame shape old.state))
-    → IsJournalSynced given old.state → LeavesOnly old new (ReadsSame given old.state)
-moments_for old new same moments = at_shape (λ s. IsJournalSynced s old.state → LeavesOnly old new (ReadsSame s old.state)) same moments
-
 -- behind a closed gate an opening writes nothing
 none_opened : (old new : Shown) → is_open (old.disk.state.contents (journal_of old.shape) 1) ≡ false
     → Runs (of_opening (journal_of old.shape) old.disk.state.contents) old.disk new.disk → Runs none old.disk new.disk
@@ -195,7 +191,7 @@ none_opened old new gate run =
     (λ u b apart. ap (λ (t : Bool). t && of_redo j (directory_in (image j 3)) u b) gate) (λ u b apart. refl) run (runs_start none new.disk)
 
 pub run_opened : {tells : Type 0} {old new : Shown} {ended : Type 0} {asked : List Serial} {room : ℕ} {control : Control} {fills : List Bool} → new.shape ≡ old.shape → old.faults ≤ new.faults
-    → (tells → IsJournalSynced old.shape old.disk.state → LeavesOnly old.disk new.disk (ReadsSame old.shape old.disk.state)) → ended
+    → (tells → LeavesOnly old.disk new.disk (ReadsSame old.shape old.disk.state)) → ended
     → (tells → IsOpened old.shape old.disk.state asked room control fills new.disk.state)
     → (tells → Runs (of_opening (journal_of old.shape) old.disk.state.contents) old.disk new.disk) → IsRun tells old new ended [] None
 run_opened {tells} {old} {new} {ended} {asked} {room} {control} {fills} shape later moments end opens runs = record {
@@ -203,13 +199,13 @@ run_opened {tells} {old} {new} {ended} {asked} {room} {control} {fills} shape la
   later = later;
   cause = λ not. absurd (not end);
   keeps = λ told facts same units settled.
-      opened facts asked room control fills old.disk new.disk ended units settled (moments_for old.disk new.disk same (moments told) settled.journal)
+      opened facts asked room control fills old.disk new.disk ended units settled (at_shape (λ s. LeavesOnly old.disk new.disk (ReadsSame s old.disk.state)) same (moments told))
       (at_shape (λ s. IsOpened s old.disk.state asked room control fills new.disk.state) same (opens told));
   still = λ told gate no_steps none_pending. none_opened old new gate (runs told);
 }
 
 pub run_refused : {tells : Type 0} {old new : Shown} {ended : Type 0} → new.shape ≡ old.shape → old.faults ≤ new.faults
-    → (tells → IsJournalSynced old.shape old.disk.state → LeavesOnly old.disk new.disk (ReadsSame old.shape old.disk.state))
+    → (tells → LeavesOnly old.disk new.disk (ReadsSame old.shape old.disk.state))
     → (¬ ended → Rose old.faults new.faults) → (tells → ended → Touches none old.disk.state new.disk.state)
     → (tells → Runs (of_opening (journal_of old.shape) old.disk.state.contents) old.disk new.disk) → IsRun tells old new ended [] None
 run_refused {tells} {old} {new} {ended} shape later moments cause unwritten runs = record {
@@ -217,7 +213,7 @@ run_refused {tells} {old} {new} {ended} shape later moments cause unwritten runs
   later = later;
   cause = cause;
   keeps = λ told facts same units settled.
-      refused facts old.disk new.disk ended units settled (moments_for old.disk new.disk same (moments told) settled.journal) (unwritten told);
+      refused facts old.disk new.disk ended units settled (at_shape (λ s. LeavesOnly old.disk new.disk (ReadsSame s old.disk.state)) same (moments told)) (unwritten told);
   still = λ told gate no_steps none_pending. none_opened old new gate (runs told);
 }
 

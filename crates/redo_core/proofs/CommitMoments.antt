@@ -27,17 +27,17 @@ module _ (size : ℕ → ℕ) (journal : ℕ) (entries : List Entry) where
   Outcome old = HoldsEither size journal old entries
 
   -- the body is written
-  pub body_moments : (old staged : Disk) → IsShut journal old.state → Runs (of_body journal) old staged → LeavesOnly old staged (Outcome old.state)
-  body_moments old staged shut run = weaken old staged (Spares (of_body journal) old.state) (Outcome old.state) (λ image spares. inl (staging_crash size journal old.state image shut spares)) run.leaves
+  pub body_moments : (old staged : Disk) → IsShut journal old.state → Runs (of_body journal (length entries)) old staged → LeavesOnly old staged (Outcome old.state)
+  body_moments old staged shut run = weaken old staged (Spares (of_body journal (length entries)) old.state) (Outcome old.state) (λ image spares. inl (staging_crash size journal (length entries) old.state image shut spares)) run.leaves
 
-  pub body_ready : (old staged : Disk) → 1 ≤ length entries → Runs (of_body journal) old staged → IsSynced staged.state → HasEntries size journal staged.state.contents entries
+  pub body_ready : (old staged : Disk) → 1 ≤ length entries → Runs (of_body journal (length entries)) old staged → IsSynced staged.state → HasEntries size journal staged.state.contents entries
       → IsReady size journal old.state.contents old.state.contents entries staged.state
   body_ready old staged some run all body = record {
     all = all;
     body = body;
     some = some;
-    registration = run.touches.contents journal 0 (low_not_body size journal 0 (omega arith));
-    places = λ u b within. run.touches.contents u b (not_body size journal u b within);
+    registration = run.touches.contents journal 0 (low_not_body size journal (length entries) 0 (omega arith));
+    places = λ u b within. run.touches.contents u b (not_body size journal (length entries) u b within);
   }
 
   -- the gate is opened
@@ -87,22 +87,22 @@ module _ (size : ℕ → ℕ) (journal : ℕ) (entries : List Entry) where
   is_done old closed zeros ready gate = record { all = ready.all; closed = ap is_open gate; registration = ready.registration; places = ready.places }
 
 -- each step writes blocks of the journal, or targets
-pub of_commit_parts : (journal : ℕ) (entries : List Entry) (u b : ℕ) → of_commit journal entries u b ≡ false → (of_body journal u b ≡ false) × (is_at journal 1 u b ≡ false) × (among (targets entries) u b ≡ false)
+pub of_commit_parts : (journal : ℕ) (entries : List Entry) (u b : ℕ) → of_commit journal entries u b ≡ false → (of_body journal (length entries) u b ≡ false) × (is_at journal 1 u b ≡ false) × (among (targets entries) u b ≡ false)
 of_commit_parts journal entries u b apart =
-    let parts = or_parts (of_body journal u b || is_at journal 1 u b) (among (targets entries) u b) apart in
-    let own = or_parts (of_body journal u b) (is_at journal 1 u b) parts.0 in
+    let parts = or_parts (of_body journal (length entries) u b || is_at journal 1 u b) (among (targets entries) u b) apart in
+    let own = or_parts (of_body journal (length entries) u b) (is_at journal 1 u b) parts.0 in
     (own.0, own.1, parts.1)
 
 -- each image that a crash since the start has left
 pub each_image : (size : ℕ → ℕ) (journal : ℕ) (entries : List Entry) (old new : Disk) → IsShut journal old.state → LeavesOnly old new (HoldsEither size journal old.state entries)
     → (image : Image) → new.left_since old.moment image → HoldsEither size journal old.state entries image
 each_image size journal entries old new shut run =
-    since_start old new (HoldsEither size journal old.state entries) run (λ image left. inl (staging_crash size journal old.state image shut (λ u b apart was. left u b was)))
+    since_start old new (HoldsEither size journal old.state entries) run (λ image left. inl (staging_crash size journal 0 old.state image shut (λ u b apart was. left u b was)))
 
 -- with no entries a sync is all
 pub synced_moments : (size : ℕ → ℕ) (journal : ℕ) (entries : List Entry) (old new : Disk) → IsShut journal old.state → Runs none old new → LeavesOnly old new (HoldsEither size journal old.state entries)
 synced_moments size journal entries old new shut run =
-    weaken old new (Spares none old.state) (HoldsEither size journal old.state entries) (λ image spares. inl (staging_crash size journal old.state image shut (λ u b apart was. spares u b refl was))) run.leaves
+    weaken old new (Spares none old.state) (HoldsEither size journal old.state entries) (λ image spares. inl (staging_crash size journal 0 old.state image shut (λ u b apart was. spares u b refl was))) run.leaves
 
 pub synced_done : (journal : ℕ) (entries : List Entry) (old new : State) → length entries ≡ 0 → IsShut journal old → Touches none old new → IsSynced new → IsDone journal old entries new
 synced_done journal [] old new empty shut touches all = record {

@@ -1,6 +1,6 @@
 -- What a crash leaves in each state of a commit.
 use Rattle.std.proofs.Common.{◌⊎◌, ◌≡◌, ⊎_elim, inl, inr, ℕ, ◌+◌, ◌<◌, ◌≤◌, List, [], ◌∷◌, length, take, Bool, true, false, refl, sym, ◌∙◌, ap, arith}
-use Rattle.std.specs.Prelude.{nat_lt, ◌==◌, ◌||◌, nat_le, map, if◌then◌else◌}
+use Rattle.std.specs.Prelude.{nat_lt, ◌==◌, ◌&&◌, ◌||◌, nat_le, map, if◌then◌else◌}
 use Rattle.std.specs.List.{enumerate_from}
 use Rattle.std.proofs.lemmas.Bool.{ltb-true, eqb-true, and_parts, or_cases, lt-leb, cases_Bool, ne_eqb, and_left, and_right, or_parts}
 use Rattle.dasd_pool.specs.Disk.{Image, State, IsSynced, Spares, is_at}
@@ -85,23 +85,23 @@ module _ (size : ℕ → ℕ) (journal : ℕ) where
   pub not_gate_block : (b : ℕ) → 3 ≤ b → is_at journal 1 journal b ≡ false
   not_gate_block b high = other_block journal 1 journal b (λ same. omega arith)
 
-  pub not_body : (u b : ℕ) → is_place journal u b ≡ true → of_body journal u b ≡ false
-  not_body u b within = ⊎_elim
-      (λ less. and_left (u == journal) (nat_le 3 b) (ne_eqb u journal (λ same. omega arith)))
-      (λ control. and_right (u == journal) (nat_le 3 b) (lt-leb 3 b (omega (arith, control.1))))
+  pub not_body : (count u b : ℕ) → is_place journal u b ≡ true → of_body journal count u b ≡ false
+  not_body count u b within = ⊎_elim
+      (λ less. and_left (u == journal) (nat_le 3 b && nat_le b (3 + count)) (ne_eqb u journal (λ same. omega arith)))
+      (λ control. and_right (u == journal) (nat_le 3 b && nat_le b (3 + count)) (and_left (nat_le 3 b) (nat_le b (3 + count)) (lt-leb 3 b (omega (arith, control.1)))))
       (place_cases journal u b within)
 
-  pub low_not_body : (b : ℕ) → b < 3 → of_body journal journal b ≡ false
-  low_not_body b low = and_right (journal == journal) (nat_le 3 b) (lt-leb 3 b low)
+  pub low_not_body : (count b : ℕ) → b < 3 → of_body journal count journal b ≡ false
+  low_not_body count b low = and_right (journal == journal) (nat_le 3 b && nat_le b (3 + count)) (and_left (nat_le 3 b) (nat_le b (3 + count)) (lt-leb 3 b low))
 
   -- while the body is written, behind a closed gate
-  pub staging_crash : (old : State) (image : Image) → IsShut journal old → Spares (of_body journal) old image → HoldsOld size journal old image
-  staging_crash old image shut spares =
-      let closed : is_open (image journal 1) ≡ false = ap is_open (spares journal 1 (low_not_body 1 (omega arith)) (shut.synced 1)) ∙ shut.closed in
+  pub staging_crash : (count : ℕ) (old : State) (image : Image) → IsShut journal old → Spares (of_body journal count) old image → HoldsOld size journal old image
+  staging_crash count old image shut spares =
+      let closed : is_open (image journal 1) ≡ false = ap is_open (spares journal 1 (low_not_body count 1 (omega arith)) (shut.synced 1)) ∙ shut.closed in
       record {
-        registration = spares journal 0 (low_not_body 0 (omega arith)) (shut.synced 0);
+        registration = spares journal 0 (low_not_body count 0 (omega arith)) (shut.synced 0);
         closed = closed;
-        places = λ u b within was. closed_overlay image closed u b ∙ spares u b (not_body u b within) was;
+        places = λ u b within was. closed_overlay image closed u b ∙ spares u b (not_body count u b within) was;
       }
 
   -- a synced state with the body, a registration, and these places

@@ -1,12 +1,13 @@
 -- A registration reads as it was written, and zeros say nothing.
-use Rattle.std.proofs.Common.{◌≡◌, ◌<◌, ◌≤◌, ◌-◌, ℕ, ◌+◌, ◌*◌, List, [], ◌∷◌, ◌++◌, length, take, drop, get_or, append_assoc, length-append, refl, sym, ◌∙◌, ap, arith}
-use Rattle.std.specs.Prelude.{All, replicate, ◌==◌, false}
-use Rattle.std.proofs.lemmas.Bool.{and_left}
+use Rattle.std.proofs.Common.{◌≡◌, inl, inr, ◌<◌, ◌≤◌, ◌-◌, ℕ, ◌+◌, ◌*◌, List, [], ◌∷◌, ◌++◌, length, take, drop, get_or, append_assoc, length-append, refl, sym, ◌∙◌, ap, arith}
+use Rattle.std.specs.Prelude.{All, replicate, ◌==◌, nat_le, false}
+use Rattle.std.proofs.lemmas.Bool.{and_from, both_ways, cases_eq, eq-eqb, le-leb}
 use Rattle.dasd_pool.specs.Disk.{is_at}
-use Rattle.redo_core.specs.Steps.{of_journal}
+use Rattle.redo_core.specs.Steps.{of_making}
 use Rattle.std.specs.List.{AllByRecursion, flat_map}
 use Rattle.std.proofs.lemmas.List.{take_at, drop_at, take_more, length-take-le}
 use Rattle.std.proofs.lemmas.List.Elements.{recursion_from_All}
+use Rattle.redo_core.proofs.Crash.{other_block, other_unit}
 use Rattle.redo_core.proofs.Directory.{put_behind}
 use Rattle.byteorder.specs.Endian.{big_bytes}
 use Rattle.byteorder.specs.Numbers.{big_number-reads_back}
@@ -67,6 +68,9 @@ text_more names i place room name buffer later piece less is at sixes so_far pie
     (ap (λ (l : List ℕ). texts (take i names) ++ l) piece_is ∙ sym (texts-push (take i names) name)
     ∙ ap texts (sym (take_more names i name less ∙ ap (λ (n : Serial). take i names ++ n ∷ []) (sym is))))
 
--- a block of the journal
-pub in_journal : (journal block u b : ℕ) → of_journal journal u b ≡ false → is_at journal block u b ≡ false
-in_journal journal block u b apart = and_left (u == journal) (b == block) apart
+-- one of the first three blocks of the journal
+pub in_making : (journal block u b : ℕ) → block ≤ 2 → of_making journal u b ≡ false → is_at journal block u b ≡ false
+in_making journal block u b low apart = elim (cases_eq u journal) [
+  | inl same ↦ other_block journal block u b (λ at. both_ways (of_making journal u b) apart (and_from (u == journal) (nat_le b 2) (eq-eqb u journal same) (le-leb b 2 (omega arith))))
+  | inr other ↦ other_unit journal block u b other
+]

@@ -157,16 +157,22 @@ module _ (shape : Shape) (old : State) where
                 ∙ sym (closed_overlay shape.block_size j old.contents closed u b)
           ]
 
--- only reads, and a sync
-pub look_moments : (shape : Shape) (old new : Disk) → IsJournalSynced shape old.state → Runs none old new → LeavesOnly old new (ReadsSame shape old.state)
-look_moments shape old new synced run = weaken old new (Spares none old.state) (ReadsSame shape old.state) (λ image spares. spared_reads shape old.state synced image spares) run.leaves
+-- Only reads, and a sync: they leave nothing that could not have been left before.
+pub look_moments : (old new : Disk) (P : Image → Type 0) → Runs none old new → LeavesOnly old new P
+look_moments old new P run = record {
+  later = run.leaves.later;
+  each = λ since image before left.
+      ⊎_elim inl (λ spares. inl (old.counts_now since image before (λ u b was. spares u b refl was))) (run.leaves.each since image before left);
+  goes_on = run.leaves.goes_on;
+  keeps = run.leaves.keeps;
+}
 
 -- and then a redo
-pub open_moments : (shape : Shape) (journal : ℕ) (old mid new : Disk) → journal_of shape ≡ journal → IsJournalSynced shape old.state → Runs none old mid
+pub open_moments : (shape : Shape) (journal : ℕ) (old mid new : Disk) → journal_of shape ≡ journal → Runs none old mid
     → LeavesOnly mid new (HoldsSame shape.block_size journal mid.state.contents) → LeavesOnly old new (ReadsSame shape old.state)
-open_moments shape journal old mid new unit synced run redo =
+open_moments shape journal old mid new unit run redo =
     let same : mid.state.contents ≡ old.state.contents = λ i u b. run.touches.contents u b refl i in
-    and_then old mid new (ReadsSame shape old.state) (look_moments shape old mid synced run)
+    and_then old mid new (ReadsSame shape old.state) (look_moments old mid (ReadsSame shape old.state) run)
     (weaken mid new (HoldsSame shape.block_size journal mid.state.contents) (ReadsSame shape old.state)
     (λ image holds. same_reads shape old.state image
     (subst (λ (j : ℕ). HoldsSame shape.block_size j old.state.contents image) (sym unit) (subst (λ (x : Image). HoldsSame shape.block_size journal x image) same holds)))
@@ -188,6 +194,7 @@ module _ (shape : Shape) (old new : State) (names : List Serial) (room : ℕ) (c
   pub opened_well : IsOpened shape old names room control fills new
   opened_well = record {
     all = done.all;
+    block = done.places (journal_of shape) 2 (place_control shape);
     volumes = overlay shape.block_size (journal_of shape) old.contents;
     before = reads;
     after = again (overlay shape.block_size (journal_of shape) old.contents) (λ u b less. sym (done.places u b (place_volume shape u b less)) ∙ sym (shown u b));

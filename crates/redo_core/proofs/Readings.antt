@@ -109,7 +109,11 @@ module _ (shape : Shape) where
       }
 
       pub is_committed : (new : State) → IsDone (journal_of shape) old entries new → IsCommitted shape old entries new
-      is_committed new done = record { all = done.all; reads = new_reads new.contents (done_holds new done) }
+      is_committed new done = record {
+        all = done.all;
+        reads = new_reads new.contents (done_holds new done);
+        control = done.places journal 2 place_control;
+      }
 
       pub at_rest : (room : ℕ) (control after : Control) (fills later : List Bool) (new : State) → IsDone (journal_of shape) old entries new → IsAtRest shape old room control fills
           → IsStatusAfter shape entries control fills after later → IsAtRest shape new room after later

@@ -1,6 +1,6 @@
 -- How the calls of the pool lead from one state of a commit to the next.
 use Rattle.std.proofs.Common.{◌≡◌, inl, inr, ℕ, ◌+◌, ◌<◌, ◌≤◌, List, [], ◌∷◌, ◌++◌, length, take, get_or, zero, suc, Bool, false, refl, sym, ◌∙◌, ap, arith}
-use Rattle.std.specs.Prelude.{◌==◌, nat_le, if◌then◌else◌}
+use Rattle.std.specs.Prelude.{◌==◌, ◌&&◌, nat_le, if◌then◌else◌}
 use Rattle.std.proofs.lemmas.Bool.{cases_Bool, and_parts, or_parts, eqb-true, cases_eq, both_ways, and_from, eq-eqb, le-leb}
 use Rattle.std.proofs.lemmas.List.{take_at}
 use Rattle.dasd_pool.specs.Disk.{Image, State, Disk, Touches, Runs, is_at, none}
@@ -14,17 +14,18 @@ use Rattle.redo_core.specs.Steps.{HasEntries}
 use Rattle.redo_core.proofs.Crash.{other_unit, other_block, images_from, images_same}
 
 -- a block of the body is one of its blocks
-pub body_within : (journal block u b : ℕ) → 3 ≤ block → of_body journal u b ≡ false → is_at journal block u b ≡ false
-body_within journal block u b high apart = elim (cases_eq u journal) [
-  | inl same ↦ other_block journal block u b (λ at. both_ways (of_body journal u b) apart (and_from (u == journal) (nat_le 3 b) (eq-eqb u journal same) (le-leb 3 b (omega arith))))
+pub body_within : (journal count block u b : ℕ) → 3 ≤ block → block ≤ 3 + count → of_body journal count u b ≡ false → is_at journal block u b ≡ false
+body_within journal count block u b high low apart = elim (cases_eq u journal) [
+  | inl same ↦ other_block journal block u b (λ at. both_ways (of_body journal count u b) apart
+      (and_from (u == journal) (nat_le 3 b && nat_le b (3 + count)) (eq-eqb u journal same) (and_from (nat_le 3 b) (nat_le b (3 + count)) (le-leb 3 b (omega arith)) (le-leb b (3 + count) (omega arith)))))
   | inr other ↦ other_unit journal block u b other
 ]
 
 -- the images, the directory, a sync
-pub body_runs : (journal : ℕ) (old staged named done : Disk) → Runs (of_body journal) old staged → Runs (is_at journal 3) staged named → Runs none named done → Runs (of_body journal) old done
-body_runs journal old staged named done first second third =
-    runs_then (of_body journal) (of_body journal) none old named done (λ u b apart. apart) (λ u b apart. refl)
-    (runs_then (of_body journal) (of_body journal) (is_at journal 3) old staged named (λ u b apart. apart) (λ u b apart. body_within journal 3 u b (omega arith) apart) first second)
+pub body_runs : (journal count : ℕ) (old staged named done : Disk) → Runs (of_body journal count) old staged → Runs (is_at journal 3) staged named → Runs none named done → Runs (of_body journal count) old done
+body_runs journal count old staged named done first second third =
+    runs_then (of_body journal count) (of_body journal count) none old named done (λ u b apart. apart) (λ u b apart. refl)
+    (runs_then (of_body journal count) (of_body journal count) (is_at journal 3) old staged named (λ u b apart. apart) (λ u b apart. body_within journal count 3 u b (omega arith) (omega arith) apart) first second)
     third
 
 pub length-targets : (entries : List Entry) → length (targets entries) ≡ length entries

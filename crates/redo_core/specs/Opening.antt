@@ -7,7 +7,7 @@ use Rattle.redo_core.specs.declared.control.Control.{Control}
 use Rattle.redo_core.specs.declared.target.Target.{Target}
 use Rattle.redo_core.specs.declared.control.Control.TheVariants.{Idle}
 use Rattle.redo_core.specs.Format.{wide, is_open, directory_in, registration_text}
-use Rattle.redo_core.specs.Reading.{journal_of, among, fills_of, Reading, Reads}
+use Rattle.redo_core.specs.Reading.{journal_of, among, fills_of, control_block, Reading, Reads}
 
 -- names for the volumes of a pool: from 1 to 64 serials, which differ
 pub record AreNames (shape : Shape) (names : List Serial) : Type 0 where
@@ -41,9 +41,10 @@ ReadsSame shape old image = (before : Reading) → Reads shape old.contents befo
     → (volumes : Image) × Reads shape image (record before { volumes = volumes })
     × ((u b : ℕ) → u < journal_of shape → IsSure shape old u b → volumes u b ≡ before.volumes u b)
 
--- An opening ended well: the blocks read as they did, under these names, and all is synced.
+-- An opening ended well: the blocks read as they did, under these names, and all is synced. The control block is what an open body made of it, byte for byte.
 pub record IsOpened (shape : Shape) (old : State) (names : List Serial) (room : ℕ) (control : Control) (fills : List Bool) (new : State) : Type 0 where
   pub all : IsSynced new
+  pub block : new.contents (journal_of shape) 2 ≡ control_block shape old.contents
   pub volumes : Image
   pub before : Reads shape old.contents (record { volumes = volumes; names = names; room = room; control = control; fills = fills_of fills })
   pub after : Reads shape new.contents (record { volumes = volumes; names = names; room = room; control = control; fills = fills_of fills })
@@ -61,7 +62,7 @@ MakingLeaves shape old image =
     ⊎ ((image journal 0 ≡ replicate wide 0) ⊎ ((image journal 1 ≡ replicate wide 0) × (image journal 2 ≡ replicate wide 0)))
 
 -- A format ended well: the volumes are as they were, under these names, no body is open, nothing is under way, and all is synced. Gate and
--- control are zeros, and so is what stands behind the registration.
+-- control are zeros, and so is what stands behind the registration in its block.
 pub record IsFormatted (shape : Shape) (old : State) (names : List Serial) (room : ℕ) (new : State) : Type 0 where
   pub all : IsSynced new
   pub registration : new.contents (journal_of shape) 0 ≡ registration_text names room ++ replicate (wide - (16 + 6 * length names)) 0

@@ -1,12 +1,12 @@
 -- What a commit leaves, at any moment and at its end.
-use Rattle.std.specs.Prelude.{◌<◌, ◌≡◌, ◌⊎◌, ℕ, List, length, map, Bool, true, false, ◌==◌, ◌&&◌, ◌||◌, nat_le}
+use Rattle.std.specs.Prelude.{◌<◌, ◌≡◌, ◌⊎◌, ℕ, ◌+◌, List, length, map, Bool, true, false, ◌==◌, ◌&&◌, ◌||◌, nat_le}
 use Rattle.dasd_pool.specs.Disk.{Image, Shape, State, IsSynced, is_at}
 use Rattle.vol_label.specs.declared.serial.Serial.{Serial}
 use Rattle.redo_core.specs.declared.control.Control.{Control}
 use Rattle.redo_core.specs.declared.entries.Entry.{Entry}
 use Rattle.redo_core.specs.declared.target.Target.{Target}
 use Rattle.redo_core.specs.Format.{is_open}
-use Rattle.redo_core.specs.Reading.{journal_of, is_place, among, control_after, fills_after, with_entries, fills_of, Reading, Reads}
+use Rattle.redo_core.specs.Reading.{journal_of, is_place, placed, among, control_after, fills_after, with_entries, fills_of, Reading, Reads}
 use Rattle.redo_core.specs.Opening.{ReadsSame}
 use Rattle.redo_core.specs.Statuses.{IsControlBlock}
 
@@ -23,18 +23,19 @@ ReadsNew shape old entries image = (before : Reading) → Reads shape old.conten
 abbrev pub OldOrNew : Shape → State → List Entry → Image → Type 0
 OldOrNew shape old entries image = ReadsSame shape old image ⊎ ReadsNew shape old entries image
 
--- After a commit all is synced, and reads with all entries in place.
+-- After a commit all is synced, and reads with all entries in place, of which one may be the control block, byte for byte.
 pub record IsCommitted (shape : Shape) (old : State) (entries : List Entry) (new : State) : Type 0 where
   pub all : IsSynced new
   pub reads : ReadsNew shape old entries new.contents
+  pub control : new.contents (journal_of shape) 2 ≡ placed old.contents entries (journal_of shape) 2
 
--- whether a block may be of the body
-abbrev pub of_body : ℕ → ℕ → ℕ → Bool
-of_body journal u b = (u == journal) && nat_le 3 b
+-- whether a block is one of a body of so many images: the directory or an image
+abbrev pub of_body : ℕ → ℕ → ℕ → ℕ → Bool
+of_body journal count u b = (u == journal) && (nat_le 3 b && nat_le b (3 + count))
 
--- the blocks that a commit may write: the body, the gate, and the targets
+-- the blocks that a commit may write: the body of its entries, the gate, and the targets
 abbrev pub of_commit : ℕ → List Entry → ℕ → ℕ → Bool
-of_commit journal entries u b = (of_body journal u b || is_at journal 1 u b) || among (targets entries) u b
+of_commit journal entries u b = (of_body journal (length entries) u b || is_at journal 1 u b) || among (targets entries) u b
 
 -- an entry for a block of a volume that is there, or for the control block, where it is a control block
 pub record IsEntry (shape : Shape) (entry : Entry) : Type 0 where

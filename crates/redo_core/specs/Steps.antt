@@ -1,5 +1,5 @@
 -- The steps of a commit and of a redo, in terms of blocks.
-use Rattle.std.specs.Prelude.{◌<◌, ◌≡◌, ◌⊎◌, ℕ, ◌+◌, ◌≤◌, List, [], length, take, Option, Some, None, Bool, true, false, ◌==◌, ◌||◌}
+use Rattle.std.specs.Prelude.{◌<◌, ◌≡◌, ◌⊎◌, ℕ, ◌+◌, ◌≤◌, List, [], length, take, Option, Some, None, Bool, true, false, ◌==◌, ◌&&◌, ◌||◌, nat_le}
 use Rattle.dasd_pool.specs.Disk.{Image, Shape, State, IsSynced, is_at}
 use Rattle.redo_core.specs.declared.entries.Entry.{Entry}
 use Rattle.redo_core.specs.declared.target.Target.{Target}
@@ -25,9 +25,9 @@ pub record IsPlaced (shape : Shape) (journal : ℕ) (entry : Entry) : Type 0 whe
 abbrev pub of_status : ℕ → ℕ → ℕ → Bool
 of_status journal u b = is_at journal 1 u b || is_at journal 2 u b
 
--- whether a block is of the journal
-abbrev pub of_journal : ℕ → ℕ → ℕ → Bool
-of_journal journal u b = u == journal
+-- whether a block is one that a making writes: the registration, the gate or the control
+abbrev pub of_making : ℕ → ℕ → ℕ → Bool
+of_making journal u b = (u == journal) && nat_le b 2
 
 -- the gate is closed, and all blocks of the journal are synced
 pub record IsShut (journal : ℕ) (state : State) : Type 0 where

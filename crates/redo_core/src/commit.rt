@@ -25,7 +25,7 @@ fn stage<P: Pool>(
     requires entries { All (IsPlaced (P.shape pool.old) journal) entries.now }
     ensures shape { P.shape pool.new ≡ P.shape pool.old }
     ensures images { P.tells → OnOk result (body_for (P.shape pool.old).block_size journal (P.disk pool.new).state.contents (targets entries.now) ≡ entries.now) }
-    ensures runs { P.tells → Runs (of_body journal) (P.disk pool.old) (P.disk pool.new) }
+    ensures runs { P.tells → Runs (of_body journal (length entries.now)) (P.disk pool.old) (P.disk pool.new) }
     ensures cause { HasCause (P.faults pool.old) (P.faults pool.new) result }
 {
     let mut next = 4u32;
@@ -50,7 +50,7 @@ fn write_body<P: Pool>(
     ensures shape { P.shape pool.new ≡ P.shape pool.old }
     ensures body { P.tells → OnOk result (HasEntries (P.shape pool.old).block_size journal (P.disk pool.new).state.contents entries.now) }
     ensures synced { P.tells → OnOk result (IsSynced (P.disk pool.new).state) }
-    ensures runs { P.tells → Runs (of_body journal) (P.disk pool.old) (P.disk pool.new) }
+    ensures runs { P.tells → Runs (of_body journal (length entries.now)) (P.disk pool.old) (P.disk pool.new) }
     ensures cause { HasCause (P.faults pool.old) (P.faults pool.new) result }
 {
     stage(pool, journal, buffer, entries)?;

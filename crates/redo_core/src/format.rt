@@ -7,7 +7,7 @@ ghost use Rattle.vol_label.specs.declared.serial.Serial.{Serial};
 ghost use Rattle.redo_core.specs.Opening.{AreNames, IsFormatted, MakingLeaves, SparesVolumes};
 ghost use Rattle.redo_core.specs.Faults.{zeroed, IsInUse, IsShort, IsFormatFault, MayFormat};
 ghost use Rattle.redo_core.specs.Reading.{HasHead};
-ghost use Rattle.redo_core.specs.Steps.{IsJournal, of_journal, of_status};
+ghost use Rattle.redo_core.specs.Steps.{IsJournal, of_making, of_status};
 ghost use Rattle.byteorder.specs.Endian.{big_bytes};
 ghost use Rattle.redo_core.specs.Format.{wide, registration_magic, registration_text, is_open, is_filling};
 
@@ -71,7 +71,7 @@ fn write_journal<P: Pool>(
     ensures gate { P.tells → OnOk result ((P.disk pool.new).state.contents journal 1 ≡ replicate wide 0) }
     ensures control { P.tells → OnOk result ((P.disk pool.new).state.contents journal 2 ≡ replicate wide 0) }
     ensures synced { P.tells → OnOk result (IsSynced (P.disk pool.new).state) }
-    ensures runs { P.tells → Runs (of_journal journal) (P.disk pool.old) (P.disk pool.new) }
+    ensures runs { P.tells → Runs (of_making journal) (P.disk pool.old) (P.disk pool.new) }
     ensures left { P.tells → LeavesOnly (P.disk pool.old) (P.disk pool.new) (MakingLeaves (P.shape pool.old) (P.disk pool.old).state) }
     ensures cause { HasCause (P.faults pool.old) (P.faults pool.new) result }
 {
@@ -256,7 +256,7 @@ pub fn format_on<P: Pool>(
     ensures careful { P.tells → IfErr result (λ fault. MayFormat (P.shape pool.old) (P.disk pool.old).state.contents names.now room ⊎ Runs none (P.disk pool.old) (P.disk pool.new)) }
     ensures any_moment { P.tells → LeavesOnly (P.disk pool.old) (P.disk pool.new) (SparesVolumes (P.shape pool.old) (P.disk pool.old).state) }
     ensures left { P.tells → LeavesOnly (P.disk pool.old) (P.disk pool.new) (MakingLeaves (P.shape pool.old) (P.disk pool.old).state) }
-    ensures runs { P.tells → Runs (of_journal journal) (P.disk pool.old) (P.disk pool.new) }
+    ensures runs { P.tells → Runs (of_making journal) (P.disk pool.old) (P.disk pool.new) }
     ensures faults { P.faults pool.old ≤ P.faults pool.new }
     ensures cause { IfErr result (λ fault. fault ≡ JournalFault.Pool → Rose (P.faults pool.old) (P.faults pool.new)) }
 {

@@ -6,9 +6,9 @@ ghost use Rattle.dasd_pool.specs.Count.{Rose, HasCause};
 ghost use Rattle.dasd_pool.specs.Disk.{Image, LeavesOnly, Runs, IsSynced, none, is_at};
 ghost use Rattle.redo_core.specs.declared.control.Control.TheVariants.{Idle};
 ghost use Rattle.redo_core.specs.Reading.{journal_of, fills_of};
-ghost use Rattle.redo_core.specs.Steps.{IsJournal, of_journal};
+ghost use Rattle.redo_core.specs.Steps.{IsJournal, of_making};
 ghost use Rattle.redo_core.specs.Phases.{targets, of_commit, IsAtRest, IsEntry, IsStatusAfter, OldOrNew, IsCommitted};
-ghost use Rattle.redo_core.specs.Opening.{AreNames, IsFormatted, IsJournalSynced, IsOpened, MakingLeaves, ReadsSame, SparesVolumes, of_opening};
+ghost use Rattle.redo_core.specs.Opening.{AreNames, IsFormatted, IsOpened, MakingLeaves, ReadsSame, SparesVolumes, of_opening};
 ghost use Rattle.redo_core.specs.Faults.{IsFormatFault, IsOpenFault, MayFormat, MayOpen};
 ghost use Rattle.redo_core.specs.Stops.{pool_after, pool_of, IsStatusOf};
 
@@ -47,7 +47,7 @@ impl<P: Pool> Model for Journal<P> {
     ghost use Rattle.redo_core.specs.Format.{wide};
     ghost use Rattle.redo_core.specs.Phases.{IsAtRest};
     ghost use Rattle.redo_core.specs.Steps.{IsJournal};
-    ghost use Rattle.redo_core.specs.Opening.{AreNames, IsFormatted, IsJournalSynced, IsOpened, MakingLeaves, ReadsSame, SparesVolumes};
+    ghost use Rattle.redo_core.specs.Opening.{AreNames, IsFormatted, IsOpened, MakingLeaves, ReadsSame, SparesVolumes};
     ghost use Rattle.redo_core.specs.Faults.{IsFormatFault, IsOpenFault, MayFormat, MayOpen};
     ghost use Rattle.redo_core.specs.Stops.{JournalView};
 
@@ -88,7 +88,7 @@ impl<P: Pool> Journal<P> {
         ensures careful { P.tells → IfErr result (λ stop. MayFormat (P.shape pool) (P.disk pool).state.contents names.now room ⊎ Runs none (P.disk pool) (P.disk stop.pool)) }
 
         // At every moment, whatever the answer. Written are at most blocks of the journal.
-        ensures runs { P.tells → Runs (of_journal (journal_of (P.shape pool))) (P.disk pool) (P.disk (pool_of result)) }
+        ensures runs { P.tells → Runs (of_making (journal_of (P.shape pool))) (P.disk pool) (P.disk (pool_of result)) }
         ensures any_moment { P.tells → LeavesOnly (P.disk pool) (P.disk (pool_of result)) (SparesVolumes (P.shape pool) (P.disk pool).state) }
         ensures left { P.tells → LeavesOnly (P.disk pool) (P.disk (pool_of result)) (MakingLeaves (P.shape pool) (P.disk pool).state) }
         ensures faults { P.faults pool ≤ P.faults (pool_of result) }
@@ -134,8 +134,7 @@ impl<P: Pool> Journal<P> {
 
         // At every moment, whatever the answer. Written are at most the gate and the targets of an open body.
         ensures runs { P.tells → Runs (of_opening (journal_of (P.shape pool)) (P.disk pool).state.contents) (P.disk pool) (P.disk (pool_after result)) }
-        ensures any_moment { P.tells → IsJournalSynced (P.shape pool) (P.disk pool).state
-            → LeavesOnly (P.disk pool) (P.disk (pool_after result)) (ReadsSame (P.shape pool) (P.disk pool).state) }
+        ensures any_moment { P.tells → LeavesOnly (P.disk pool) (P.disk (pool_after result)) (ReadsSame (P.shape pool) (P.disk pool).state) }
         ensures faults { P.faults pool ≤ P.faults (pool_after result) }
         ensures cause { IfErr result (λ stop. stop.cause ≡ JournalFault.Pool → Rose (P.faults pool) (P.faults stop.pool)) }
     {

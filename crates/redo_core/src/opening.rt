@@ -9,7 +9,7 @@ ghost use Rattle.redo_core.specs.declared.fault.JournalRule.{JournalRule};
 ghost use Rattle.redo_core.specs.Format.{wide, control_in, is_filling};
 ghost use Rattle.redo_core.specs.Reading.{journal_of, placed, body_for, fills_of, control_block, HasHead, IsRegistration, HasBody, IsControl, IsTarget, Obeys, Reads, overlay};
 ghost use Rattle.redo_core.specs.Phases.{IsAtRest};
-ghost use Rattle.redo_core.specs.Opening.{IsJournalSynced, IsOpened, ReadsSame, of_opening};
+ghost use Rattle.redo_core.specs.Opening.{IsOpened, ReadsSame, of_opening};
 ghost use Rattle.redo_core.specs.Steps.{IsJournal, HasTargets, shown};
 ghost use Rattle.redo_core.specs.Faults.{zeroed, Fails, IsRuleFault, IsNameFault, IsIdle, IsWhoFault, IsOpenFault, LabelsAre, MayOpen};
 
@@ -387,8 +387,7 @@ pub fn open_on<P: Pool>(
     ensures unwritten { P.tells → IfErr result (λ fault. (fault ≡ JournalFault.Pool → ⊥) → Runs none (P.disk pool.old) (P.disk pool.new)) }
     ensures careful { P.tells → IfErr result (λ fault. MayOpen (P.shape pool.old) (P.disk pool.old).state.contents names.now ⊎ Runs none (P.disk pool.old) (P.disk pool.new)) }
     ensures runs { P.tells → Runs (of_opening journal (P.disk pool.old).state.contents) (P.disk pool.old) (P.disk pool.new) }
-    ensures any_moment { P.tells → IsJournalSynced (P.shape pool.old) (P.disk pool.old).state
-        → LeavesOnly (P.disk pool.old) (P.disk pool.new) (ReadsSame (P.shape pool.old) (P.disk pool.old).state) }
+    ensures any_moment { P.tells → LeavesOnly (P.disk pool.old) (P.disk pool.new) (ReadsSame (P.shape pool.old) (P.disk pool.old).state) }
     ensures faults { P.faults pool.old ≤ P.faults pool.new }
     ensures cause { IfErr result (λ fault. fault ≡ JournalFault.Pool → Rose (P.faults pool.old) (P.faults pool.new)) }
 {

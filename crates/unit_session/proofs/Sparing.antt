@@ -1,5 +1,5 @@
 -- A commit of rendered changes spares every block that stays the same, whenever it stops.
-use Rattle.std.proofs.Common.{◌≡◌, ⊎_elim, inl, inr, ℕ, ◌<◌, List, Bool, false, sym, ap, subst, ◌∙◌, arith}
+use Rattle.std.proofs.Common.{◌≡◌, ⊎_elim, inl, inr, ℕ, ◌+◌, ◌<◌, List, length, Bool, false, sym, ap, subst, ◌∙◌, arith}
 use Rattle.std.specs.Prelude.{◌==◌, ◌&&◌, ◌||◌, nat_le}
 use Rattle.std.proofs.lemmas.Bool.{ne_eqb}
 use Rattle.dasd_pool.specs.Disk.{Disk, LeavesOnly, Runs, Shape, IsSynced}
@@ -23,7 +23,7 @@ module _ (shape : Shape) (old new : Disk) (room : ℕ) (units : List UnitState) 
   untouched : (u b : ℕ) → u < journal_of shape → placed old.state.contents (entries_of changes rendered) u b ≡ old.state.contents u b
       → of_commit (journal_of shape) (entries_of changes rendered) u b ≡ false
   untouched u b less same =
-      ap (λ (t : Bool). ((t && nat_le 3 b) || (t && (b == 1))) || among (targets made) u b) (ne_eqb u (journal_of shape) (λ is. absurd (omega (arith, is, less))))
+      ap (λ (t : Bool). ((t && (nat_le 3 b && nat_le b (3 + length made))) || (t && (b == 1))) || among (targets made) u b) (ne_eqb u (journal_of shape) (λ is. absurd (omega (arith, is, less))))
       ∙ no_entry shape room old.state.contents units vtocs changes rendered keep loaded kept were ready u b same
 
   made_spared : LeavesOnly old new (SparesUnchanged shape old.state.contents (entries_of changes rendered))

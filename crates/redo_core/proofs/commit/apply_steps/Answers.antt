@@ -1,4 +1,4 @@
-use Rattle.std.proofs.Common.{ap}
+use Rattle.std.proofs.Common.{ap, length}
 use Rattle.dasd_pool.specs.Disk.{Runs, is_at}
 use Rattle.dasd_pool.proofs.Moments.{runs_then}
 use Rattle.redo_core.specs.Format.{is_open}
@@ -45,7 +45,7 @@ returns-in_err-place-clause-runs g c = λ told.
     let opened = g.P.Pool.disk c.set_gate.new.pool in
     let done = g.P.Pool.disk c.place.new.pool in
     let parts = of_commit_parts c.args.journal c.args.entries.now in
-    let first : Runs all old opened = runs_then all (of_body c.args.journal) (is_at c.args.journal 1) old staged opened (λ u b apart. (parts u b apart).0) (λ u b apart. (parts u b apart).1) (c.write_body.ensures.runs told) (c.set_gate.ensures.runs told) in
+    let first : Runs all old opened = runs_then all (of_body c.args.journal (length c.args.entries.now)) (is_at c.args.journal 1) old staged opened (λ u b apart. (parts u b apart).0) (λ u b apart. (parts u b apart).1) (c.write_body.ensures.runs told) (c.set_gate.ensures.runs told) in
     let second : Runs all old done = runs_then all all (among (targets c.args.entries.now)) old opened done (λ u b apart. apart) (λ u b apart. (parts u b apart).2) first (c.place.ensures.runs told) in
     second
 
@@ -76,7 +76,7 @@ returns-in_err-set_gate-2-clause-runs g c = λ told.
     let opened = g.P.Pool.disk c.set_gate.new.pool in
     let done = g.P.Pool.disk c.place.new.pool in
     let parts = of_commit_parts c.args.journal c.args.entries.now in
-    let first : Runs all old opened = runs_then all (of_body c.args.journal) (is_at c.args.journal 1) old staged opened (λ u b apart. (parts u b apart).0) (λ u b apart. (parts u b apart).1) (c.write_body.ensures.runs told) (c.set_gate.ensures.runs told) in
+    let first : Runs all old opened = runs_then all (of_body c.args.journal (length c.args.entries.now)) (is_at c.args.journal 1) old staged opened (λ u b apart. (parts u b apart).0) (λ u b apart. (parts u b apart).1) (c.write_body.ensures.runs told) (c.set_gate.ensures.runs told) in
     let second : Runs all old done = runs_then all all (among (targets c.args.entries.now)) old opened done (λ u b apart. apart) (λ u b apart. (parts u b apart).2) first (c.place.ensures.runs told) in
     runs_then all all (is_at c.args.journal 1) old done (g.P.Pool.disk c.set_gate-2.new.pool) (λ u b apart. apart) (λ u b apart. (parts u b apart).1) second (c.set_gate-2.ensures.runs told)
 
@@ -107,7 +107,7 @@ returns-clause-runs g c = λ told.
     let opened = g.P.Pool.disk c.set_gate.new.pool in
     let done = g.P.Pool.disk c.place.new.pool in
     let parts = of_commit_parts c.args.journal c.args.entries.now in
-    let first : Runs all old opened = runs_then all (of_body c.args.journal) (is_at c.args.journal 1) old staged opened (λ u b apart. (parts u b apart).0) (λ u b apart. (parts u b apart).1) (c.write_body.ensures.runs told) (c.set_gate.ensures.runs told) in
+    let first : Runs all old opened = runs_then all (of_body c.args.journal (length c.args.entries.now)) (is_at c.args.journal 1) old staged opened (λ u b apart. (parts u b apart).0) (λ u b apart. (parts u b apart).1) (c.write_body.ensures.runs told) (c.set_gate.ensures.runs told) in
     let second : Runs all old done = runs_then all all (among (targets c.args.entries.now)) old opened done (λ u b apart. apart) (λ u b apart. (parts u b apart).2) first (c.place.ensures.runs told) in
     runs_then all all (is_at c.args.journal 1) old done (g.P.Pool.disk c.set_gate-2.new.pool) (λ u b apart. apart) (λ u b apart. (parts u b apart).1) second (c.set_gate-2.ensures.runs told)
 

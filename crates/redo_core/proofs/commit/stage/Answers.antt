@@ -26,8 +26,8 @@ loop-entry-preserved g c =
       shape = c.put_block.ensures.shape ∙ inv.shape;
       next = omega (arith, inv.next);
       faults = omega (arith, inv.faults, c.put_block.ensures.cause.later);
-      runs = λ told. runs_then (of_body c.args.journal) (of_body c.args.journal) (is_at c.args.journal c.loop-entry.next) _ (g.P.Pool.disk c.loop-entry.pool) _
-          (λ u b apart. apart) (λ u b apart. body_within c.args.journal c.loop-entry.next u b (omega (arith, inv.next)) apart) (inv.runs told) (c.put_block.ensures.runs told);
+      runs = λ told. runs_then (of_body c.args.journal (length c.args.entries.now)) (of_body c.args.journal (length c.args.entries.now)) (is_at c.args.journal c.loop-entry.next) _ (g.P.Pool.disk c.loop-entry.pool) _
+          (λ u b apart. apart) (λ u b apart. body_within c.args.journal (length entries) c.loop-entry.next u b (omega (arith, inv.next)) (omega (arith, inv.next, c.loop-entry-test.true)) apart) (inv.runs told) (c.put_block.ensures.runs told);
       images = λ told. images_more shape.block_size c.args.journal (g.P.Pool.disk c.loop-entry.pool).state (g.P.Pool.disk c.put_block.new.pool).state
           (take i entries) _ entry _ c.loop-entry.next
           (omega (arith, inv.next, length-take-le i entries (omega arith)))
@@ -40,5 +40,5 @@ loop-entry-preserved g c =
 
 pub returns-in_err-put_block-clause-runs : goal.returns-in_err-put_block-clause-runs
 returns-in_err-put_block-clause-runs g c = λ told.
-    runs_then (of_body c.args.journal) (of_body c.args.journal) (is_at c.args.journal c.loop-entry.next) _ (g.P.Pool.disk c.loop-entry.pool) _
-    (λ u b apart. apart) (λ u b apart. body_within c.args.journal c.loop-entry.next u b (omega (arith, c.loop-entry.invariant.next)) apart) (c.loop-entry.invariant.runs told) (c.put_block.ensures.runs told)
+    runs_then (of_body c.args.journal (length c.args.entries.now)) (of_body c.args.journal (length c.args.entries.now)) (is_at c.args.journal c.loop-entry.next) _ (g.P.Pool.disk c.loop-entry.pool) _
+    (λ u b apart. apart) (λ u b apart. body_within c.args.journal (length c.args.entries.now) c.loop-entry.next u b (omega (arith, c.loop-entry.invariant.next)) (omega (arith, c.loop-entry.invariant.next, c.loop-entry-test.true)) apart) (c.loop-entry.invariant.runs told) (c.put_block.ensures.runs told)

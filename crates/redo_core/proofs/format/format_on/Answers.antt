@@ -2,7 +2,7 @@ use Rattle.std.proofs.Common.{◌≡◌, refl, inl, inr, arith}
 use Rattle.dasd_pool.specs.Disk.{Runs, none}
 use Rattle.dasd_pool.proofs.Moments.{runs_start, runs_then}
 use Rattle.redo_core.specs.Reading.{journal_of}
-use Rattle.redo_core.specs.Steps.{of_journal}
+use Rattle.redo_core.specs.Steps.{of_making}
 use Rattle.redo_core.proofs.Formatted.{is_formatted, volumes_spared}
 use Rattle.redo_core.proofs.Making.{left_after}
 use Rattle.redo_core.proofs.format.format_on.Goals as goal
@@ -10,7 +10,7 @@ use Rattle.redo_core.proofs.format.format_on.Goals as goal
 pub returns-in-Ok-write_journal-clause-formatted : goal.returns-in-Ok-write_journal-clause-formatted
 returns-in-Ok-write_journal-clause-formatted g c = λ told.
     let shape = g.P.Pool.shape c.args.pool.now in
-    let all = of_journal c.args.journal in
+    let all = of_making c.args.journal in
     let old = g.P.Pool.disk c.args.pool.now in
     let new = g.P.Pool.disk c.write_journal.new.pool in
     let unit : journal_of shape ≡ c.args.journal = omega (arith, c.requires.last) in
@@ -22,7 +22,7 @@ returns-in-Ok-write_journal-clause-formatted g c = λ told.
 pub returns-in-Ok-write_journal-clause-any_moment : goal.returns-in-Ok-write_journal-clause-any_moment
 returns-in-Ok-write_journal-clause-any_moment g c = λ told.
     let shape = g.P.Pool.shape c.args.pool.now in
-    let all = of_journal c.args.journal in
+    let all = of_making c.args.journal in
     let old = g.P.Pool.disk c.args.pool.now in
     let new = g.P.Pool.disk c.write_journal.new.pool in
     volumes_spared shape c.args.journal old new (omega (arith, c.requires.last))
@@ -31,7 +31,7 @@ returns-in-Ok-write_journal-clause-any_moment g c = λ told.
 pub returns-in-Err-write_journal-clause-any_moment : goal.returns-in-Err-write_journal-clause-any_moment
 returns-in-Err-write_journal-clause-any_moment g c = λ told.
     let shape = g.P.Pool.shape c.args.pool.now in
-    let all = of_journal c.args.journal in
+    let all = of_making c.args.journal in
     let old = g.P.Pool.disk c.args.pool.now in
     let new = g.P.Pool.disk c.write_journal.new.pool in
     volumes_spared shape c.args.journal old new (omega (arith, c.requires.last))
@@ -58,18 +58,18 @@ returns-in-Err-clause-careful g c = λ told. inr (c.may_format.ensures.runs told
 
 pub returns-in-Ok-write_journal-clause-runs : goal.returns-in-Ok-write_journal-clause-runs
 returns-in-Ok-write_journal-clause-runs g c = λ told.
-    let all = of_journal c.args.journal in
+    let all = of_making c.args.journal in
     runs_then all none all (g.P.Pool.disk c.args.pool.now) (g.P.Pool.disk c.may_format.new.pool) (g.P.Pool.disk c.write_journal.new.pool) (λ u b apart. refl) (λ u b apart. apart)
     (c.may_format.ensures.runs told) (c.write_journal.ensures.runs told)
 
 pub returns-in-Err-write_journal-clause-runs : goal.returns-in-Err-write_journal-clause-runs
 returns-in-Err-write_journal-clause-runs g c = λ told.
-    let all = of_journal c.args.journal in
+    let all = of_making c.args.journal in
     runs_then all none all (g.P.Pool.disk c.args.pool.now) (g.P.Pool.disk c.may_format.new.pool) (g.P.Pool.disk c.write_journal.new.pool) (λ u b apart. refl) (λ u b apart. apart)
     (c.may_format.ensures.runs told) (c.write_journal.ensures.runs told)
 
 pub returns-in-Err-clause-runs : goal.returns-in-Err-clause-runs
 returns-in-Err-clause-runs g c = λ told.
-    let all = of_journal c.args.journal in
+    let all = of_making c.args.journal in
     let new = g.P.Pool.disk c.may_format.new.pool in
     runs_then all none all (g.P.Pool.disk c.args.pool.now) new new (λ u b apart. refl) (λ u b apart. apart) (c.may_format.ensures.runs told) (runs_start all new)

@@ -3,6 +3,7 @@ use Rattle.std.specs.Prelude.{All}
 use Rattle.dasd_pool.specs.Disk.{Image, Shape, LeavesOnly}
 use Rattle.redo_core.specs.declared.target.Target.{Target}
 use Rattle.redo_core.specs.Reading.{journal_of, IsTarget}
+use Rattle.redo_core.specs.Opening.{ReadsSame}
 use Rattle.redo_core.specs.Steps.{IsJournal, HasTargets, HoldsSame}
 use Rattle.redo_core.proofs.Openings.{look_moments, open_moments, opened_well, rests_well, redone_at}
 use Rattle.redo_core.proofs.Written.{opening_runs}
@@ -36,7 +37,9 @@ finish-requires-clause-targets g c =
     (subst (λ (s : Shape). All (IsTarget s c.args.journal) c.in-Ok.found.targets.items) (sym c.in-Ok.ensures.shape) c.in-Ok.ensures.there)
 
 pub returns-in-Err-clause-any_moment : goal.returns-in-Err-clause-any_moment
-returns-in-Err-clause-any_moment g c = λ told synced. look_moments (g.P.Pool.shape c.args.pool.now) (g.P.Pool.disk c.args.pool.now) (g.P.Pool.disk c.look.new.pool) synced (c.look.ensures.runs told)
+returns-in-Err-clause-any_moment g c = λ told.
+    let old = g.P.Pool.disk c.args.pool.now in
+    look_moments old (g.P.Pool.disk c.look.new.pool) (ReadsSame (g.P.Pool.shape c.args.pool.now) old.state) (c.look.ensures.runs told)
 
 pub returns-in-Ok-finish-clause-any_moment : goal.returns-in-Ok-finish-clause-any_moment
 returns-in-Ok-finish-clause-any_moment g c = λ told.
@@ -46,7 +49,7 @@ returns-in-Ok-finish-clause-any_moment g c = λ told.
     let same : mid.state.contents ≡ old.state.contents = λ i u b. (c.look.ensures.runs told).touches.contents u b refl i in
     let unit : journal_of shape ≡ c.args.journal = omega (arith, c.requires.last) in
     let new = g.P.Pool.disk c.finish.new.pool in
-    λ synced. open_moments shape c.args.journal old mid new unit synced (c.look.ensures.runs told)
+    open_moments shape c.args.journal old mid new unit (c.look.ensures.runs told)
     (subst (λ (s : Shape). LeavesOnly mid new (HoldsSame s.block_size c.args.journal mid.state.contents)) c.in-Ok.ensures.shape (c.finish.ensures.any_moment told))
 
 pub returns-in-Err-finish-clause-any_moment : goal.returns-in-Err-finish-clause-any_moment
@@ -57,7 +60,7 @@ returns-in-Err-finish-clause-any_moment g c = λ told.
     let same : mid.state.contents ≡ old.state.contents = λ i u b. (c.look.ensures.runs told).touches.contents u b refl i in
     let unit : journal_of shape ≡ c.args.journal = omega (arith, c.requires.last) in
     let new = g.P.Pool.disk c.finish.new.pool in
-    λ synced. open_moments shape c.args.journal old mid new unit synced (c.look.ensures.runs told)
+    open_moments shape c.args.journal old mid new unit (c.look.ensures.runs told)
     (subst (λ (s : Shape). LeavesOnly mid new (HoldsSame s.block_size c.args.journal mid.state.contents)) c.in-Ok.ensures.shape (c.finish.ensures.any_moment told))
 
 pub returns-in-Ok-finish-clause-rest : goal.returns-in-Ok-finish-clause-rest
