@@ -3,8 +3,10 @@ use Rattle.std.proofs.Common.{◌≡◌, ◌≢◌, ◌⊎◌, inl, inr, ◌↔�
 use Rattle.std.specs.Prelude.{if◌then◌else◌}
 use Rattle.std.proofs.lemmas.List.Elements.{All-head, All-tail, All-nil, All-cons, All-contains}
 use Rattle.std.proofs.lemmas.Bool.{false≢true}
+use Rattle.ckd_image.specs.declared.device.Device.{Device}
 use Rattle.ckd_image.specs.Device.{heads_of}
 use Rattle.dsn_filter.specs.declared.dsn.Dsn.{Dsn}
+use Rattle.dsn_filter.specs.Dsn.{IsDsn}
 use Rattle.free_map.specs.declared.run.Run.{Run}
 use Rattle.free_map.specs.Runs.{AreMaximalRuns, SameTracksSameRuns}
 use Rattle.free_map.specs.Several.{OneChoice, AreChosen}
@@ -23,7 +25,7 @@ use Rattle.job_copies.specs.unit_change.Described.{Describes, DescribesSet}
 use Rattle.job_copies.specs.unit_change.Changed.{extents_of, set_put, sets_put}
 use Rattle.unit_load.specs.declared.state.UnitState.{UnitState}
 use Rattle.move_core.specs.declared.steps.Step.TheVariants as steps
-use Rattle.move_core.specs.Steps.{IsCopy, IsNewKind, extents_on, fields_at, tracks_for, empty_text}
+use Rattle.move_core.specs.Steps.{IsCopy, IsNewKind, LieOnCylinders, extents_on, fields_at, tracks_for, empty_text}
 use Rattle.job_copies.specs.unit_steps.declared.plan.Plan.{Plan}
 use Rattle.job_copies.specs.unit_steps.Plans.{IsLoadedAt, HasRow, IsPlan, putting, extents_in}
 use Rattle.job_copies.proofs.unit_steps.OneChange.{same_volume}
@@ -180,10 +182,12 @@ module _ {units : List UnitState} {transfer : Transfer} {case : Case} (is : IsTr
     is_copy : IsCopy case.from case.to case.set case.new transfer.runs copy
     is_copy = record {
       like = devices;
+      lawful = subst IsDsn (sym is.new_is) plan.copy.lawful;
       name_is = subst (λ (n : Dsn). IsNameOf n plan.copy.row.name) (sym is.new_is) plan.copy.named;
       fields_are = row_fields;
       kind = plan.copy.kind;
       kind_is = kind_is;
+      whole = subst (λ (d : Device). LieOnCylinders (heads_of d) plan.copy.kind transfer.runs) (ap (λ (v : Volume). v.device) target_is ∙ sym is.to_is.device_is) plan.copy.whole;
       extents_are = row_extents;
       size = ap (λ (l : List Extent). length (tracks_of l)) row_extents ∙ size_is;
       texts_are = ap (λ (l : List Extent). case.set.texts ++ replicate (length (tracks_of l) - length case.set.texts) empty_text) (sym row_extents);

@@ -1,7 +1,8 @@
 -- What each step changes on the volumes.
-use Rattle.std.specs.Prelude.{◌≡◌, ◌≢◌, ◌⊎◌, ℕ, ◌-◌, ◌*◌, ◌<◌, ◌≤◌, Bool, true, false, ◌==◌, nat_le, if◌then◌else◌, List, [], ◌∷◌, ◌++◌, length, map, take, drop, replicate, All, AllPairs, Contains, Some, bit_and, slice_get, slice_index}
+use Rattle.std.specs.Prelude.{◌≡◌, ◌≢◌, ◌⊎◌, ℕ, ◌-◌, ◌*◌, ◌%◌, ◌<◌, ◌≤◌, Bool, true, false, ◌==◌, nat_le, if◌then◌else◌, List, [], ◌∷◌, ◌++◌, length, map, take, drop, replicate, All, AllPairs, Contains, Some, bit_and, slice_get, slice_index}
 use Rattle.ckd_image.specs.Device.{heads_of, ceil_div}
 use Rattle.dsn_filter.specs.declared.dsn.Dsn.{Dsn}
+use Rattle.dsn_filter.specs.Dsn.{IsDsn}
 use Rattle.free_map.specs.declared.run.Run.{Run}
 use Rattle.free_map.specs.Runs.{HasTrack, InRuns}
 use Rattle.vol_label.specs.declared.serial.Serial.{Serial}
@@ -53,6 +54,14 @@ IsNewKind extents kind =
 abbrev pub extents_on : ℕ → List Run → List Extent
 extents_on kind to = map (λ run. record { run = run; kind = kind }) to
 
+-- runs for extents of a type: of whole cylinders where it is theirs
+abbrev pub LieOnCylinders : ℕ → ℕ → List Run → Type 0
+LieOnCylinders heads kind to = kind ≡ 0x81 → All (λ run. (run.first % heads ≡ 0) × (run.len % heads ≡ 0)) to
+
+-- each extent of the type of cylinders begins where a cylinder does
+abbrev pub BeginOnCylinders : ℕ → List Extent → Type 0
+BeginOnCylinders heads extents = All (λ extent. extent.kind ≡ 0x81 → extent.run.first % heads ≡ 0) extents
+
 -- ---- a data set elsewhere
 
 -- the extents stand on other runs, one for each, of the same lengths and types
@@ -83,6 +92,7 @@ pub record Moves (unit : ℕ) (name : Dsn) (to : List Run) (before after : List 
   pub as_many : length (tracks_of extents) ≡ length (tracks_of set.extents)
   pub change : ChangesUnit unit before after (set ∷ []) (moved set extents ∷ [])
   pub place : MayTake change.old (map run_in set.extents) to
+  pub begins : BeginOnCylinders (heads_in change.old) extents
 
 -- ---- a data set that keeps its place
 
@@ -153,10 +163,12 @@ tracks_for heads kind tracks = if kind == 0x81 then ceil_div tracks heads * head
 -- empty. On an unlike device its records would be packed anew, which isn't built.
 pub record IsCopy (from volume : OnlineVolume) (origin : DataSet) (name : Dsn) (to : List Run) (copy : DataSet) : Type 0 where
   pub like : volume.device ≡ from.device
+  pub lawful : IsDsn name
   pub name_is : IsNameOf name copy.name
   pub fields_are : copy.fields ≡ fields_at copy.name volume.serial origin.fields
   pub kind : ℕ
   pub kind_is : IsNewKind origin.extents kind
+  pub whole : LieOnCylinders (heads_in volume) kind to
   pub extents_are : copy.extents ≡ extents_on kind to
   pub size : length (tracks_of copy.extents) ≡ tracks_for (heads_in volume) kind (length origin.texts)
   pub texts_are : copy.texts ≡ origin.texts ++ replicate (length (tracks_of copy.extents) - length origin.texts) empty_text

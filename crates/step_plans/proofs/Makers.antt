@@ -36,7 +36,7 @@ use Rattle.plan_core.specs.Consolidate.{IsStepOf}
 use Rattle.move_core.specs.declared.steps.Origin.TheVariants as origins
 use Rattle.move_core.specs.declared.steps.Step.{Step}
 use Rattle.move_core.specs.declared.steps.Step.TheVariants as steps
-use Rattle.move_core.specs.Steps.{IsNewKind, extents_on, fields_at, tracks_for}
+use Rattle.move_core.specs.Steps.{IsNewKind, LieOnCylinders, extents_on, fields_at, tracks_for}
 use Rattle.unit_steps.specs.declared.plan.Plan.{Plan}
 use Rattle.unit_steps.specs.declared.plan.Tracks.{Tracks}
 use Rattle.unit_steps.specs.declared.plan.Tracks.TheVariants as texts
@@ -73,6 +73,12 @@ step_some D3390 extents step (inl by) = omega (arith, by.1)
 step_some D3380 extents step (inl by) = omega (arith, by.1)
 step_some D3390 extents step (inr by) = omega (arith, by.1)
 step_some D3380 extents step (inr by) = omega (arith, by.1)
+
+-- of cylinders, a step has a cylinder's tracks
+step_whole : (heads : ℕ) (extents : List Extent) (step kind : ℕ) → IsStepOf heads extents step → IsNewKind extents kind → kind ≡ 0x81 → step ≡ heads
+step_whole heads extents step kind (inl by) new is = by.1
+step_whole heads extents step kind (inr by) (inl new) is = absurd (by.0 new.0)
+step_whole heads extents step kind (inr by) (inr new) is = absurd (omega (arith, new.1, is))
 
 -- ---- one extent
 
@@ -143,6 +149,10 @@ module _ (volume : Volume) (sound : IsSound volume) (name : Dsn) (old : Row) (ha
             tracks = λ k track at.
                 inl (get_held (IsFree volume.free) (tracks_of (extents_on kind (run ∷ []))) k track
                 (tracks_all (IsFree volume.free) (extents_on kind (run ∷ [])) (λ t there. held t (subst (λ (l : List Run). InRuns l t) (runs_on kind (run ∷ [])) there))) at);
+            begins =
+                let P : Extent → Type 0 = λ extent. extent.kind ≡ 0x81 → extent.run.first % heads_of volume.device ≡ 0 in
+                All-cons P (record { run = run; kind = kind }) []
+                (λ is. subst (λ (s : ℕ). first % s ≡ 0) (step_whole (heads_of volume.device) (extents_in volume old) place.step kind place.step_is kind_is is) place.place.aligned) (All-nil P);
           },
         );
       },
@@ -152,6 +162,13 @@ module _ (volume : Volume) (sound : IsSound volume) (name : Dsn) (old : Row) (ha
 
 places_some : (step : ℕ) (runs : List Run) → All (λ run. (1 ≤ run.len) × (run.first % step ≡ 0) × (run.len % step ≡ 0)) runs → All (λ (run : Run). 1 ≤ run.len) runs
 places_some step runs all = All-weaker (λ (run : Run). (1 ≤ run.len) × (run.first % step ≡ 0) × (run.len % step ≡ 0)) (λ (run : Run). 1 ≤ run.len) (λ run is. is.0) runs all
+
+places_whole : (heads : ℕ) (extents : List Extent) (step kind : ℕ) (runs : List Run) → IsStepOf heads extents step → IsNewKind extents kind
+    → All (λ run. (1 ≤ run.len) × (run.first % step ≡ 0) × (run.len % step ≡ 0)) runs → LieOnCylinders heads kind runs
+places_whole heads extents step kind runs step_is kind_is all is =
+    let same : step ≡ heads = step_whole heads extents step kind step_is kind_is is in
+    All-weaker (λ (run : Run). (1 ≤ run.len) × (run.first % step ≡ 0) × (run.len % step ≡ 0)) (λ (run : Run). (run.first % heads ≡ 0) × (run.len % heads ≡ 0))
+    (λ run at. (subst (λ (s : ℕ). run.first % s ≡ 0) same at.1, subst (λ (s : ℕ). run.len % s ≡ 0) same at.2)) runs all
 
 -- as many tracks as the runs have
 tracks_count : (kind : ℕ) (runs : List Run) → length (tracks_of (extents_on kind runs)) ≡ count_of runs
@@ -248,7 +265,7 @@ replace_is copy is = sym (ap (step_by copy) is)
 pub add_is : (copy : SetCopy) → copy.replaced ≡ false → steps.Add copy.to.unit copy.to.name copy.runs (origins.Row copy.from.unit copy.from.name) ≡ step_of_copy copy
 add_is copy is = sym (ap (step_by copy) is)
 
-module _ (source volume : Volume) (copy : SetCopy) (row : Row) (like : volume.device ≡ source.device) (new : IsNewRow source volume copy row)
+module _ (source volume : Volume) (copy : SetCopy) (row : Row) (like : volume.device ≡ source.device) (lawful : IsDsn copy.to.name) (new : IsNewRow source volume copy row)
     (places : (old : Row) → HasRow source copy.from.name old → ArePlacesOn source old volume copy.runs) where
   abbrev copied : (units : List UnitState) → IsLoadedAt units copy.from.unit source → IsLoadedAt units copy.to.unit volume
       → PlansCopy copy.replaced units copy.from.unit copy.from.name copy.to.unit copy.to.name copy.runs (putting copy.replaced copy.to.name row)
@@ -264,9 +281,11 @@ module _ (source volume : Volume) (copy : SetCopy) (row : Row) (like : volume.de
         row = row;
         loaded = to_loaded;
         like = like;
+        lawful = lawful;
         named = new.named;
         kind = new.kind;
         kind_is = new.kind_is;
+        whole = places_whole (heads_of volume.device) (extents_in source new.old) to.step new.kind copy.runs to.step_is new.kind_is own.whole_steps;
         row_is = new.row_is;
         size = tracks_count new.kind copy.runs ∙ own.count_is ∙ rounded_for volume.device (extents_in source new.old) to.step new.kind (length (plans.tracks_in source new.old)) to.step_is new.kind_is;
         free = own.held;
@@ -300,7 +319,7 @@ module _ (source volume : Volume) (copy : SetCopy) (row : Row) (like : volume.de
   pub carry_plan : (plan : Plan) → copy.from.unit ≢ copy.to.unit → IsDsn copy.from.name → plan.step ≡ step_of_carry copy → plan.tracks ≡ texts.Rows copy.from.unit copy.from.name
       → plan.changes ≡ (copy.to.unit, putting copy.replaced copy.to.name row) ∷ (copy.from.unit, Remove copy.from.name) ∷ []
       → IsPlanForBoth source copy.from.unit volume copy.to.unit (step_of_carry copy) plan
-  carry_plan plan apart lawful step_is tracks_are changes_are = record {
+  carry_plan plan apart old_lawful step_is tracks_are changes_are = record {
     step_is = step_is;
     lawful =
         λ units from_loaded to_loaded. subst (λ (s : Step). Plans units s plan.tracks plan.changes) (sym step_is)
@@ -312,7 +331,7 @@ module _ (source volume : Volume) (copy : SetCopy) (row : Row) (like : volume.de
             change = put.1;
             copy = copied units from_loaded to_loaded;
             changes_are = refl;
-            may = (lawful, new.old, new.old_is.there, new.old_is.name_is);
+            may = (old_lawful, new.old, new.old_is.there, new.old_is.name_is);
           },
         )));
   }

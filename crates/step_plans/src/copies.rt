@@ -61,6 +61,7 @@ fn new_row(
     requires places { (row : RowOf) → HasRow source.now copy.now.from.name row → ArePlacesOn source.now row target.now copy.now.runs }
     ensures row { IfOk result (λ found. IfSome found (IsNewRow source.now target.now copy.now)) }
     ensures none { IfOk result (λ found. IfNone found (HasNone source.now copy.now.from.name ⊎ (HasManyExtents source.now copy.now.from.name ⊎ IsInTheWay copy.now.replaced target.now copy.now.to.name))) }
+    ensures few { IfOk result (λ found. IfSome found (λ row. ¬ HasManyExtents source.now copy.now.from.name)) }
 {
     let Some(row) = row_of(source, &copy.from.name) else {
         return Ok(None);
@@ -98,6 +99,7 @@ pub fn copy_set(
     requires places { (row : RowOf) → HasRow source.now copy.from.name row → ArePlacesOn source.now row target.now copy.runs }
     ensures plan { IfOk result (λ found. IfSome found (IsPlanForBoth source.now copy.from.unit target.now copy.to.unit (step_of_copy copy))) }
     ensures none { IfOk result (λ found. IfNone found (HasNone source.now copy.from.name ⊎ (HasManyExtents source.now copy.from.name ⊎ IsInTheWay copy.replaced target.now copy.to.name))) }
+    ensures few { IfOk result (λ found. IfSome found (λ plan. ¬ HasManyExtents source.now copy.from.name)) }
 {
     let Some(row) = new_row(alloc, source, target, &copy)? else {
         return Ok(None);
@@ -148,6 +150,7 @@ pub fn carry_set(
     requires places { (row : RowOf) → HasRow source.now copy.from.name row → ArePlacesOn source.now row target.now copy.runs }
     ensures plan { IfOk result (λ found. IfSome found (IsPlanForBoth source.now copy.from.unit target.now copy.to.unit (step_of_carry copy))) }
     ensures none { IfOk result (λ found. IfNone found (HasNone source.now copy.from.name ⊎ (HasManyExtents source.now copy.from.name ⊎ IsInTheWay copy.replaced target.now copy.to.name))) }
+    ensures few { IfOk result (λ found. IfSome found (λ plan. ¬ HasManyExtents source.now copy.from.name)) }
 {
     let Some(row) = new_row(alloc, source, target, &copy)? else {
         return Ok(None);

@@ -89,6 +89,7 @@ pub fn reset_flag(
     requires name { IsDsn name }
     ensures plan { IfOk result (λ found. IfSome found (IsPlanFor volume.now unit (steps.ResetFlag unit name))) }
     ensures none { IfOk result (λ found. IfNone found (HasNone volume.now name ⊎ HasManyExtents volume.now name)) }
+    ensures few { IfOk result (λ found. IfSome found (λ plan. ¬ HasManyExtents volume.now name)) }
 {
     let Some(row) = row_of(volume, &name) else {
         return Ok(None);
@@ -113,6 +114,7 @@ pub fn shrink_set(
     requires name { IsDsn name }
     ensures plan { IfOk result (λ found. IfSome found (IsPlanFor volume.now unit (steps.Shrink unit name keep))) }
     ensures none { IfOk result (λ found. IfNone found (HasNone volume.now name ⊎ (HasManyExtents volume.now name ⊎ HasFewTracks volume.now name keep))) }
+    ensures few { IfOk result (λ found. IfSome found (λ plan. ¬ HasManyExtents volume.now name)) }
 {
     let Some(row) = row_of(volume, &name) else {
         return Ok(None);
@@ -145,6 +147,8 @@ pub fn join_set(
     requires place { (row : RowOf) → HasRow volume.now name row → IsPlaceOn volume.now row volume.now first }
     ensures plan { IfOk result (λ found. IfSome found (IsJoinPlan volume.now unit name first)) }
     ensures none { IfOk result (λ found. IfNone found (HasNone volume.now name ⊎ (HasManyExtents volume.now name ⊎ IsWhole volume.now name))) }
+    ensures few { IfOk result (λ found. IfSome found (λ plan. ¬ HasManyExtents volume.now name)) }
+    ensures several { IfOk result (λ found. IfSome found (λ plan. ¬ IsWhole volume.now name)) }
 {
     let Some(row) = row_of(volume, &name) else {
         return Ok(None);

@@ -1,6 +1,7 @@
 -- Plans that move a data set on its unit.
 use Rattle.std.proofs.Common.{◌≡◌, ◌⊎◌, inl, inr, ℕ, ◌-◌, List, [], ◌∷◌, ◌++◌, length, map, replicate, Contains, refl, sym, ap, subst, ◌∙◌, arith}
 use Rattle.std.proofs.lemmas.List.{append-nil}
+use Rattle.ckd_image.specs.declared.device.Device.{Device}
 use Rattle.ckd_image.specs.Device.{heads_of}
 use Rattle.dasd_pool.specs.Disk.{Image, Shape}
 use Rattle.dsn_filter.specs.declared.dsn.Dsn.{Dsn}
@@ -23,7 +24,7 @@ use Rattle.unit_change.specs.Described.{own_place}
 use Rattle.unit_change.proofs.Kept.{texts_kept}
 use Rattle.unit_load.specs.declared.state.UnitState.{UnitState}
 use Rattle.move_core.specs.declared.steps.Step.TheVariants as steps
-use Rattle.move_core.specs.Steps.{MayTake, KeepsExtents, JoinsExtents, moved, empty_text}
+use Rattle.move_core.specs.Steps.{MayTake, KeepsExtents, JoinsExtents, BeginOnCylinders, moved, empty_text}
 use Rattle.unit_steps.specs.declared.plan.Tracks.TheVariants as texts
 use Rattle.unit_steps.specs.Copied.{DifferOnFree, AreHeld}
 use Rattle.unit_steps.specs.Loaded.{HaveStates, AreLoaded, KeepVtocs, AreVtocsOf}
@@ -155,5 +156,6 @@ module _ (shape : Shape) (units : List UnitState) (vtocs : List (List ℕ)) (old
               to_unit t (set ∷ []) (moved set plan.extents ∷ []) (swapped_gone swap here t plan.row_is.name_is)
               (is_put heads swap.row set.texts (moved set plan.extents) (plan.row_is.name_is ∙ sym is.name_is) (plan.row_is.fields_are ∙ sym is.fields_are) plan.row_is.extents_are refl refl);
           place = move_place plan here;
+          begins = subst (λ (d : Device). BeginOnCylinders (heads_of d) plan.extents) (sym here.is.describes.device_is) plan.begins;
         },
       )))

@@ -24,7 +24,7 @@ use Rattle.move_core.specs.declared.steps.Origin.TheVariants as origins
 use Rattle.move_core.specs.declared.steps.Step.{Step}
 use Rattle.move_core.specs.declared.steps.Step.TheVariants as steps
 use Rattle.move_core.specs.Facts.{Facts}
-use Rattle.move_core.specs.Steps.{MayTake, IsNewKind, IsOrigin, fields_at, empty_text, tracks_for, IsCopy, Gives, Puts, IsStep}
+use Rattle.move_core.specs.Steps.{MayTake, IsNewKind, LieOnCylinders, IsOrigin, fields_at, empty_text, tracks_for, IsCopy, Gives, Puts, IsStep}
 use Rattle.unit_steps.specs.declared.plan.Tracks.TheVariants as texts
 use Rattle.unit_steps.specs.Copied.{DifferOnFree, IsPutBy, AreHeld}
 use Rattle.unit_steps.specs.Loaded.{HaveStates, AreLoaded, KeepVtocs, AreVtocsOf}
@@ -93,10 +93,12 @@ module _ {replaced : Bool} {units : List UnitState} {from : ℕ} {origin : Dsn} 
       let device : here.is.before.device ≡ plan.volume.device = here.is.describes.device_is in
       record {
         like = device ∙ plan.like ∙ sym source.is.describes.device_is;
+        lawful = plan.lawful;
         name_is = plan.named;
         fields_are = plan.row_is.fields_are ∙ (λ i. fields_at plan.row.name (sym serial i) (sym copied.1.fields_are i));
         kind = plan.kind;
         kind_is = subst (λ (extents : List Extent). IsNewKind extents plan.kind) (sym copied.1.extents_are) plan.kind_is;
+        whole = subst (λ (d : Device). LieOnCylinders (heads_of d) plan.kind to) (sym device) plan.whole;
         extents_are = plan.row_is.extents_are;
         size =
             ap (λ (extents : List Extent). length (tracks_of extents)) plan.row_is.extents_are ∙ plan.size

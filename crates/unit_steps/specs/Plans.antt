@@ -20,7 +20,7 @@ use Rattle.unit_load.specs.declared.state.UnitState.TheVariants.{Online}
 use Rattle.move_core.specs.declared.steps.Origin.TheVariants as origins
 use Rattle.move_core.specs.declared.steps.Step.{Step}
 use Rattle.move_core.specs.declared.steps.Step.TheVariants as steps
-use Rattle.move_core.specs.Steps.{IsNewKind, extents_on, KeepsExtents, JoinsExtents, cut, reset_fields, fields_at, tracks_for}
+use Rattle.move_core.specs.Steps.{IsNewKind, extents_on, KeepsExtents, JoinsExtents, LieOnCylinders, BeginOnCylinders, cut, reset_fields, fields_at, tracks_for}
 use Rattle.unit_steps.specs.declared.plan.Plan.{Plan}
 use Rattle.unit_steps.specs.declared.plan.Tracks.{Tracks}
 use Rattle.unit_steps.specs.declared.plan.Tracks.TheVariants as texts
@@ -82,6 +82,7 @@ pub record PlansMove (units : List UnitState) (unit : ℕ) (name : Dsn) (to : Li
   pub row_is : IsRowWith swap.volume swap.old.name (fields_of_1 swap.old.f1) extents swap.row
   pub tracks : (k track : ℕ) → slice_get (tracks_of extents) k ≡ Some track
       → IsFree swap.volume.free track ⊎ (slice_get (tracks_in swap.volume swap.old) k ≡ Some track)
+  pub begins : BeginOnCylinders (heads_of swap.volume.device) extents
 
 -- it goes
 pub record PlansDelete (units : List UnitState) (unit : ℕ) (name : Dsn) (changes : List (ℕ × Change)) : Type 0 where
@@ -115,9 +116,11 @@ pub record PlansCopy (replaced : Bool) (units : List UnitState) (from : ℕ) (or
   pub row : Row
   pub loaded : IsLoadedAt units unit volume
   pub like : volume.device ≡ source.device
+  pub lawful : IsDsn name
   pub named : IsNameOf name row.name
   pub kind : ℕ
   pub kind_is : IsNewKind (extents_in source old) kind
+  pub whole : LieOnCylinders (heads_of volume.device) kind to
   pub row_is : IsRowWith volume row.name (fields_at row.name volume.serial (fields_of_1 old.f1)) (extents_on kind to) row
   pub size : length (tracks_of (extents_on kind to)) ≡ tracks_for (heads_of volume.device) kind (length (tracks_in source old))
   pub free : (track : ℕ) → InRuns to track → IsFree volume.free track

@@ -10,7 +10,7 @@ use Rattle.step_plans.proofs.copies.carry_set.Goals as goal
 
 pub returns-clause-plan : goal.returns-clause-plan
 returns-clause-plan c =
-    carry_plan c.args.source.now c.args.target.now c.args.copy c.in-Some.row c.requires.like
+    carry_plan c.args.source.now c.args.target.now c.args.copy c.in-Some.row c.requires.like c.requires.names.1
     (subst (λ (found : Option Row). IfSome found (IsNewRow c.args.source.now c.args.target.now c.args.copy)) c.in-Some.is c.in_ok-row.ensures.row)
     c.requires.places (record { step = c.in_ok-plan.plan.step; tracks = c.in_ok-plan.plan.tracks; changes = c.push.new.self }) c.requires.apart c.requires.names.0
     (ap (λ (p : Plan). p.step) c.in_ok-plan.ensures)

@@ -11,7 +11,7 @@ use Rattle.step_plans.proofs.copies.copy_set.Goals as goal
 
 pub returns-clause-plan : goal.returns-clause-plan
 returns-clause-plan c =
-    copy_plan c.args.source.now c.args.target.now c.args.copy c.in-Some.row c.requires.like
+    copy_plan c.args.source.now c.args.target.now c.args.copy c.in-Some.row c.requires.like c.requires.names.1
     (subst (λ (found : Option Row). IfSome found (IsNewRow c.args.source.now c.args.target.now c.args.copy)) c.in-Some.is c.in_ok-row.ensures.row)
     c.requires.places c.if-replaced.step c.in_ok-plan_of.field-0 step_is
     (c.in_ok-plan_of.ensures

@@ -5,6 +5,7 @@ use Rattle.volume_model.specs.Reads.{fields_of_1}
 use Rattle.move_core.specs.Steps.{IsNewKind, fields_at}
 use Rattle.step_plans.specs.Plans.{IsRoom, extents_from, field_on}
 use Rattle.step_plans.proofs.Makers.{copy_rooms, new_row_is}
+use Rattle.step_plans.proofs.RowNames.{few_extents}
 use Rattle.step_plans.proofs.copies.new_row.Goals.{then-extents-gt-MOST_EXTENTS-via-then-extents-gt-MOST_EXTENTS, then-extents-gt-MOST_EXTENTS-via-else-extents-gt-MOST_EXTENTS+then-is_in_the_way}
 use Rattle.step_plans.proofs.copies.new_row.Goals as goal
 
@@ -32,3 +33,8 @@ returns-clause-row c =
     (c.copied_row.ensures.fields ∙ ap (λ (bytes : List ℕ). fields_at c.copied_row.result.name c.args.target.now.serial (fields_of_1 bytes)) c.in_ok-moved.ensures.same)
     (c.copied_row.ensures.extents ∙ c.in_ok-moved.ensures.extents ∙ ap (map (field_on c.args.target.now.device c.kind_for.result)) c.as_slice-runs.ensures)
     c.if-is_in_the_way.ensures.clear c.requires.names.1
+
+pub returns-clause-few : goal.returns-clause-few
+returns-clause-few c =
+    few_extents c.args.source.now c.requires.sound.0 c.args.copy.now.from.name c.in-Some.row.now c.in-Some.ensures.found
+    (omega (arith, ap length c.as_slice-extents.ensures, c.if-extents-gt-MOST_EXTENTS.false))

@@ -12,6 +12,7 @@ use Rattle.plan_core.specs.Extents.{extents_at}
 use Rattle.step_plans.proofs.Fronts.{tracks_few}
 use Rattle.step_plans.proofs.LoadedRows.{sound_runs}
 use Rattle.step_plans.proofs.Makers.{join_room, join_plan}
+use Rattle.step_plans.proofs.RowNames.{few_extents, not_whole}
 use Rattle.step_plans.proofs.plans.join_set.Goals.{then-extents-gt-MOST_EXTENTS-via-then-extents-gt-MOST_EXTENTS, then-extents-gt-MOST_EXTENTS-via-else-extents-gt-MOST_EXTENTS+then-extents-eq1}
 use Rattle.step_plans.proofs.plans.join_set.Goals as goal
 
@@ -57,3 +58,14 @@ returns-clause-plan c =
     c.in_ok-moved.moved c.in_ok-moved.ensures.name c.in_ok-moved.ensures.same c.in_ok-moved.ensures.extents c.args.unit c.in_ok-plan_of.field-0
     (c.in_ok-plan_of.ensures ∙ ap (λ (runs : List Run). record { step = steps.Move c.args.unit c.args.name runs; tracks = texts.Rows c.args.unit c.args.name; changes = (c.args.unit, Swap c.args.name c.in_ok-moved.moved) ∷ [] })
     (c.from_vec.ensures ∙ c.in_ok-push.ensures.items ∙ ap (λ (runs : List Run). runs ++ (record { first = c.args.first; len = c.count_tracks-len.result } ∷ [])) c.new-to.ensures.items))
+
+pub returns-clause-few : goal.returns-clause-few
+returns-clause-few c =
+    few_extents c.args.volume.now c.requires.sound c.args.name c.in-Some.row.now c.in-Some.ensures.found
+    (omega (arith, ap length c.as_slice-extents.ensures, c.if-extents-gt-MOST_EXTENTS.false))
+
+pub returns-clause-several : goal.returns-clause-several
+returns-clause-several c =
+    not_whole c.args.volume.now c.requires.sound c.args.name c.in-Some.row.now c.in-Some.ensures.found
+    (λ one. omega (arith, ap length c.as_slice-extents.ensures, one, c.if-extents-eq1.false))
+    (λ none. c.if-len-eq0.false (c.count_tracks-len.ensures ∙ (λ i. length (tracks_of (extents_at (heads_of c.args.volume.now.device) (c.as_slice-extents.ensures i)))) ∙ none))

@@ -8,6 +8,7 @@ use Rattle.plan_core.specs.Extents.{extents_at}
 use Rattle.step_plans.proofs.Fronts.{tracks_few}
 use Rattle.step_plans.proofs.LoadedRows.{sound_runs}
 use Rattle.step_plans.proofs.Swaps.{shrink_plan}
+use Rattle.step_plans.proofs.RowNames.{few_extents}
 use Rattle.step_plans.proofs.plans.shrink_set.Goals.{then-extents-gt-MOST_EXTENTS-via-then-extents-gt-MOST_EXTENTS, then-extents-gt-MOST_EXTENTS-via-else-extents-gt-MOST_EXTENTS+then-count_tracks-keep}
 use Rattle.step_plans.proofs.plans.shrink_set.Goals as goal
 
@@ -44,3 +45,8 @@ returns-clause-plan c =
     refl refl
     (c.in_ok-cut_extents.ensures.cut ∙ ap (λ (extents : List Extent). cut c.args.keep (extents_from c.args.volume.now.device extents)) c.as_slice-extents.ensures)
     c.in_ok-cut_extents.ensures.runs c.in_ok-quiet_plan.ensures.step c.in_ok-quiet_plan.ensures.tracks c.in_ok-quiet_plan.ensures.changes
+
+pub returns-clause-few : goal.returns-clause-few
+returns-clause-few c =
+    few_extents c.args.volume.now c.requires.sound c.args.name c.in-Some.row.now c.in-Some.ensures.found
+    (omega (arith, ap length c.as_slice-extents.ensures, c.if-extents-gt-MOST_EXTENTS.false))
