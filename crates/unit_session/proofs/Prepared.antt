@@ -29,7 +29,7 @@ use Rattle.unit_session.specs.declared.copies.Source.{Source}
 use Rattle.unit_session.specs.declared.fault.PlanFault.{PlanFault}
 use Rattle.unit_session.specs.declared.fault.PlanFault.TheVariants as faults
 use Rattle.unit_session.specs.Copies.{AreCopiesOf, HaveTexts, IsLookFault, MayCopy, OnCopies, contents_of}
-use Rattle.unit_session.specs.Planned.{AreRenderFault, IsBar, IsLong, IsPlanFault, IsReady, MayBegin}
+use Rattle.unit_session.specs.Planned.{AreRenderFault, HaveAllTexts, IsBar, IsLong, IsPlanFault, IsReady, MayBegin}
 use Rattle.unit_session.specs.Sessions.{HasNothingOpen, SessionView}
 use Rattle.unit_session.specs.Texts.{AreSeen}
 use Rattle.unit_session.proofs.CopyMay.{may_copy}
@@ -62,13 +62,13 @@ module _ {P : Type 0} (pools : Ghosts P) (session : SessionView P) (plan : Plan)
   look_fault copies may are (faults.Full need free) bad = absurd bad
   look_fault copies may are faults.NoMemory bad = absurd bad
 
-  pub render_fault : MayBegin session.room session.units plan.changes → (fault : PlanFault) → AreRenderFault session.units plan.changes fault → IsPlanFault pools session plan new fault
-  render_fault may faults.Indexed bad = bad
-  render_fault may (faults.Full need free) bad = (may, bad)
-  render_fault may faults.NoMemory bad = bad
-  render_fault may faults.Pool bad = absurd bad
-  render_fault may faults.Long bad = absurd bad
-  render_fault may (faults.Bad unit track) bad = absurd bad
+  pub render_fault : MayBegin session.room session.units plan.changes → HaveAllTexts pools session plan → (fault : PlanFault) → AreRenderFault session.units plan.changes fault → IsPlanFault pools session plan new fault
+  render_fault may texts faults.Indexed bad = bad
+  render_fault may texts (faults.Full need free) bad = ((may, texts), bad)
+  render_fault may texts faults.NoMemory bad = bad
+  render_fault may texts faults.Pool bad = absurd bad
+  render_fault may texts faults.Long bad = absurd bad
+  render_fault may texts (faults.Bad unit track) bad = absurd bad
 
 -- ---- a session of which blocks were read
 

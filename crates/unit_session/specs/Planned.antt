@@ -115,12 +115,18 @@ IsRenderFault units unit change faults.Indexed = (volume : Volume) × IsLoadedAt
 IsRenderFault units unit change faults.NoMemory = Unit {0}
 IsRenderFault units unit change _ = ⊥
 
--- the first of changes that was not
+-- one of changes was not
 abbrev pub AreRenderFault : List UnitState → List (ℕ × Change) → PlanFault → Type 0
 AreRenderFault units changes (faults.Full need free) = LacksRecordsFor units changes need free
 AreRenderFault units changes faults.Indexed = IsIndexed units changes
 AreRenderFault units changes faults.NoMemory = Unit {0}
 AreRenderFault units changes _ = ⊥
+
+-- each track that a plan copies has a text
+abbrev pub HaveAllTexts : {P : Type 0} → Ghosts P → SessionView P → Plan → Type 0
+HaveAllTexts pools session plan =
+    (copies : Option Copies) × AreCopiesOf session.units plan.tracks plan.changes copies
+    × (pools.tells → OnCopies (HaveTexts (pools.disk session.pool).state.contents) copies)
 
 -- The first of these refuses a plan: an index, a long VTOC, a track to be copied that has no text, a full VTOC. Else the pool failed or memory ran out.
 abbrev pub IsPlanFault : {P : Type 0} → Ghosts P → SessionView P → Plan → P → PlanFault → Type 0
@@ -130,7 +136,8 @@ IsPlanFault pools session plan new (faults.Bad unit track) =
     MayBegin session.room session.units plan.changes
     × ((copies : Copies) × AreCopiesOf session.units plan.tracks plan.changes (Some copies)
     × (pools.tells → IsFirstBad (pools.disk session.pool).state.contents copies unit track))
-IsPlanFault pools session plan new (faults.Full need free) = MayBegin session.room session.units plan.changes × LacksRecordsFor session.units plan.changes need free
+IsPlanFault pools session plan new (faults.Full need free) =
+    (MayBegin session.room session.units plan.changes × HaveAllTexts pools session plan) × LacksRecordsFor session.units plan.changes need free
 IsPlanFault pools session plan new faults.Pool = Rose (pools.faults session.pool) (pools.faults new)
 IsPlanFault pools session plan new faults.NoMemory = Unit {0}
 

@@ -24,7 +24,7 @@ pub enum PlanFault {
     Full(u32, u32),
     #[error("the VTOC has an index")]
     Indexed,
-    #[error("the VTOC has more tracks than a commit may have")]
+    #[error("the VTOC has too many tracks for a commit")]
     Long,
     #[error("out of memory")]
     NoMemory,

@@ -14,7 +14,7 @@ ghost use Rattle.unit_steps.specs.Plans.{IsPlan};
 ghost use Rattle.unit_steps.specs.Rendering.{WereRendered, entries_of, units_after};
 ghost use Rattle.unit_session.specs.Sessions.{IsSameSession};
 ghost use Rattle.unit_session.specs.declared.copies.Copies.{Copies as CopiesOf};
-ghost use Rattle.unit_session.specs.Copies.{OnCopies, MayCopy, HaveTexts, IsLookFault, OnlyWrites, CopiesLeave, IsShortFor, contents_of, may_write_for};
+ghost use Rattle.unit_session.specs.Copies.{AreCopiesOf, OnCopies, MayCopy, HaveTexts, IsLookFault, OnlyWrites, CopiesLeave, IsShortFor, contents_of, may_write_for};
 ghost use Rattle.unit_session.specs.Texts.{IsSeen};
 ghost use Rattle.unit_session.specs.Planned.{pool_planned, pool_copied, pool_switched, done_by, pending_by, IsPlanFault, IsKeptAs, MayBegin, IsReady, SparesUnchanged};
 
@@ -165,6 +165,10 @@ impl<P: Pool> Session<P> {
         ensures plan { IfOk result (λ planned. planned.plan ≡ plan) }
         ensures allowed { IfOk result (λ planned. MayBegin self.room self.units plan.changes) }
         ensures rendered { IfOk result (λ planned. WereRendered self.units self.vtocs plan.changes planned.rendered) }
+
+        // The copies are those of its tracks, each of which has a text.
+        ensures copies { IfOk result (λ planned. AreCopiesOf self.units plan.tracks plan.changes planned.copies) }
+        ensures texts { P.tells → IfOk result (λ planned. OnCopies (HaveTexts (P.disk planned.session.pool).state.contents) planned.copies) }
         ensures refused { IfErr result (IsKeptAs P.Pool self (λ kept. IsPlanFault P.Pool self plan kept.pool)) }
     {
         let mut session = self;
@@ -263,6 +267,11 @@ impl<P: Pool> Planned<P> {
     pub fn copy(self) -> Result<Copied<P>, Broken<P>>
         ensures run { AreCalls P.tells (shown P.Pool self.session.pool) (shown P.Pool (pool_copied result)) (Ended result) [] None }
         ensures writes { P.tells → Runs (may_write_for self.copies) (P.disk self.session.pool) (P.disk (pool_copied result)) }
+
+        // The copies are those of the plan's tracks, onto tracks of a volume.
+        ensures of_plan { IsPlan self.session.units self.plan }
+        ensures copies { AreCopiesOf self.session.units self.plan.tracks self.plan.changes self.copies }
+        ensures may { OnCopies (MayCopy (P.shape self.session.pool)) self.copies }
         ensures plan { IfOk result (λ next. next.plan ≡ self.plan) }
         ensures rendered { IfOk result (λ next. next.rendered ≡ self.rendered) }
         ensures entries { IfOk result (λ next. next.entries ≡ self.entries) }

@@ -112,9 +112,10 @@ impl<P: Pool> Session<P> {
         requires { AreNames (P.shape pool) names.now }
         ensures run { IsRun P.tells (shown P.Pool pool) (shown P.Pool (begun result)) (HasBegun result) [] None }
 
-        // The units are those that the pool stands for.
+        // The units are those that the pool stands for, and the slots of their VTOCs are its slots.
         ensures units { P.tells → IfOk result (λ session. (facts : Facts) (models : List UnitModel) → facts.shape ≡ P.shape session.pool
             → IsSettled facts (P.disk session.pool).state models → AreModels session.units models) }
+        ensures vtocs { P.tells → IfOk result (λ session. AreVtocsOf (P.disk session.pool).state.contents session.units session.vtocs) }
         ensures names { IfOk result (λ session. session.names ≡ names.now) }
         ensures room { IfOk result (λ session. 3 ≤ session.room) }
 
@@ -160,6 +161,7 @@ impl<P: Pool> Session<P> {
         ensures states { length self.now.units ≡ result }
         ensures models { P.tells → (facts : Facts) (models : List UnitModel) → facts.shape ≡ P.shape self.now.pool
             → IsSettled facts (P.disk self.now.pool).state models → AreModels self.now.units models }
+        ensures vtocs { P.tells → AreVtocsOf (P.disk self.now.pool).state.contents self.now.units self.now.vtocs }
     {
         let _control = self.journal.control();
         self.journal.units()

@@ -3,6 +3,7 @@
 ghost use Rattle.std.specs.Prelude.{◌≡◌, ◌↔◌, ◌<◌, ◌≤◌, ℕ, [], None, Some, List, IsTrue, IfOk, IfErr, IsErr, All, Contains, length, slice_get};
 ghost use Rattle.ckd_image.specs.Device.{heads_of};
 ghost use Rattle.dasd_pool.specs.Count.{Rose};
+ghost use Rattle.dasd_pool.specs.Disk.{Runs, none};
 ghost use Rattle.redo_core.specs.Reading.{journal_of};
 ghost use Rattle.volume_model.specs.Pinned.{IsNameOf};
 ghost use Rattle.volume_model.specs.Unit.{DataSet, OnlineVolume, UnitModel, online};
@@ -112,13 +113,14 @@ fn have_texts<P: Pool>(
 }
 
 impl<P: Pool> Session<P> {
-    /// Whether each track of a data set has a text. Its tracks are read in order, each once, up to the first without one.
+    /// Whether each track of a data set has a text. Its tracks are read in order, each once, up to the first without one, and nothing is written.
     pub fn has_texts(&mut self, unit: u32, name: &Dsn) -> Result<bool, UnitFault>
         requires { HasSource self.old.units unit name.now }
         ensures texts { P.tells → IfOk result (λ good. (facts : Facts) (models : List UnitModel) (volume : OnlineVolume) (set : DataSet) → facts.shape ≡ P.shape self.old.pool
             → IsSettled facts (P.disk self.old.pool).state models → slice_get models unit ≡ Some (online volume) → Contains volume.sets set → IsNameOf name.now set.name
             → (IsTrue good ↔ All IsGood set.texts)) }
         ensures run { IsRun P.tells (shown P.Pool self.old.pool) (shown P.Pool self.new.pool) (Unit {0}) [] None }
+        ensures writes { P.tells → Runs none (P.disk self.old.pool) (P.disk self.new.pool) }
         ensures same { IsSameSession P.Pool self.old self.new }
         ensures cause { IfErr result (λ fault. fault ≡ UnitFault.Pool → Rose (P.faults self.old.pool) (P.faults self.new.pool)) }
     {

@@ -54,6 +54,10 @@ returns-in-Ok-loaded-clause-units g c told facts models same settled =
     (found.count ∙ ap (λ (s : Shape). journal_of s) (sym reads.shape))
     (still_loaded units reads.shape (reads.same told) (found.loaded told))
 
+pub returns-in-Ok-loaded-clause-vtocs : goal.returns-in-Ok-loaded-clause-vtocs
+returns-in-Ok-loaded-clause-vtocs g c told =
+    still_vtocs c.in-Ok-loaded.found.units.items c.in-Ok-loaded.found.vtocs.items (c.loaded.ensures.reads.same told) (c.in-Ok-loaded.ensures.slots told)
+
 pub returns-in-Ok-loaded-clause-facts : goal.returns-in-Ok-loaded-clause-facts
 returns-in-Ok-loaded-clause-facts g c told facts models same settled =
     let does = c.in-Ok.ensures in

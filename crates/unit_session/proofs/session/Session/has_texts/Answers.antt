@@ -1,5 +1,7 @@
 use Rattle.std.proofs.Common.{ℕ, Bool, List, All, Some, sym, ap, subst, ◌∙◌}
 use Rattle.std.specs.Prelude.{IsTrue, ◌↔◌}
+use Rattle.dasd_pool.specs.Disk.{none}
+use Rattle.dasd_pool.proofs.Moments.{runs_start}
 use Rattle.vtoc_core.specs.declared.volume.Volume.{Volume}
 use Rattle.volume_change.specs.Spot.{AreNamed}
 use Rattle.move_core.proofs.Running.{run_idle, run_still}
@@ -17,6 +19,21 @@ tracks_at-requires-clause-named g c =
     let s = c.self.inside in
     subst (λ (l : List UnitState). (unit : ℕ) (volume : Volume) → IsLoadedAt l unit volume → AreNamed volume.rows) (sym c.deref.ensures.value)
     (rows_are_named s.units.items s.vtocs.items c.self.invariant.2 c.self.invariant.3)
+
+pub returns-in_default-clause-writes : goal.returns-in_default-clause-writes
+returns-in_default-clause-writes g c = λ told. runs_start none (g.P.Pool.disk c.args.self.now.pool)
+
+pub returns-in_default-slot_of_size-clause-writes : goal.returns-in_default-slot_of_size-clause-writes
+returns-in_default-slot_of_size-clause-writes g c = λ told. runs_start none (g.P.Pool.disk c.args.self.now.pool)
+
+pub returns-in-Ok-true-clause-writes : goal.returns-in-Ok-true-clause-writes
+returns-in-Ok-true-clause-writes g c = rw (sym c.self.view_is) c.have_texts.ensures.reads.runs
+
+pub returns-in-Ok-false-clause-writes : goal.returns-in-Ok-false-clause-writes
+returns-in-Ok-false-clause-writes g c = rw (sym c.self.view_is) c.have_texts.ensures.reads.runs
+
+pub returns-clause-writes : goal.returns-clause-writes
+returns-clause-writes g c = rw (sym c.self.view_is) c.have_texts.ensures.reads.runs
 
 pub returns-in_default-clause-run : goal.returns-in_default-clause-run
 returns-in_default-clause-run g c = run_idle tt

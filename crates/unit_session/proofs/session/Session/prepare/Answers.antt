@@ -11,7 +11,7 @@ use Rattle.volume_change.specs.Spot.{AreNamed}
 use Rattle.unit_load.specs.declared.state.UnitState.{UnitState}
 use Rattle.unit_steps.specs.Plans.{IsLoadedAt, IsPlan}
 use Rattle.unit_session.specs.Copies.{AreCopiesOf, IsLookFault, OnCopies}
-use Rattle.unit_session.specs.Planned.{AreRenderFault, HaveVolumes, IsBar, IsPlanFault, MayBegin}
+use Rattle.unit_session.specs.Planned.{AreRenderFault, HaveAllTexts, HaveVolumes, IsBar, IsPlanFault, MayBegin}
 use Rattle.unit_session.specs.Sessions.{SessionView}
 use Rattle.unit_session.proofs.CopyMay.{may_copy}
 use Rattle.unit_session.proofs.PlanVolumes.{have_volumes}
@@ -124,12 +124,16 @@ returns-in_err-rendered-clause-fault g c =
     (subst (λ (l : List (ℕ × Change)). MayBegin c.room.result c.deref.result.now l) c.as_slice-changes.ensures c.in_default.ensures.free)) in
     let may : MayBegin c.args.self.now.room c.args.self.now.units c.args.plan.now.changes =
     subst (λ (v : SessionView _). MayBegin v.room v.units c.args.plan.now.changes) c.self.view_is here in
+    let copied : AreCopiesOf s.units.items c.args.plan.now.tracks c.args.plan.now.changes c.in_ok-copies.copies =
+    subst (λ (l : List UnitState). AreCopiesOf l c.args.plan.now.tracks c.args.plan.now.changes c.in_ok-copies.copies) c.deref-2.ensures.value c.in_ok-copies.ensures in
+    let texts : HaveAllTexts g.P.Pool c.args.self.now c.args.plan.now =
+    subst (λ (v : SessionView _). HaveAllTexts g.P.Pool v c.args.plan.now) c.self.view_is (c.in_ok-copies.copies, copied, c.in_ok-look_unless_seen.ensures.texts) in
     let p = err_from_is_err_and c.from_residual-in_err-rendered.result c.from_residual-in_err-rendered.ensures.1 in
     let bad : AreRenderFault s.units.items c.args.plan.now.changes c.in_err-rendered.field-0.0 =
     subst (λ (l : List UnitState). AreRenderFault l c.args.plan.now.changes c.in_err-rendered.field-0.0) c.deref-3.ensures.value
     (subst (λ (l : List (ℕ × Change)). AreRenderFault c.deref-3.result.now l c.in_err-rendered.field-0.0) c.as_slice-changes.ensures c.in_err-rendered.ensures.fault) in
     rw (p.1, p.2)
-    (render_fault g.P.Pool c.args.self.now c.args.plan.now c.look_unless_seen.new.journal.pool may _
+    (render_fault g.P.Pool c.args.self.now c.args.plan.now c.look_unless_seen.new.journal.pool may texts _
     (subst (λ (v : SessionView _). AreRenderFault v.units c.args.plan.now.changes c.in_err-rendered.field-0.0) c.self.view_is bad))
 
 pub invariant_of-self-in_err-entries : goal.invariant_of-self-in_err-entries
