@@ -1,6 +1,7 @@
 -- How a statement ends, from how what it does ends.
-use Rattle.std.proofs.Common.{◌≡◌, ◌⊎◌, inl, inr, List, [], ◌∷◌, take, None, Ok, Err, refl, sym, ap, subst, ◌∙◌}
+use Rattle.std.proofs.Common.{◌≡◌, ◌⊎◌, inl, inr, List, [], ◌∷◌, ◌++◌, take, None, Ok, Err, refl, sym, ap, subst, ◌∙◌}
 use Rattle.std.specs.Prelude.{Result, IfOk, IfErr}
+use Rattle.std.proofs.lemmas.List.{append-nil, append_cancel_left}
 use Rattle.by_rules.specs.declared.day.Day.{Day}
 use Rattle.dasd_pool.specs.declared.pool.Pool.{Ghosts}
 use Rattle.dump_fmt.specs.declared.outs.OutDd.{OutDd}
@@ -44,10 +45,10 @@ module _ {P B : Type 0} {Own : B → Type 0} (pools : Ghosts P) (seen : OutDd B 
 
   module _ (cut : Cut P) (command : Command) (held : List Hold) (today : Day) (before after : List Step) (said : List Message)
       (ends : Ends pools (MeansWhole (MeansOnVolumes (setting_of pools session held today) command) command) (IsCutOnVolumes (setting_of pools session held today) command) session before after [] said (Err cut))
-      (begins : ((said ≡ []) × IsShort cut) ⊎ (take 1 said ≡ messages.Started (verb_of command) ∷ [])) where
-    says : (told : List Message) → told ≡ take 1 said → (told ≡ []) ⊎ (told ≡ messages.Started (verb_of command) ∷ [])
-    says told is = elim begins [
-      | inl none ↦ inl (is ∙ ap (λ (l : List Message). take 1 l) none.0)
+      (begins : ((said ≡ []) × IsShort cut × (after ≡ before)) ⊎ (take 1 said ≡ messages.Started (verb_of command) ∷ [])) where
+    says : (told : List Message) (added : List Step) → told ≡ take 1 said → after ≡ before ++ added → ((told ≡ []) × (added ≡ [])) ⊎ (told ≡ messages.Started (verb_of command) ∷ [])
+    says told added is steps = elim begins [
+      | inl none ↦ inl (is ∙ ap (λ (l : List Message). take 1 l) none.0, append_cancel_left before added [] (sym steps ∙ none.2 ∙ sym (append-nil before)))
       | inr started ↦ inr (is ∙ started)
     ]
 
@@ -75,7 +76,7 @@ module _ {P B : Type 0} {Own : B → Type 0} (pools : Ghosts P) (seen : OutDd B 
         )
     ends_cut (outcomes.Short kept outs report steps) is =
         let was : EndsAs (cuts.Short kept) = subst EndsAs is.0 ends in
-        (was.added, is.1 ∙ was.steps_are, was.facts, says report.messages is.2, was.run, was.cut, is.4)
+        (was.added, is.1 ∙ was.steps_are, was.facts, says report.messages was.added is.2 was.steps_are, was.run, was.cut, is.4)
 
 -- ---- what only reads
 

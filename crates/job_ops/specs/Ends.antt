@@ -76,7 +76,7 @@ IsUnchanged session (outcomes.Short kept outs report steps) = kept ≡ session
 
 -- ---- a statement
 
--- It is cut short: it says only that it started, or nothing where there was no memory for that. Its code is 0 then.
+-- It is cut short: it says only that it started, or nothing where there was no memory for that, and then it did nothing. Its code is 0.
 abbrev pub SaysStarted : Command → Report → Type 0
 SaysStarted command report = report.messages ≡ messages.Started (verb_of command) ∷ []
 
@@ -103,7 +103,7 @@ EndsStatement pools seen files ins session command held today before (outcomes.H
     × IsRun pools.tells (shown pools session.pool) (shown pools broken.pool) ⊥ added broken.pending
     × ForUnits pools session (λ units. IsCutCommand (setting_of pools session held today) command (left_files seen files ins outs.items) units added broken.pending) × (report.code ≡ 0)
 EndsStatement pools seen files ins session command held today before (outcomes.Short kept outs report steps) =
-    (added : List Step) × (steps.items ≡ before ++ added) × KeepsFacts pools session kept × ((report.messages ≡ []) ⊎ SaysStarted command report)
+    (added : List Step) × (steps.items ≡ before ++ added) × KeepsFacts pools session kept × (((report.messages ≡ []) × (added ≡ [])) ⊎ SaysStarted command report)
     × IsRun pools.tells (shown pools session.pool) (shown pools kept.pool) (Unit {0}) added None
     × ForUnits pools session (λ units. IsCutCommand (setting_of pools session held today) command (left_files seen files ins outs.items) units added None) × (report.code ≡ 0)
 

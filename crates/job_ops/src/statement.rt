@@ -198,7 +198,7 @@ fn whole<P: Pool>(
     requires start { log.old.messages.items ≡ [] }
     ensures ends { Ends P.Pool (MeansWhole (MeansOnVolumes (setting_of P.Pool session held.now today) command.now) command.now) (IsCutOnVolumes (setting_of P.Pool session held.now today) command.now) session
         log.old.steps.items log.new.steps.items [] log.new.messages.items result }
-    ensures begins { IfErr result (λ cut. ((log.new.messages.items ≡ []) × IsShort cut) ⊎ (take 1 log.new.messages.items ≡ Message.Started (verb_in command.now) ∷ [])) }
+    ensures begins { IfErr result (λ cut. ((log.new.messages.items ≡ []) × IsShort cut × (log.new.steps.items ≡ log.old.steps.items)) ⊎ (take 1 log.new.messages.items ≡ Message.Started (verb_in command.now) ∷ [])) }
     ensures reads { OnlyReads command.now → LeavesSession session result }
     ensures framed { IfOk result (λ next. IsFramed command.now log.new.messages.items) }
 {
