@@ -1,4 +1,4 @@
--- A VTOC reads in one way, and a loaded volume is what its unit is.
+-- A VTOC reads in one way, and a unit on which a loader finds a volume is online.
 use Rattle.std.specs.Prelude.{◌≡◌, ◌⊎◌, ℕ, ◌≤◌, Bool, false, List, length}
 use Rattle.ckd_image.specs.declared.head.Head.{Head}
 use Rattle.ckd_image.specs.declared.track.Cchhr.{Cchhr}
@@ -13,7 +13,7 @@ use Rattle.volume_model.specs.Reads.{IsOnline, IsUnit}
 abbrev pub AreShort : Slots → Run → Type 0
 AreShort slots run = (track : ℕ) → HasTrack run track → length (slots track) ≤ 65536
 
--- A VTOC reads in one way: that of an image, which has no more tracks than these, and any whose slots are short.
+-- A VTOC reads in one way: that of an image of at most 65,535 tracks, and any whose slots are short.
 abbrev pub OneVtoc : Type 0
 OneVtoc =
     (head : Head) (slots : Slots) (pointer : Cchhr) (sliding : Bool) (a b : Vtoc) → (head.tracks ≤ 65535) ⊎ AreShort slots a.run

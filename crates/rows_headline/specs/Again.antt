@@ -2,7 +2,7 @@
 use Rattle.std.specs.Prelude.{◌≡◌, ◌≢◌, ℕ, ◌<◌, ◌≤◌, List, [], length, take, Option}
 use Rattle.dasd_pool.specs.Disk.{Image, MayLeave}
 use Rattle.dasd_pool.specs.Calls.{shape_of}
-use Rattle.dasd_pool.specs.Memory.{MemoryView, disk_of, state_of}
+use Rattle.dasd_pool.specs.Memory.{MemoryView, disk_of, fresh, state_of}
 use Rattle.dasd_pool.specs.declared.calls.Tear.{Tear}
 use Rattle.dasd_pool.specs.Tears.{IsTornFrom}
 use Rattle.redo_core.specs.Faults.{IsAllClosed, MayOpen}
@@ -59,8 +59,13 @@ EachRunsOn old earlier calls later =
     0 < old.keep → length old.calls ≤ calls → (facts : Facts) (units : List UnitModel) → facts.shape ≡ shape_of old.units → IsSettled facts (state_of old) units
     → RunsOn facts units earlier (length earlier.pool.calls ≤ calls) later
 
+-- a pool that has had no call, on the blocks that a stop of another leaves after so many of its calls
+pub record IsLeftBy (tear : Tear) (calls : ℕ) (ran left : MemoryView) : Type 0 where
+  pub torn : IsTornFrom tear ran.units (take calls ran.calls) left.units
+  pub whole : left ≡ fresh left.units [] ran.keep
+
 -- The second run began on what a stop of the first left, after so many of its calls, and is a run as any other, where no journal is made.
 pub record BeginsOnStop (no_journal : Type 0) (tear : Tear) (calls : ℕ) (earlier later : Ran) : Type 0 where
   pub left : MemoryView
-  pub torn : IsTornFrom tear earlier.pool.units (take calls earlier.pool.calls) left.units
+  pub is_left : IsLeftBy tear calls earlier.pool left
   pub run : no_journal → IsRun (Unit {0}) (shown_of left) (shown_of later.pool) (later.status ≢ 16) later.steps.items later.pending

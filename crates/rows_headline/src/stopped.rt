@@ -1,11 +1,10 @@
 //! A run over a pool in memory, and a stop of it.
 
-ghost use Rattle.std.specs.Prelude.{◌≢◌, take, IfOk};
-ghost use Rattle.dasd_pool.specs.Tears.{IsTornFrom};
+ghost use Rattle.std.specs.Prelude.{◌≢◌, IfOk};
 ghost use Rattle.by_rules.specs.Day.{IsToday};
 ghost use Rattle.adr_top.specs.Asked.{AsksForJournal};
 ghost use Rattle.move_core.specs.Runs.{IsRun};
-ghost use Rattle.rows_headline.specs.Again.{shown_of, BeginsOnStop, EachStopIsReady, EachRunsOn};
+ghost use Rattle.rows_headline.specs.Again.{shown_of, BeginsOnStop, EachStopIsReady, EachRunsOn, IsLeftBy};
 ghost use Rattle.rows_headline.specs.Stopped.{EachStopStands};
 
 use adr_top::{Day, Step, batch};
@@ -77,8 +76,8 @@ pub fn run_and_stop<S: Source, H: Source, O: Sink>(
 ) -> Result<Stopped, NoMemory>
     requires { IsToday today }
 
-    // What is left holds the image that the stop leaves.
-    ensures left { IfOk result (λ stopped. IsTornFrom tear stopped.ran.pool.units (take calls stopped.ran.pool.calls) stopped.left.units) }
+    // What is left holds the image that the stop leaves, and has had no call.
+    ensures left { IfOk result (λ stopped. IsLeftBy tear calls stopped.ran.pool stopped.left) }
 
     // Where the pool was settled and no journal is made, that image stands for the units after a prefix of the run's steps and the one
     // under way, and after all steps where the run had returned.

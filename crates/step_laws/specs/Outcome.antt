@@ -1,4 +1,4 @@
--- Steps lead from units to one list of units.
+-- Steps lead from units to at most one list of units.
 use Rattle.std.specs.Prelude.{◌≡◌, ◌≢◌, ℕ, List, AllPairs, Some, slice_get}
 use Rattle.dasd_pool.specs.Disk.{Image}
 use Rattle.volume_model.specs.Unit.{AreByName, OnlineVolume, UnitModel, online}
@@ -24,7 +24,7 @@ StandsProper = (facts : Facts) (image : Image) (units : List UnitModel) → Stan
 abbrev pub StaysProper : Type 0
 StaysProper = (facts : Facts) (before after : List UnitModel) (steps : List Step) → AreProper before → Reaches facts before steps after → AreProper after
 
--- and these are one list
+-- and these are at most one list
 abbrev pub OneOutcome : Type 0
 OneOutcome =
     (facts : Facts) (before a b : List UnitModel) (steps : List Step) → AreProper before → Reaches facts before steps a → Reaches facts before steps b → a ≡ b

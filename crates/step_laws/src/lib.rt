@@ -1,4 +1,4 @@
-//! Steps have one outcome.
+//! Steps have at most one outcome.
 #![tactic(auto)]
 
 mod laws;
