@@ -44,7 +44,7 @@ struct Row {
     second: Given,
 }
 
-const ROWS: [Row; 3] = [
+static ROWS: [Row; 3] = [
     Row {
         text: CARRY,
         held: b"",

@@ -10,13 +10,13 @@ use std::test::*;
 /// A statement over two volumes, and how it ends.
 #[derive(Clone, Copy, Debug)]
 struct Row {
-    given: [Contents; 2],
+    given: &'static [Contents; 2],
     text: &'static [u8],
     held: &'static [u8],
     said: &'static str,
     code: u8,
     steps: &'static [(char, u32)],
-    after: [Contents; 2],
+    after: &'static [Contents; 2],
 }
 
 const COPIED: &str = "ADR121I (001) A.B COPIED TO VOL002\n";
@@ -27,13 +27,13 @@ ADR124I (001) A.B DELETED
 
 /// A hold that stands against a read is passed over where the statement says so.
 const TOLERANT: Row = Row {
-    given: [ONE, EMPTY],
+    given: &[ONE, EMPTY],
     text: b" COPY DS(INC(A.B)) INDD(VOL001) OUTDD(VOL002) TOL(ENQF)\n",
     held: b"EXC A.B JOB1",
     said: COPIED,
     code: 0,
     steps: &[('A', 1)],
-    after: [ONE, TWO],
+    after: &[ONE, TWO],
 };
 
 /// A volume with an index is only read, and its free space needn't be stated.
@@ -44,9 +44,9 @@ const INDEX: Contents = Contents {
 };
 
 const READ_ALONE: Row = Row {
-    given: [INDEX, EMPTY],
+    given: &[INDEX, EMPTY],
     held: b"SHR A.B JOB1",
-    after: [INDEX, TWO],
+    after: &[INDEX, TWO],
     ..TOLERANT
 };
 
@@ -57,7 +57,7 @@ const EXPIRED: Set = Set {
 };
 
 const EXPIRES: Row = Row {
-    given: [
+    given: &[
         Contents {
             sets: &[Some(EXPIRED)],
             ..ONE
@@ -68,7 +68,7 @@ const EXPIRES: Row = Row {
     held: b"",
     said: CARRIED,
     steps: &[('C', 1)],
-    after: [
+    after: &[
         LEFT,
         Contents {
             sets: &[Some(EXPIRED)],
@@ -90,9 +90,9 @@ const NOTHING: Contents = Contents {
 };
 
 const NO_TRACKS: Row = Row {
-    given: [NOTHING, EMPTY],
+    given: &[NOTHING, EMPTY],
     held: b"",
-    after: [
+    after: &[
         NOTHING,
         Contents {
             serial: 0xf2,
@@ -104,7 +104,7 @@ const NO_TRACKS: Row = Row {
 
 /// An A.B that never expires gives its place to the one of VOL001, which keeps the date that it has. The copy stands before it goes, on tracks 3 and 4.
 const PURGES: Row = Row {
-    given: [
+    given: &[
         ONE,
         Contents {
             sets: &[Some(Set {
@@ -116,7 +116,7 @@ const PURGES: Row = Row {
         },
     ],
     text: b" COPY DS(INC(A.B)) INDD(VOL001) OUTDD(VOL002) DELETE PURGE REPU\n",
-    after: [
+    after: &[
         LEFT,
         Contents {
             sets: &[Some(Set {
@@ -133,7 +133,7 @@ const PURGES: Row = Row {
 
 /// A.B on track 2 takes the name and the record of C.D on track 3: its copy stands on track 4, then both tracks are free.
 const TAKES_A_NAME: Row = Row {
-    given: [
+    given: &[
         Contents {
             sets: &[
                 Some(Set {
@@ -152,7 +152,7 @@ const TAKES_A_NAME: Row = Row {
 ADR124I (001) A.B DELETED
 ",
     steps: &[('P', 0), ('D', 0)],
-    after: [
+    after: &[
         Contents {
             sets: &[
                 None,
@@ -172,7 +172,7 @@ ADR124I (001) A.B DELETED
 
 /// The lower unit comes first, whichever the data set goes to.
 const REPAIRS: Row = Row {
-    given: [
+    given: &[
         Contents {
             serial: 0xf1,
             indicators: UNSTATED,
@@ -192,7 +192,7 @@ ADR124I (001) A.B DELETED
 ",
     code: 4,
     steps: &[('R', 0), ('R', 1), ('C', 0)],
-    after: [
+    after: &[
         ONE,
         Contents {
             serial: 0xf2,
@@ -204,7 +204,7 @@ ADR124I (001) A.B DELETED
 
 /// Four tracks, for which no run of VOL002 is long enough: the longest is taken whole, and the first track of the next.
 const SPREADS: Row = Row {
-    given: [
+    given: &[
         Contents {
             sets: &[Some(Set {
                 extents: &[(2, 5)],
@@ -224,7 +224,7 @@ const SPREADS: Row = Row {
         },
     ],
     text: b" COPY DS(INC(A.B)) INDD(VOL001) OUTDD(VOL002) DELETE\n",
-    after: [
+    after: &[
         Contents {
             blocks: &[(2, 1), (3, 2), (4, 3), (5, 4)],
             ..LEFT
@@ -264,7 +264,7 @@ const PAIR: Contents = Contents {
 
 /// Each of two is deleted behind its copy. C.D takes the record behind that of A.B, as it comes second.
 const BOTH: Row = Row {
-    given: [PAIR, EMPTY],
+    given: &[PAIR, EMPTY],
     text: b" COPY DS(INC(**)) INDD(VOL001) OUTDD(VOL002) DELETE\n",
     said: "ADR121I (001) A.B COPIED TO VOL002
 ADR124I (001) A.B DELETED
@@ -272,7 +272,7 @@ ADR121I (001) C.D COPIED TO VOL002
 ADR124I (001) C.D DELETED
 ",
     steps: &[('C', 1), ('C', 1)],
-    after: [
+    after: &[
         Contents {
             blocks: &[(2, 1), (3, 2), (4, 3)],
             ..LEFT
@@ -295,7 +295,7 @@ ADR124I (001) C.D DELETED
 
 /// The copy of A.B takes the two tracks that are free, so that none is left for C.D.
 const LAST_ROOM: Row = Row {
-    given: [
+    given: &[
         PAIR,
         Contents {
             sets: &[Some(Set {
@@ -312,7 +312,7 @@ const LAST_ROOM: Row = Row {
 ADR302E (001) C.D NOT PROCESSED: NO SPACE
 ",
     code: 8,
-    after: [
+    after: &[
         PAIR,
         Contents {
             sets: &[
@@ -336,48 +336,59 @@ ADR302E (001) C.D NOT PROCESSED: NO SPACE
 /// The first statement, by its place, that doesn't say its lines or make its steps, or leaves other volumes; and what it says.
 fn first_wrong(alloc: Global, rows: &[Row]) -> Result<Option<(usize, String)>, RowsFault> {
     for (place, row) in rows.iter().enumerate() {
-        let mut ran = run(alloc, &row.given, row.text, row.held)?;
+        let (given, after) = (row.given, row.after);
+        let mut ran = run(alloc, given, row.text, row.held)?;
         let lines = lines_of(alloc, row.said, row.code)?;
         let is_told = ran.lines.as_str() == lines.as_str() && ran.status == row.code;
         let is_made = steps_of(alloc, &ran)?.as_slice() == row.steps;
-        if !is_told || !is_made || !are_left(alloc, &mut ran, &row.after)? {
+        if !is_told || !is_made || !are_left(alloc, &mut ran, after)? {
             return Ok(Some((place, ran.lines)));
         }
     }
     Ok(None)
 }
 
+static UNPREVENTED: [Row; 4] = [TOLERANT, READ_ALONE, EXPIRES, NO_TRACKS];
+
 #[test]
 fn what_does_not_prevent_a_copy(rt: HostRuntime) -> Result<(), Fail> {
-    let wrong = first_wrong(rt.alloc(), &[TOLERANT, READ_ALONE, EXPIRES, NO_TRACKS])?;
+    let wrong = first_wrong(rt.alloc(), &UNPREVENTED)?;
     assert!(rt; wrong.is_none(), "{wrong:?}");
     Ok(())
 }
+
+static IN_PLACE: [Row; 2] = [PURGES, TAKES_A_NAME];
 
 #[test]
 fn a_copy_takes_the_place_of_another(rt: HostRuntime) -> Result<(), Fail> {
-    let wrong = first_wrong(rt.alloc(), &[PURGES, TAKES_A_NAME])?;
+    let wrong = first_wrong(rt.alloc(), &IN_PLACE)?;
     assert!(rt; wrong.is_none(), "{wrong:?}");
     Ok(())
 }
+
+static STATED: [Row; 1] = [REPAIRS];
 
 #[test]
 fn free_space_is_stated_before(rt: HostRuntime) -> Result<(), Fail> {
-    let wrong = first_wrong(rt.alloc(), &[REPAIRS])?;
+    let wrong = first_wrong(rt.alloc(), &STATED)?;
     assert!(rt; wrong.is_none(), "{wrong:?}");
     Ok(())
 }
+
+static SPREAD: [Row; 1] = [SPREADS];
 
 #[test]
 fn a_copy_stands_in_several_runs(rt: HostRuntime) -> Result<(), Fail> {
-    let wrong = first_wrong(rt.alloc(), &[SPREADS])?;
+    let wrong = first_wrong(rt.alloc(), &SPREAD)?;
     assert!(rt; wrong.is_none(), "{wrong:?}");
     Ok(())
 }
 
+static IN_TURN: [Row; 2] = [BOTH, LAST_ROOM];
+
 #[test]
 fn each_data_set_has_its_turn(rt: HostRuntime) -> Result<(), Fail> {
-    let wrong = first_wrong(rt.alloc(), &[BOTH, LAST_ROOM])?;
+    let wrong = first_wrong(rt.alloc(), &IN_TURN)?;
     assert!(rt; wrong.is_none(), "{wrong:?}");
     Ok(())
 }

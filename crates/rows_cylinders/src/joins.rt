@@ -1,6 +1,9 @@
+//! Tests: A.B of two extents is made one, and what stands against that.
+
 use crate::dscbs::{Contents, Free, Set, SetExtent};
-use crate::runs::run;
-use crate::tests::{Place, free_runs, push_empty, push_small, set_of, stand};
+use crate::runs::{Wanted, first_wrong, run};
+use crate::tests::{free_runs, push_empty, push_small, set_of};
+use crate::volumes::volume;
 use rows_base::RowsFault;
 use std::alloc::Global;
 use std::test::*;
@@ -54,9 +57,6 @@ fn together(alloc: Global) -> Result<Contents, RowsFault> {
 
 const ALL: &[u8] = b" CONSOLIDATE DATASET(INCLUDE(**)) INDDNAME(VOL001)\n";
 
-/// The entries of the format 5.
-const LEFT_OF_TWO: [Place; 1] = [(181, &[0, 2, 0, 0, 2, 0, 6, 0, 0, 2, 0, 12, 0, 1, 3, 0, 0])];
-
 const CONSOLIDATED: &str = "ADR101I (001) CONSOLIDATE STARTED
 ADR127I (001) A.B CONSOLIDATED FROM 2 EXTENTS TO 8
 ADR102I (001) CONSOLIDATE ENDED CODE 0
@@ -70,21 +70,36 @@ ADR102I (001) CONSOLIDATE ENDED CODE 4
 ADR103I (000) MAXIMUM CODE 4
 ";
 
+/// The entries of the format 5, with free space that was stated and that wasn't.
+static JOINS: [Wanted; 2] = [
+    Wanted {
+        lines: CONSOLIDATED,
+        status: 0,
+        changed: &[1, 8, 9, 10, 11],
+        places: &[(181, &[0, 2, 0, 0, 2, 0, 6, 0, 0, 2, 0, 12, 0, 1, 3, 0, 0])],
+    },
+    Wanted {
+        lines: REBUILT,
+        status: 4,
+        changed: &[1, 8, 9, 10, 11],
+        places: &[(181, &[0, 2, 0, 0, 2, 0, 6, 0, 0, 2, 0, 12, 0, 1, 3, 0, 0])],
+    },
+];
+
+/// What a consolidation says where it isn't this, or A.B isn't in one extent then.
+fn first_apart(alloc: Global, stated: bool, wanted: &Wanted) -> Result<Option<String>, RowsFault> {
+    let mut given = apart(alloc)?;
+    given.stated = stated;
+    let after = together(alloc)?;
+    first_wrong(alloc, [&given, &after], ALL, &[], wanted)
+}
+
 #[test]
 fn two_extents_become_one(rt: HostRuntime) -> Result<(), Fail> {
-    for (stated, lines, status) in [(true, CONSOLIDATED, 0), (false, REBUILT, 4)] {
-        let mut given = apart(rt.alloc())?;
-        given.stated = stated;
-        let mut ran = run(rt.alloc(), &given, ALL, &[])?;
-        assert_eq!(rt; ran.lines.as_str(), lines);
-        assert_eq!(rt; ran.status, status);
-        assert!(rt; stand(&ran.slot(rt.alloc(), 1)?, &LEFT_OF_TWO));
-        assert_eq!(rt;
-            ran.changed(rt.alloc(), &given)?.as_slice(),
-            [1, 8, 9, 10, 11].as_slice()
-        );
-        assert!(rt; ran.changed(rt.alloc(), &together(rt.alloc())?)?.is_empty());
-    }
+    let wrong = first_apart(rt.alloc(), true, &JOINS[0])?;
+    assert!(rt; wrong.is_none(), "{wrong:?}");
+    let wrong = first_apart(rt.alloc(), false, &JOINS[1])?;
+    assert!(rt; wrong.is_none(), "{wrong:?}");
     Ok(())
 }
 
@@ -124,7 +139,7 @@ fn volume_of(alloc: Global, case: Case) -> Result<Contents, RowsFault> {
 }
 
 /// Each case: its text of holds, its line, where it has one, and its condition code.
-const CASES: [(Case, &[u8], &str, u8); 6] = [
+static CASES: [(Case, &[u8], &str, u8); 6] = [
     (
         Case::Pinned,
         b"",
@@ -165,17 +180,29 @@ fn lines_of(alloc: Global, said: &str, code: u8) -> Result<String, RowsFault> {
     )?)
 }
 
+/// What a consolidation says where it isn't this, or changes the volume.
+fn first_changed(
+    alloc: Global,
+    given: &Contents,
+    texts: [&[u8]; 2],
+    said: &str,
+    code: u8,
+) -> Result<Option<String>, RowsFault> {
+    let unchanged = volume(alloc, given)?;
+    let mut ran = run(alloc, given, texts[0], texts[1])?;
+    let is_told = ran.lines.as_str() == lines_of(alloc, said, code)?.as_str();
+    if is_told && ran.status == code && ran.machine.holds(alloc, 0, &unchanged)? {
+        return Ok(None);
+    }
+    Ok(Some(ran.lines))
+}
+
 #[test]
 fn each_reason_is_told_and_nothing_is_changed(rt: HostRuntime) -> Result<(), Fail> {
-    for (case, holds, said, code) in CASES {
-        let given = volume_of(rt.alloc(), case)?;
-        let mut ran = run(rt.alloc(), &given, ALL, holds)?;
-        assert_eq!(rt;
-            ran.lines.as_str(),
-            lines_of(rt.alloc(), said, code)?.as_str()
-        );
-        assert_eq!(rt; ran.status, code);
-        assert!(rt; ran.changed(rt.alloc(), &given)?.is_empty());
+    for (case, holds, said, code) in CASES.iter() {
+        let given = volume_of(rt.alloc(), *case)?;
+        let wrong = first_changed(rt.alloc(), &given, [ALL, holds], said, *code)?;
+        assert!(rt; wrong.is_none(), "{wrong:?}");
     }
     Ok(())
 }
@@ -206,10 +233,8 @@ fn full(alloc: Global) -> Result<Contents, RowsFault> {
 fn a_27th_run_without_a_free_dscb_leaves_two_extents(rt: HostRuntime) -> Result<(), Fail> {
     let given = full(rt.alloc())?;
     let text = b" CONSOLIDATE DATASET(INCLUDE(E1)) INDDNAME(VOL001)\n";
-    let mut ran = run(rt.alloc(), &given, text, &[])?;
     let said = "ADR303E (001) E1 NOT PROCESSED: VTOC FULL\n";
-    assert_eq!(rt; ran.lines.as_str(), lines_of(rt.alloc(), said, 8)?.as_str());
-    assert_eq!(rt; ran.status, 8);
-    assert!(rt; ran.changed(rt.alloc(), &given)?.is_empty());
+    let wrong = first_changed(rt.alloc(), &given, [text, &[]], said, 8)?;
+    assert!(rt; wrong.is_none(), "{wrong:?}");
     Ok(())
 }

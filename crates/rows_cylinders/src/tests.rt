@@ -1,5 +1,7 @@
+//! Tests: a release of whole cylinders, and releases of tracks among many runs of free tracks.
+
 use crate::dscbs::{Contents, Free, Set};
-use crate::runs::run;
+use crate::runs::{Wanted, first_wrong};
 use rows_base::RowsFault;
 use std::alloc::Global;
 use std::test::*;
@@ -28,31 +30,24 @@ ADR102I (001) RELEASE ENDED CODE 0
 ADR103I (000) MAXIMUM CODE 0
 ";
 
-/// Bytes of the VTOC from a place on.
-pub(crate) type Place = (usize, &'static [u8]);
-
 /// The entries of the format 5, and the extent of A.B: cylinder 1 head 0 to cylinder 2 head 14.
-const LEFT_OF_FIVE: [Place; 2] = [
-    (181, &[0, 2, 0, 0, 13, 0, 45, 0, 2, 0, 0, 0, 0, 0, 0]),
-    (430, &[0x81, 0, 0, 1, 0, 0, 0, 2, 0, 14]),
-];
-
-/// Whether these bytes stand at their places.
-pub(crate) fn stand(slot: &[u8], places: &[Place]) -> bool {
-    places.iter().all(|(at, want)| slot.iter().skip(*at).take(want.len()).eq(want.iter()))
-}
+static RELEASES_15: Wanted = Wanted {
+    lines: FIFTEEN_RELEASED,
+    status: 0,
+    changed: &[1],
+    places: &[
+        (181, &[0, 2, 0, 0, 13, 0, 45, 0, 2, 0, 0, 0, 0, 0, 0]),
+        (430, &[0x81, 0, 0, 1, 0, 0, 0, 2, 0, 14]),
+    ],
+};
 
 #[test]
 fn a_release_of_whole_cylinders_keeps_the_last_used_one(rt: HostRuntime) -> Result<(), Fail> {
     let given = five(rt.alloc(), 59, (60, 1, 0))?;
     let after = five(rt.alloc(), 44, (45, 2, 0))?;
     let text = b" RELEASE DATASET(INCLUDE(A.B)) DDNAME(VOL001)\n";
-    let mut ran = run(rt.alloc(), &given, text, &[])?;
-    assert_eq!(rt; ran.lines.as_str(), FIFTEEN_RELEASED);
-    assert_eq!(rt; ran.status, 0);
-    assert!(rt; stand(&ran.slot(rt.alloc(), 1)?, &LEFT_OF_FIVE));
-    assert_eq!(rt; ran.changed(rt.alloc(), &given)?.as_slice(), [1].as_slice());
-    assert!(rt; ran.changed(rt.alloc(), &after)?.is_empty());
+    let wrong = first_wrong(rt.alloc(), [&given, &after], text, &[], &RELEASES_15)?;
+    assert!(rt; wrong.is_none(), "{wrong:?}");
     Ok(())
 }
 
@@ -144,34 +139,46 @@ ADR103I (000) MAXIMUM CODE 8
 ";
 
 /// No free DSCB, the last entry of the first format 5 and its pointer to record 50, the extent of E1, and the second format 5.
-const LEFT_OF_TEN: [Place; 5] = [
-    (79, &[0, 0]),
-    (307, &[0, 81, 0, 0, 2, 0, 0, 0, 1, 50]),
-    (4426, &[1, 0, 0, 5, 0, 5, 0, 5, 0, 5]),
-    (7281, &[5, 5, 5, 5, 0, 84, 0, 4, 6, 0, 0, 0, 0, 0]),
-    (7325, &[0xf5]),
-];
+static TAKES_A_SECOND: Wanted = Wanted {
+    lines: TWO_RELEASED,
+    status: 0,
+    changed: &[1],
+    places: &[
+        (79, &[0, 0]),
+        (307, &[0, 81, 0, 0, 2, 0, 0, 0, 1, 50]),
+        (4426, &[1, 0, 0, 5, 0, 5, 0, 5, 0, 5]),
+        (7281, &[5, 5, 5, 5, 0, 84, 0, 4, 6, 0, 0, 0, 0, 0]),
+        (7325, &[0xf5]),
+    ],
+};
+
+static IS_FULL: Wanted = Wanted {
+    lines: VTOC_FULL,
+    status: 8,
+    changed: &[],
+    places: &[],
+};
 
 #[test]
 fn a_27th_run_takes_a_second_format_5(rt: HostRuntime) -> Result<(), Fail> {
     let given = ten(rt.alloc(), 82, 18, &[(84, 4, 6)])?;
     let after = ten(rt.alloc(), 80, 18, &[(81, 0, 2), (84, 4, 6)])?;
-    let mut ran = run(rt.alloc(), &given, RELEASE_E1, &[])?;
-    assert_eq!(rt; ran.lines.as_str(), TWO_RELEASED);
-    assert_eq!(rt; ran.status, 0);
-    assert!(rt; stand(&ran.slot(rt.alloc(), 1)?, &LEFT_OF_TEN));
-    assert_eq!(rt; ran.changed(rt.alloc(), &given)?.as_slice(), [1].as_slice());
-    assert!(rt; ran.changed(rt.alloc(), &after)?.is_empty());
+    let wrong = first_wrong(
+        rt.alloc(),
+        [&given, &after],
+        RELEASE_E1,
+        &[],
+        &TAKES_A_SECOND,
+    )?;
+    assert!(rt; wrong.is_none(), "{wrong:?}");
     Ok(())
 }
 
 #[test]
 fn a_27th_run_without_a_free_dscb_changes_nothing(rt: HostRuntime) -> Result<(), Fail> {
     let given = ten(rt.alloc(), 82, 19, &[(84, 4, 6)])?;
-    let mut ran = run(rt.alloc(), &given, RELEASE_E1, &[])?;
-    assert_eq!(rt; ran.lines.as_str(), VTOC_FULL);
-    assert_eq!(rt; ran.status, 8);
-    assert!(rt; ran.changed(rt.alloc(), &given)?.is_empty());
+    let wrong = first_wrong(rt.alloc(), [&given, &given], RELEASE_E1, &[], &IS_FULL)?;
+    assert!(rt; wrong.is_none(), "{wrong:?}");
     Ok(())
 }
 
@@ -211,15 +218,26 @@ ADR102I (001) RELEASE ENDED CODE 8
 ADR103I (000) MAXIMUM CODE 8
 ";
 
+static FILLS_FOR_THE_SECOND: Wanted = Wanted {
+    lines: SECOND_IS_FULL,
+    status: 8,
+    changed: &[1],
+    places: &[],
+};
+
 /// As the volume was at the start, a 26th run would have room in its one format 5 for either of them.
 #[test]
 fn the_second_data_set_is_judged_on_what_the_first_left(rt: HostRuntime) -> Result<(), Fail> {
     let given = full_ten(rt.alloc(), 82, &[])?;
     let after = full_ten(rt.alloc(), 80, &[(81, 0, 2)])?;
-    let mut ran = run(rt.alloc(), &given, RELEASE_BOTH, &[])?;
-    assert_eq!(rt; ran.lines.as_str(), SECOND_IS_FULL);
-    assert_eq!(rt; ran.status, 8);
-    assert_eq!(rt; ran.changed(rt.alloc(), &given)?.as_slice(), [1].as_slice());
-    assert!(rt; ran.changed(rt.alloc(), &after)?.is_empty());
+    let volumes = [&given, &after];
+    let wrong = first_wrong(
+        rt.alloc(),
+        volumes,
+        RELEASE_BOTH,
+        &[],
+        &FILLS_FOR_THE_SECOND,
+    )?;
+    assert!(rt; wrong.is_none(), "{wrong:?}");
     Ok(())
 }

@@ -2,4 +2,6 @@
 #![tactic(auto)]
 
 #[cfg(test)]
+mod stopped;
+#[cfg(test)]
 mod tests;

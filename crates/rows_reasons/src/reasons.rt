@@ -114,7 +114,7 @@ const UNSTATED_FULL: Contents = Contents {
 /// A statement over two volumes, and its one line.
 #[derive(Clone, Copy, Debug)]
 struct Case {
-    given: [Contents; 2],
+    given: &'static [Contents; 2],
     text: &'static [u8],
     held: &'static [u8],
     said: &'static str,
@@ -122,14 +122,14 @@ struct Case {
 
 /// A copy of A.B to a volume that is empty.
 const PLAIN: Case = Case {
-    given: [ONE, EMPTY],
+    given: &[ONE, EMPTY],
     text: b" COPY DS(INC(A.B)) INDD(VOL001) OUTDD(VOL002)\n",
     held: b"",
     said: "",
 };
 
 const TOO_LONG: Case = Case {
-    given: [LONG_NAMED, EMPTY],
+    given: &[LONG_NAMED, EMPTY],
     text: b" COPY DS(INC(**)) INDD(VOL001) OUTDD(VOL002) RENAMEU(LONGNAME)\n",
     said: "ADR310E (001) A.BBBBBBBB.BBBBBBBB.BBBBBBBB.BBBBBBBB.BBBBBB NOT PROCESSED: NEW NAME TOO LONG\n",
     ..PLAIN
@@ -147,14 +147,14 @@ const WITHIN: &[u8] = b" COPY DS(INC(A.B)) INDD(VOL001) OUTDD(VOL001) REPU DELET
 
 const ONTO_C_D: &[u8] = b" COPY DS(INC(A.B)) INDD(VOL001) OUTDD(VOL001) RENAMEU((A.B,C.D))\n";
 
-const IS_PINNED: [Case; 2] = [
+static IS_PINNED: [Case; 2] = [
     Case {
-        given: [PINNED, EMPTY],
+        given: &[PINNED, EMPTY],
         said: "ADR305E (001) A.B NOT PROCESSED: PINNED\n",
         ..PLAIN
     },
     Case {
-        given: [ONE, OTHER_PINNED],
+        given: &[ONE, OTHER_PINNED],
         text: REPLACING,
         said: "ADR305E (001) A.B NOT PROCESSED: PINNED\n",
         ..PLAIN
@@ -168,7 +168,7 @@ const IS_SHARED: Case = Case {
     ..PLAIN
 };
 
-const IS_HELD: [Case; 4] = [
+static IS_HELD: [Case; 4] = [
     Case {
         held: b"EXC A.B JOB1",
         ..IS_SHARED
@@ -178,7 +178,7 @@ const IS_HELD: [Case; 4] = [
         ..IS_SHARED
     },
     Case {
-        given: [ONE, OTHER],
+        given: &[ONE, OTHER],
         text: REPLACING,
         ..IS_SHARED
     },
@@ -189,21 +189,21 @@ const IS_HELD: [Case; 4] = [
     },
 ];
 
-const IS_UNEXPIRED: [Case; 3] = [
+static IS_UNEXPIRED: [Case; 3] = [
     Case {
-        given: [UNEXPIRED, EMPTY],
+        given: &[UNEXPIRED, EMPTY],
         text: DELETING,
         said: "ADR308E (001) A.B NOT PROCESSED: NOT EXPIRED\n",
         ..PLAIN
     },
     Case {
-        given: [NEVER_EXPIRES, EMPTY],
+        given: &[NEVER_EXPIRES, EMPTY],
         text: DELETING,
         said: "ADR308E (001) A.B NOT PROCESSED: NOT EXPIRED\n",
         ..PLAIN
     },
     Case {
-        given: [ONE, OTHER_UNEXPIRED],
+        given: &[ONE, OTHER_UNEXPIRED],
         text: REPLACING,
         said: "ADR308E (001) A.B NOT PROCESSED: NOT EXPIRED\n",
         ..PLAIN
@@ -211,9 +211,9 @@ const IS_UNEXPIRED: [Case; 3] = [
 ];
 
 /// On its volume under another's name, or under its own; on another volume beside one of its name.
-const HAS_A_NAMESAKE: [Case; 3] = [
+static HAS_A_NAMESAKE: [Case; 3] = [
     Case {
-        given: [NEIGHBOURS, EMPTY],
+        given: &[NEIGHBOURS, EMPTY],
         text: ONTO_C_D,
         said: "ADR304E (001) A.B NOT PROCESSED: NAME EXISTS\n",
         ..PLAIN
@@ -224,31 +224,31 @@ const HAS_A_NAMESAKE: [Case; 3] = [
         ..PLAIN
     },
     Case {
-        given: [ONE, OTHER],
+        given: &[ONE, OTHER],
         said: "ADR304E (001) A.B NOT PROCESSED: NAME EXISTS\n",
         ..PLAIN
     },
 ];
 
 /// The last one: the free space of VOL001 isn't stated either, as that of VOL002 can't be.
-const HAS_NO_ROOM: [Case; 4] = [
+static HAS_NO_ROOM: [Case; 4] = [
     Case {
-        given: [BAD, EMPTY],
+        given: &[BAD, EMPTY],
         said: "ADR307E (001) A.B NOT PROCESSED: BAD TRACK\n",
         ..PLAIN
     },
     Case {
-        given: [ONE, NARROW],
+        given: &[ONE, NARROW],
         said: "ADR302E (001) A.B NOT PROCESSED: NO SPACE\n",
         ..PLAIN
     },
     Case {
-        given: [ONE, FULL],
+        given: &[ONE, FULL],
         said: "ADR303E (001) A.B NOT PROCESSED: VTOC FULL\n",
         ..PLAIN
     },
     Case {
-        given: [UNSTATED_ONE, UNSTATED_FULL],
+        given: &[UNSTATED_ONE, UNSTATED_FULL],
         text: DELETING,
         said: "ADR303E (001) A.B NOT PROCESSED: VTOC FULL\n",
         ..PLAIN
@@ -258,19 +258,22 @@ const HAS_NO_ROOM: [Case; 4] = [
 /// The first statement, by its place, that doesn't say its line alone, makes a step, or changes a volume; and what it says.
 fn first_wrong(alloc: Global, cases: &[Case]) -> Result<Option<(usize, String)>, RowsFault> {
     for (place, case) in cases.iter().enumerate() {
-        let mut ran = run(alloc, &case.given, case.text, case.held)?;
+        let given = case.given;
+        let mut ran = run(alloc, given, case.text, case.held)?;
         let lines = lines_of(alloc, case.said, 8)?;
         let is_told = ran.lines.as_str() == lines.as_str() && ran.status == 8;
-        if !is_told || !ran.steps.is_empty() || !are_left(alloc, &mut ran, &case.given)? {
+        if !is_told || !ran.steps.is_empty() || !are_left(alloc, &mut ran, given)? {
             return Ok(Some((place, ran.lines)));
         }
     }
     Ok(None)
 }
 
+static IS_TOO_LONG: [Case; 1] = [TOO_LONG];
+
 #[test]
 fn a_new_name_is_too_long(rt: HostRuntime) -> Result<(), Fail> {
-    let wrong = first_wrong(rt.alloc(), &[TOO_LONG])?;
+    let wrong = first_wrong(rt.alloc(), &IS_TOO_LONG)?;
     assert!(rt; wrong.is_none(), "{wrong:?}");
     Ok(())
 }

@@ -34,39 +34,39 @@ const WITH_INDEX: Contents = Contents {
 };
 
 /// A statement over two volumes, its one line, and its condition code.
-type Refusal = ([Contents; 2], &'static [u8], &'static str, u8);
+type Refusal = (&'static [Contents; 2], &'static [u8], &'static str, u8);
 
 const COPY: &[u8] = b" COPY DS(INC(A.B)) INDD(VOL001) OUTDD(VOL002)\n";
 
 /// The units are asked before the devices, and these before the filter.
-const REFUSALS: [Refusal; 6] = [
+static REFUSALS: [Refusal; 6] = [
     (
-        [ONE, UNLIKE],
+        &[ONE, UNLIKE],
         b" COPY DS(INC(A.B)) INDD(VOL001) OUTDD(VOL009)\n",
         "ADR408T (001) UNKNOWN NAME VOL009\n",
         12,
     ),
     (
-        [ONE, OVERLAPPING],
+        &[ONE, OVERLAPPING],
         COPY,
         "ADR401T (001) UNIT VOL002 OFFLINE: VTOC 1 4 OVERLAP\n",
         12,
     ),
     (
-        [WITH_INDEX, UNLIKE],
+        &[WITH_INDEX, UNLIKE],
         b" COPY DS(INC(A.B)) INDD(VOL001) OUTDD(VOL002) DELETE\n",
         "ADR402T (001) VOLUME VOL001 INDEXED\n",
         12,
     ),
-    ([ONE, UNLIKE], COPY, "ADR411T (001) UNLIKE DEVICES\n", 12),
+    (&[ONE, UNLIKE], COPY, "ADR411T (001) UNLIKE DEVICES\n", 12),
     (
-        [ONE, UNLIKE],
+        &[ONE, UNLIKE],
         b" COPY DS(INC(NO.SUCH)) INDD(VOL001) OUTDD(VOL002)\n",
         "ADR411T (001) UNLIKE DEVICES\n",
         12,
     ),
     (
-        [ONE, EMPTY],
+        &[ONE, EMPTY],
         b" COPY DS(INC(NO.SUCH)) INDD(VOL001) OUTDD(VOL002)\n",
         "ADR201W (001) NOTHING SELECTED\n",
         4,
@@ -75,10 +75,10 @@ const REFUSALS: [Refusal; 6] = [
 
 /// The first statement, by its place, that doesn't say its line alone, makes a step, or changes a volume; and what it says.
 fn first_wrong(alloc: Global, rows: &[Refusal]) -> Result<Option<(usize, String)>, RowsFault> {
-    for (place, (given, text, said, code)) in rows.iter().enumerate() {
+    for (place, &(given, text, said, code)) in rows.iter().enumerate() {
         let mut ran = run(alloc, given, text, b"")?;
-        let lines = lines_of(alloc, said, *code)?;
-        let is_told = ran.lines.as_str() == lines.as_str() && ran.status == *code;
+        let lines = lines_of(alloc, said, code)?;
+        let is_told = ran.lines.as_str() == lines.as_str() && ran.status == code;
         if !is_told || !ran.steps.is_empty() || !are_left(alloc, &mut ran, given)? {
             return Ok(Some((place, ran.lines)));
         }
