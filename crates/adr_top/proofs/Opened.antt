@@ -10,12 +10,12 @@ use Rattle.volume_model.specs.Unit.{UnitModel}
 use Rattle.redo_core.specs.declared.fault.JournalFault.{JournalFault}
 use Rattle.redo_core.specs.declared.fault.JournalFault.TheVariants as faults
 use Rattle.redo_core.specs.Faults.{IsOpenFault, MayOpen}
-use Rattle.redo_core.specs.Format.{is_open}
 use Rattle.redo_core.specs.Opening.{of_opening}
 use Rattle.redo_core.specs.Reading.{journal_of}
 use Rattle.move_core.specs.declared.steps.Step.{Step}
-use Rattle.move_core.specs.Facts.{Facts, Shown, shown}
-use Rattle.move_core.specs.Runs.{IsRun}
+use Rattle.move_core.specs.Facts.{Facts, Inputs, no_inputs, Shown, shown}
+use Rattle.move_core.proofs.Resuming.{settled_with}
+use Rattle.move_core.specs.Runs.{IsFinished, IsRun}
 use Rattle.move_core.specs.Stands.{IsSettled}
 use Rattle.move_core.proofs.Running.{run_less, run_then}
 use Rattle.sysin_lang.specs.Flow.{Plan}
@@ -31,8 +31,8 @@ use Rattle.adr_top.specs.Ends.{RunsText}
 use Rattle.adr_top.specs.Parts.{IsRefused, Opens}
 
 -- what never changes of a session's pool
-abbrev facts_at : {P : Type 0} → Ghosts P → SessionView P → Facts
-facts_at pools session = record { shape = pools.shape session.pool; names = session.names; room = session.room }
+abbrev facts_at : {P : Type 0} → Ghosts P → SessionView P → Inputs → Facts
+facts_at pools session inputs = record { shape = pools.shape session.pool; names = session.names; room = session.room; inputs = inputs }
 
 -- a fault of the pool, and no other, ends a run as one
 pub only_pool : (fault : JournalFault) → end_of fault ≡ ends.Pool → fault ≡ faults.Pool
@@ -82,17 +82,18 @@ opens_not {P} pools pool stopped fault end files out serials table today plan le
 
 module _ {P : Type 0} (pools : Ghosts P) (pool : P) (session : SessionView P) (plan : Plan) (held : List Hold) (today : Day) (files : FilesSeen) (out : SinkSeen) (left : After P)
     (begins : IsRun pools.tells (shown pools pool) (shown pools session.pool) (Unit {0}) [] None)
-    (own : pools.tells → (facts : Facts) (units : List UnitModel) → facts.shape ≡ pools.shape session.pool → IsSettled facts (pools.disk session.pool).state units → facts ≡ facts_at pools session)
+    (own : pools.tells → (facts : Facts) (units : List UnitModel) → facts.shape ≡ pools.shape session.pool → IsSettled facts (pools.disk session.pool).state units
+    → facts ≡ record { shape = pools.shape session.pool; names = session.names; room = session.room; inputs = facts.inputs })
     (runs : EndsScript pools session plan held today files out left) where
   -- what the script means on the units of the session it means on those of the pool
   means : pools.tells → (facts : Facts) (units : List UnitModel) → facts.shape ≡ pools.shape pool → IsSettled facts (pools.disk pool).state units
       → RunOn (record { facts = facts; today = today; held = held }) runs.ran runs.under runs.leaves.cut runs.leaves.added left.pending units
   means told facts units same settled =
-      let end = (begins.keeps told facts same units settled).settled (tt {0}) in
-      let is : facts ≡ facts_at pools session = own told facts end.units (same ∙ sym begins.shape) end.settled in
+      let end = (begins.keeps told facts same (tt {0}) units settled).settled (tt {0}) in
+      let is : facts ≡ facts_at pools session facts.inputs = own told facts end.units (same ∙ sym begins.shape) end.settled in
       subst (λ (u : List UnitModel). RunOn (record { facts = facts; today = today; held = held }) runs.ran runs.under runs.leaves.cut runs.leaves.added left.pending u) end.reached
       (subst (λ (f : Facts). RunOn (record { facts = f; today = today; held = held }) runs.ran runs.under runs.leaves.cut runs.leaves.added left.pending end.units) (sym is)
-      (runs.leaves.means told end.units (subst (λ (f : Facts). IsSettled f (pools.disk session.pool).state end.units) is end.settled)))
+      (runs.leaves.means facts.inputs told end.units (settled_with no_inputs (subst (λ (f : Facts). IsSettled f (pools.disk session.pool).state end.units) is end.settled))))
 
   pub opens_run : IsRun pools.tells (shown pools pool) (shown pools left.pool) (left.end ≢ ends.Pool) left.steps left.pending
   opens_run =
@@ -101,7 +102,7 @@ module _ {P : Type 0} (pools : Ghosts P) (pool : P) (session : SessionView P) (p
 
   pub runs_text : (serials : List Serial) → (pools.tells → MayOpen (pools.shape pool) (pools.disk pool).state.contents serials)
       → (pools.tells → Runs (of_opening (journal_of (pools.shape pool)) (pools.disk pool).state.contents) (pools.disk pool) (pools.disk session.pool))
-      → (pools.tells → is_open ((pools.disk session.pool).state.contents (journal_of (pools.shape session.pool)) 1) ≡ false) → RunsText pools files out pool serials held today plan left
+      → (pools.tells → IsFinished (pools.shape session.pool) (pools.disk session.pool).state.contents) → RunsText pools files out pool serials held today plan left
   runs_text serials opened opening closed = record {
     opened = opened;
     ran = runs.ran;

@@ -25,7 +25,8 @@ use Rattle.job_copies.specs.unit_change.Described.{Describes, DescribesSet}
 use Rattle.job_copies.specs.unit_change.Changed.{extents_of, set_put, sets_put}
 use Rattle.unit_load.specs.declared.state.UnitState.{UnitState}
 use Rattle.move_core.specs.declared.steps.Step.TheVariants as steps
-use Rattle.move_core.specs.Steps.{IsCopy, IsNewKind, LieOnCylinders, extents_on, fields_at, tracks_for, empty_text}
+use Rattle.move_core.specs.Facts.{Original}
+use Rattle.move_core.specs.Steps.{original_of, IsOriginal, IsCopy, IsNewKind, LieOnCylinders, extents_on, fields_at, tracks_for, empty_text}
 use Rattle.job_copies.specs.unit_steps.declared.plan.Plan.{Plan}
 use Rattle.job_copies.specs.unit_steps.Plans.{IsLoadedAt, HasRow, IsPlan, putting, extents_in}
 use Rattle.job_copies.proofs.unit_steps.OneChange.{same_volume}
@@ -179,14 +180,16 @@ module _ {units : List UnitState} {transfer : Transfer} {case : Case} (is : IsTr
         ∙ (λ i. tracks_for (heads_of ((ap (λ (v : Volume). v.device) target_is ∙ sym is.to_is.device_is) i)) plan.copy.kind
         ((ap (λ (l : List Extent). length (tracks_of l)) set_extents ∙ sym is.long) i))
 
-    is_copy : IsCopy case.from case.to case.set case.new transfer.runs copy
+    -- what the copy is made of
+    abbrev original : Original
+    original = original_of case.from case.set plan.copy.kind
+
+    is_copy : IsCopy case.to original case.new transfer.runs copy
     is_copy = record {
       like = devices;
       lawful = subst IsDsn (sym is.new_is) plan.copy.lawful;
       name_is = subst (λ (n : Dsn). IsNameOf n plan.copy.row.name) (sym is.new_is) plan.copy.named;
       fields_are = row_fields;
-      kind = plan.copy.kind;
-      kind_is = kind_is;
       whole = subst (λ (d : Device). LieOnCylinders (heads_of d) plan.copy.kind transfer.runs) (ap (λ (v : Volume). v.device) target_is ∙ sym is.to_is.device_is) plan.copy.whole;
       extents_are = row_extents;
       size = ap (λ (l : List Extent). length (tracks_of l)) row_extents ∙ size_is;
@@ -234,9 +237,11 @@ module _ {units : List UnitState} {transfer : Transfer} {case : Case} (is : IsTr
         subst (LacksRoom is.target) plan.copy.change_is
         (subst (λ (v : Volume). LacksRoom v plan.change) (same_volume units transfer.to.unit volume is.target loaded is.target_loaded) lacks) in (
           transfer.runs,
+          original,
           copy,
           gone.0,
           is.placed,
+          record { kind_is = kind_is; original_is = refl },
           is_copy,
           gone.1,
           subst (IsFullFor case.to gone.0) (puts_sets transfer.replaced copy_texts)
@@ -245,25 +250,28 @@ module _ {units : List UnitState} {transfer : Transfer} {case : Case} (is : IsTr
 
     -- ---- the copy fits
 
-    same_copy : (other : DataSet) → IsCopy case.from case.to case.set case.new transfer.runs other → IsPut other → set_put (heads_of is.target.device) plan.copy.row other.texts ≡ other
-    same_copy other copied put =
+    same_copy : (from : Original) (other : DataSet) → IsOriginal case.from case.set from → IsCopy case.to from case.new transfer.runs other → IsPut other
+        → set_put (heads_of is.target.device) plan.copy.row other.texts ≡ other
+    same_copy from other origin copied put =
         let name : plan.copy.row.name ≡ other.name = one_text transfer.to.name plan.copy.row.name other.name plan.copy.named (subst (λ (n : Dsn). IsNameOf n other.name) is.new_is copied.name_is) in
         let fields : fields_of_1 plan.copy.row.f1 ≡ other.fields =
-        row_fields ∙ ap (λ (n : List ℕ). fields_at n case.to.serial case.set.fields) name ∙ sym copied.fields_are in
-        let kinds : plan.copy.kind ≡ copied.kind = one_kind case.set.extents plan.copy.kind copied.kind kind_is copied.kind_is in
+        row_fields ∙ ap (λ (n : List ℕ). fields_at n case.to.serial case.set.fields) name ∙ ap (λ (o : Original). fields_at other.name case.to.serial o.fields) (sym origin.original_is)
+        ∙ sym copied.fields_are in
+        let kinds : plan.copy.kind ≡ from.kind = one_kind case.set.extents plan.copy.kind from.kind kind_is origin.kind_is in
         let extents : extents_of (heads_of is.target.device) plan.copy.row ≡ other.extents =
         row_extents ∙ ap (λ (k : ℕ). extents_on k transfer.runs) kinds ∙ sym copied.extents_are in
         let threes : threes_for (length plan.copy.row.extents) ≡ other.threes =
         threes_row ∙ ap (λ (l : List Extent). threes_for (length l)) (sym row_extents ∙ extents) ∙ sym put.threes_are in
         (λ i. record { name = name i; fields = fields i; extents = extents i; texts = other.texts; threes = threes i })
 
-    pub fits_copy : FittingChangesAreNotFull → (next : Volume) → IsNext is.target plan.change next → (other : DataSet) (gone : List DataSet) → IsCopy case.from case.to case.set case.new transfer.runs other
+    pub fits_copy : FittingChangesAreNotFull → (next : Volume) → IsNext is.target plan.change next → (from : Original) (other : DataSet) (gone : List DataSet)
+        → IsOriginal case.from case.set from → IsCopy case.to from case.new transfer.runs other
         → GoFor case gone → ¬ IsFullFor case.to gone (other ∷ [])
-    fits_copy law next next_is other gone copied go full =
+    fits_copy law next next_is from other gone origin copied go full =
         let put : IsPut other = All-head IsPut other [] full.3.are_put in
         law is.target next case.to (putting transfer.replaced transfer.to.name plan.copy.row) gone other.texts is.target_sound is.to_is may_change
         (putting_no_mark transfer.replaced transfer.to.name plan.copy.row) (gone_of gone go) (subst (λ (c : Change). IsNext is.target c next) plan.copy.change_is next_is)
-        (subst (IsFullFor case.to gone) (sym (puts_sets transfer.replaced other.texts ∙ ap (λ (s : DataSet). s ∷ []) (same_copy other copied put))) full)
+        (subst (IsFullFor case.to gone) (sym (puts_sets transfer.replaced other.texts ∙ ap (λ (s : DataSet). s ∷ []) (same_copy from other origin copied put))) full)
 
   -- ---- the origin goes
 
@@ -407,9 +415,9 @@ module _ {units : List UnitState} {transfer : Transfer} {case : Case} (is : IsTr
     has_room (inl (unstated, full)) =
         let fits = states_target unstated in
         repair_fits_now transfer.to.unit is.target case.to is.target_loaded is.target_sound is.to_is law fits.plan fits.step_is fits.lawful fits.next full
-    has_room (inr (inl (to, copy, gone, places, copied, go, full))) =
-        fits_copy planned law put_next.0 put_next.1 copy gone
-        (subst (λ (runs : List Run). IsCopy case.from case.to case.set case.new runs copy) (one_places case to transfer.runs list choice places is.placed) copied) go full
+    has_room (inr (inl (to, from, copy, gone, places, origin, copied, go, full))) =
+        fits_copy planned law put_next.0 put_next.1 from copy gone origin
+        (subst (λ (runs : List Run). IsCopy case.to from case.new runs copy) (one_places case to transfer.runs list choice places is.placed) copied) go full
     has_room (inr (inr (carried, inl (unstated, full)))) =
         let fits = states_source carried unstated in
         repair_fits_now transfer.from.unit is.source case.from is.source_loaded is.source_sound is.from_is law fits.plan fits.step_is fits.lawful fits.next full

@@ -34,7 +34,7 @@ module _ {P B : Type 0} {Own : B → Type 0} (pools : Ghosts P) (seen : OutDd B 
       is.1 ∙ ends.steps_are,
       subst (λ (s : SessionView P). KeepsFacts pools session s) (sym is.0) ends.facts,
       subst (λ (s : SessionView P). IsRun pools.tells (shown pools session.pool) (shown pools s.pool) (Unit {0}) ends.added None) (sym is.0) ends.run,
-      λ told units settled. record {
+      λ inputs told units settled. record {
         means = subst (λ (l : List Message). MeansWhole (MeansOnVolumes (setting_of pools session held today) command) command units ends.added l) (sym (is.2 ∙ ends.messages_are)) (ends.ended told units settled);
         code_is = is.3 ∙ ap (λ (l : List Message). greatest_code l) (sym is.2);
       },
@@ -71,12 +71,12 @@ module _ {P B : Type 0} {Own : B → Type 0} (pools : Ghosts P) (seen : OutDd B 
           was.run.cause (λ short. short),
           is.2 ∙ starts (λ short. subst (λ (c : Cut P). IsShort c) is.0 short),
           was.run,
-          was.cut,
+          λ inputs. was.cut,
           is.4,
         )
     ends_cut (outcomes.Short kept outs report steps) is =
         let was : EndsAs (cuts.Short kept) = subst EndsAs is.0 ends in
-        (was.added, is.1 ∙ was.steps_are, was.facts, says report.messages was.added is.2 was.steps_are, was.run, was.cut, is.4)
+        (was.added, is.1 ∙ was.steps_are, was.facts, says report.messages was.added is.2 was.steps_are, was.run, λ inputs. was.cut, is.4)
 
 -- ---- what only reads
 

@@ -26,7 +26,7 @@ use Rattle.job_ops.specs.Setting.{facts_of}
 use Rattle.job_ops.specs.Reshaping.{step_of, IsReshaped, NeedsRepair, IsKnown, IsTarget, steps_of_reshape, LacksRoomToReshape, HasRoomToReshape, StaysChangeable, CutKeepsFacts, ReshapeAnswers, EndsReshape}
 use Rattle.job_ops.proofs.ReshapeTargets.{PlansReshape, one_put, put, put_reshaped}
 use Rattle.job_ops.proofs.ReshapeRoom.{change_full, change_fits, repair_full, repair_fits}
-use Rattle.job_ops.proofs.SameSessions.{keeps_same, keeps_then, same_then}
+use Rattle.job_ops.proofs.SameSessions.{facts_kept, keeps_same, keeps_then, same_then}
 
 module _ {P : Type 0} (pools : Ghosts P) where
   -- ---- sessions
@@ -34,7 +34,7 @@ module _ {P : Type 0} (pools : Ghosts P) where
   -- what holds for the units of a session holds for those of the same one
   pub for_same : {old new : SessionView P} {Holds : List UnitModel → Type 0} → IsSameSession pools old new → ForUnits pools new Holds → ForUnits pools old Holds
   for_same {old} {new} same holds told units settled =
-      let facts : facts_of pools new ≡ facts_of pools old = λ i. record { shape = same.shape i; names = same.names i; room = same.room i } in
+      let facts : facts_of pools new ≡ facts_of pools old = facts_kept pools (keeps_same pools same) in
       holds told units
       (subst (λ (f : Facts). IsSettled f (pools.disk new.pool).state units) (sym facts)
       (subst (λ (state : State). IsSettled (facts_of pools old) state units) (sym (same.state told)) settled))

@@ -6,7 +6,7 @@ use Rattle.dasd_pool.specs.Disk.{State}
 use Rattle.dasd_pool.specs.declared.pool.Pool.{Ghosts}
 use Rattle.volume_model.specs.Unit.{UnitModel}
 use Rattle.move_core.specs.declared.steps.Step.{Step}
-use Rattle.move_core.specs.Facts.{Facts, shown}
+use Rattle.move_core.specs.Facts.{Facts, no_inputs, shown}
 use Rattle.move_core.specs.Runs.{IsRun}
 use Rattle.move_core.specs.Stands.{IsSettled}
 use Rattle.move_core.proofs.Running.{run_idle, run_then}
@@ -33,7 +33,7 @@ module _ {P : Type 0} (pools : Ghosts P) where
   no_change session = record { shape = refl; names = refl; room = refl }
 
   pub facts_kept : {old new : SessionView P} → KeepsFacts pools old new → facts_of pools new ≡ facts_of pools old
-  facts_kept {old} {new} keeps = λ i. record { shape = keeps.shape i; names = keeps.names i; room = keeps.room i }
+  facts_kept {old} {new} keeps = λ i. record { shape = keeps.shape i; names = keeps.names i; room = keeps.room i; inputs = no_inputs }
 
   pub keeps_same : {old new : SessionView P} → IsSameSession pools old new → KeepsFacts pools old new
   keeps_same {old} {new} same = record { shape = same.shape; names = same.names; room = same.room }

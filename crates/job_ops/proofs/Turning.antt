@@ -64,7 +64,7 @@ module _ {P : Type 0} (pools : Ghosts P) (facts : Facts) (Turn : Dsn → Action)
     -- the units behind the turn
     between : pools.tells → (units : List UnitModel) → IsSettled (facts_of pools session) (pools.disk session.pool).state units
         → EndsSettled (facts_of pools session) (pools.disk next.pool) units turn.added None
-    between told units settled = (turn.run.keeps told (facts_of pools session) refl units settled).settled (tt {0})
+    between told units settled = (turn.run.keeps told (facts_of pools session) refl (tt {0}) units settled).settled (tt {0})
 
     settled_next : (units : List UnitModel) → IsSettled (facts_of pools session) (pools.disk next.pool).state units → IsSettled (facts_of pools next) (pools.disk next.pool).state units
     settled_next units settled = subst (λ (f : Facts). IsSettled f (pools.disk next.pool).state units) (sym (facts_kept pools turn.facts)) settled

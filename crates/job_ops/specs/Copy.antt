@@ -16,7 +16,8 @@ use Rattle.move_core.specs.declared.steps.Origin.TheVariants as origins
 use Rattle.move_core.specs.declared.steps.Step.{Step}
 use Rattle.move_core.specs.declared.steps.Step.TheVariants as steps
 use Rattle.move_core.specs.Stands.{IsGood}
-use Rattle.move_core.specs.Steps.{IsCopy}
+use Rattle.move_core.specs.Facts.{Original}
+use Rattle.move_core.specs.Steps.{IsOriginal, IsCopy}
 use Rattle.job_copies.specs.step_room.Room.{IsFullFor}
 use Rattle.job_lines.specs.declared.message.Message.{Message}
 use Rattle.job_lines.specs.declared.message.Message.TheVariants as messages
@@ -49,7 +50,7 @@ GoFor case gone = ((other : DataSet) × Replaces case other × (gone ≡ other �
 -- the VTOC of the volume that it goes to has no room for its copy
 abbrev pub LacksRoomForCopy : Case → Type 0
 LacksRoomForCopy case =
-    (to : List Run) × (copy : DataSet) × (gone : List DataSet) × ArePlacesFor case to × IsCopy case.from case.to case.set case.new to copy × GoFor case gone
+    (to : List Run) × (original : Original) × (copy : DataSet) × (gone : List DataSet) × ArePlacesFor case to × IsOriginal case.from case.set original × IsCopy case.to original case.new to copy × GoFor case gone
     × IsFullFor case.to gone (copy ∷ [])
 
 -- A VTOC has no room: that of the volume that it goes to, for stating its free space, where it isn't stated, or for the copy; or that of its own, where it goes

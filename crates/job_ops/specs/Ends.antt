@@ -10,7 +10,7 @@ use Rattle.sysin_lang.specs.declared.command.Command.{Command}
 use Rattle.sysin_lang.specs.declared.command.Command.TheVariants as commands
 use Rattle.volume_model.specs.Unit.{UnitModel}
 use Rattle.move_core.specs.declared.steps.Step.{Step}
-use Rattle.move_core.specs.Facts.{shown}
+use Rattle.move_core.specs.Facts.{Inputs, shown}
 use Rattle.move_core.specs.Runs.{IsRun}
 use Rattle.move_core.specs.Stands.{IsSettled}
 use Rattle.job_steps.specs.unit_session.Sessions.{SessionView}
@@ -24,7 +24,7 @@ use Rattle.job_ops.specs.declared.report.Report.{Report}
 use Rattle.job_ops.specs.declared.outcome.Outcome.{Outcome}
 use Rattle.job_ops.specs.declared.outcome.Outcome.TheVariants as outcomes
 use Rattle.job_ops.specs.Meaning.{verb_of, IsReport, MeansStatement, IsCutCommand}
-use Rattle.job_ops.specs.Setting.{facts_of, setting_of}
+use Rattle.job_ops.specs.Setting.{facts_of, setting_for}
 use Rattle.job_ops.specs.Turns.{Action}
 
 -- for all units that the session's pool stands for, where it tells
@@ -96,16 +96,16 @@ abbrev pub EndsStatement : {P B : Type 0} {Own : B → Type 0} → Ghosts P → 
 EndsStatement pools seen files ins session command held today before (outcomes.Done next outs report steps) =
     (added : List Step) × (steps.items ≡ before ++ added) × KeepsFacts pools session next
     × IsRun pools.tells (shown pools session.pool) (shown pools next.pool) (Unit {0}) added None
-    × ForUnits pools session (λ units. MeansStatement (setting_of pools session held today) command (left_files seen files ins outs.items) units added report)
+    × ((inputs : Inputs) → ForUnits pools session (λ units. MeansStatement (setting_for pools session inputs held today) command (left_files seen files ins outs.items) units added report))
     × IsReport command report
 EndsStatement pools seen files ins session command held today before (outcomes.Halted broken outs report steps) =
     (added : List Step) × (steps.items ≡ before ++ added) × Rose (pools.faults session.pool) (pools.faults broken.pool) × SaysStarted command report
     × IsRun pools.tells (shown pools session.pool) (shown pools broken.pool) ⊥ added broken.pending
-    × ForUnits pools session (λ units. IsCutCommand (setting_of pools session held today) command (left_files seen files ins outs.items) units added broken.pending) × (report.code ≡ 0)
+    × ((inputs : Inputs) → ForUnits pools session (λ units. IsCutCommand (setting_for pools session inputs held today) command (left_files seen files ins outs.items) units added broken.pending)) × (report.code ≡ 0)
 EndsStatement pools seen files ins session command held today before (outcomes.Short kept outs report steps) =
     (added : List Step) × (steps.items ≡ before ++ added) × KeepsFacts pools session kept × (((report.messages ≡ []) × (added ≡ [])) ⊎ SaysStarted command report)
     × IsRun pools.tells (shown pools session.pool) (shown pools kept.pool) (Unit {0}) added None
-    × ForUnits pools session (λ units. IsCutCommand (setting_of pools session held today) command (left_files seen files ins outs.items) units added None) × (report.code ≡ 0)
+    × ((inputs : Inputs) → ForUnits pools session (λ units. IsCutCommand (setting_for pools session inputs held today) command (left_files seen files ins outs.items) units added None)) × (report.code ≡ 0)
 
 -- a statement that was cut ended so, with these outputs and steps and the first of its messages
 abbrev pub IsCutOutcome : {P B : Type 0} {Own : B → Type 0} → Cut P → List (OutDd B Own) → List Step → List Message → Outcome P B Own → Type 0

@@ -13,7 +13,7 @@ use Rattle.job_lines.specs.declared.message.Message.{Message}
 use Rattle.job_lines.specs.declared.message.Message.TheVariants as messages
 use Rattle.job_lines.specs.Severity.{greatest_code}
 use Rattle.job_ops.specs.declared.report.Report.{Report}
-use Rattle.job_ops.specs.Setting.{Setting}
+use Rattle.job_ops.specs.Setting.{Setting, without_inputs}
 use Rattle.job_ops.specs.Listing.{Prints}
 use Rattle.job_ops.specs.declared.task.Task.{Task}
 use Rattle.job_ops.specs.declared.task.Task.TheVariants as tasks
@@ -71,10 +71,10 @@ CallsNoFile _ = Unit {0}
 
 -- What any command does and says, on the units and with the outputs and inputs. A command that dumps or restores will have a case of its own.
 abbrev pub Means : Setting → Command → FilesSeen → Action
-Means setting command files = MeansOnVolumes setting command
+Means setting command files = MeansOnVolumes (without_inputs setting) command
 
 abbrev pub IsCutCommand : Setting → Command → FilesSeen → List UnitModel → List Step → Option Step → Type 0
-IsCutCommand setting command files = IsCutOnVolumes setting command
+IsCutCommand setting command files = IsCutOnVolumes (without_inputs setting) command
 
 abbrev pub verb_of : Command → Verb
 verb_of command = verb_of_form (form_of command)

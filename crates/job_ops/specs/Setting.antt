@@ -3,7 +3,7 @@ use Rattle.std.specs.Prelude.{List}
 use Rattle.by_rules.specs.declared.day.Day.{Day}
 use Rattle.dasd_pool.specs.declared.pool.Pool.{Ghosts}
 use Rattle.enq_table.specs.declared.hold.Hold.{Hold}
-use Rattle.move_core.specs.Facts.{Facts}
+use Rattle.move_core.specs.Facts.{Facts, Inputs, no_inputs}
 use Rattle.job_steps.specs.unit_session.Sessions.{SessionView}
 
 -- what never changes of the pool, the day, and the table of holds
@@ -12,9 +12,19 @@ pub record Setting : Type 0 where
   pub today : Day
   pub held : List Hold
 
--- what never changes of a session's pool
+-- what never changes of a session's pool, where the inputs hold this
+abbrev pub facts_for : {P : Type 0} → Ghosts P → SessionView P → Inputs → Facts
+facts_for pools session inputs = record { shape = pools.shape session.pool; names = session.names; room = session.room; inputs = inputs }
+
+abbrev pub setting_for : {P : Type 0} → Ghosts P → SessionView P → Inputs → List Hold → Day → Setting
+setting_for pools session inputs held today = record { facts = facts_for pools session inputs; today = today; held = held }
+
+-- and where they hold nothing: what calls no input is judged so
 abbrev pub facts_of : {P : Type 0} → Ghosts P → SessionView P → Facts
-facts_of pools session = record { shape = pools.shape session.pool; names = session.names; room = session.room }
+facts_of pools session = facts_for pools session no_inputs
 
 abbrev pub setting_of : {P : Type 0} → Ghosts P → SessionView P → List Hold → Day → Setting
-setting_of pools session held today = record { facts = facts_of pools session; today = today; held = held }
+setting_of pools session held today = setting_for pools session no_inputs held today
+
+abbrev pub without_inputs : Setting → Setting
+without_inputs setting = record setting { facts = record setting.facts { inputs = no_inputs } }

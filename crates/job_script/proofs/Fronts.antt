@@ -12,7 +12,8 @@ use Rattle.dump_fmt.specs.Outs.{OutSeen, InSeen, Files, FilesSeen}
 use Rattle.enq_table.specs.declared.hold.Hold.{Hold}
 use Rattle.volume_model.specs.Unit.{UnitModel}
 use Rattle.move_core.specs.declared.steps.Step.{Step}
-use Rattle.move_core.specs.Facts.{Facts, shown}
+use Rattle.move_core.specs.Facts.{Facts, Inputs, no_inputs, shown}
+use Rattle.move_core.proofs.Resuming.{settled_with}
 use Rattle.move_core.specs.Runs.{IsRun}
 use Rattle.move_core.specs.Stands.{IsSettled}
 use Rattle.move_core.specs.Steps.{Reaches}
@@ -27,7 +28,7 @@ use Rattle.sysin_lang.specs.Flow.{Codes, Plan, Command, End, zero_codes, next_of
 use Rattle.job_ops.specs.unit_session.Sessions.{SessionView}
 use Rattle.job_ops.specs.declared.report.Report.{Report}
 use Rattle.job_ops.specs.Ends.{ForUnits, KeepsFacts}
-use Rattle.job_ops.specs.Setting.{Setting, facts_of, setting_of}
+use Rattle.job_ops.specs.Setting.{Setting, facts_of, facts_for, setting_for}
 use Rattle.job_script.specs.declared.left.Left.{Left}
 use Rattle.job_script.specs.declared.run.Between.{Between}
 use Rattle.job_script.specs.Built.{AreBuilt}
@@ -72,14 +73,14 @@ pub record RanSoFar {P : Type 0} (pools : Ghosts P) (first now : SessionView P) 
   pub run : IsRun pools.tells (shown pools first.pool) (shown pools now.pool) (Unit {0}) (steps_of ran) None
   pub quiet : All IsListing ran → now.pool ≡ first.pool
   pub handed : HandOn files_first ran files_now
-  pub units : ForUnits pools first (SettledAfter pools first now (setting_of pools first held today) ran)
+  pub units : (inputs : Inputs) → ForUnits pools first (SettledAfter pools first now (setting_for pools first inputs held today) ran)
 
-facts_same : {P : Type 0} (pools : Ghosts P) {old new : SessionView P} → KeepsFacts pools old new → facts_of pools new ≡ facts_of pools old
-facts_same {P} pools {old} {new} keeps = λ i. record { shape = keeps.shape i; names = keeps.names i; room = keeps.room i }
+facts_same : {P : Type 0} (pools : Ghosts P) {old new : SessionView P} (inputs : Inputs) → KeepsFacts pools old new → facts_for pools new inputs ≡ facts_for pools old inputs
+facts_same {P} pools {old} {new} inputs keeps = λ i. record { shape = keeps.shape i; names = keeps.names i; room = keeps.room i; inputs = inputs }
 
-setting_same : {P : Type 0} (pools : Ghosts P) {old new : SessionView P} (held : List Hold) (today : Day) → KeepsFacts pools old new
-    → setting_of pools new held today ≡ setting_of pools old held today
-setting_same {P} pools {old} {new} held today keeps = λ i. record { facts = facts_same pools keeps i; today = today; held = held }
+setting_same : {P : Type 0} (pools : Ghosts P) {old new : SessionView P} (inputs : Inputs) (held : List Hold) (today : Day) → KeepsFacts pools old new
+    → setting_for pools new inputs held today ≡ setting_for pools old inputs held today
+setting_same {P} pools {old} {new} inputs held today keeps = λ i. record { facts = facts_same pools inputs keeps i; today = today; held = held }
 
 -- a statement that ended
 abbrev pub ran_of : Statement → List Step → Report → FilesSeen → Ran
@@ -101,7 +102,7 @@ ran_none {P} pools first held today plan left codes steps files taken faults bui
   run = run_idle (tt {0});
   quiet = λ listed. refl;
   handed = refl;
-  units = λ told units settled. (units, refl, settled);
+  units = λ inputs told units settled. (units, refl, settled);
 }
 
 -- the same of codes and a place under other names
@@ -154,15 +155,15 @@ module _ {P B : Type 0} {Own : B → Type 0} (pools : Ghosts P) (seen : OutDd B 
         lines_all : lines_of so_far.ran ++ lines_in statement.number goes.said.messages ≡ lines_of (so_far.ran ++ (ran_of statement goes.added goes.said goes.files ∷ []))
         lines_all = ap (λ (l : List ℕ). lines_of so_far.ran ++ l) (sym (lines_one (ran_of statement goes.added goes.said goes.files))) ∙ sym (lines_join so_far.ran (ran_of statement goes.added goes.said goes.files ∷ []))
 
-        units_more : ForUnits pools first (SettledAfter pools first next.session (setting_of pools first held today) (so_far.ran ++ (ran_of statement goes.added goes.said goes.files ∷ [])))
-        units_more told units settled =
-            let was = so_far.units told units settled in
-            let same = facts_same pools so_far.facts in
-            let kept = (goes.run.keeps told (facts_of pools first) (sym so_far.facts.shape) was.0 was.2).settled (tt {0}) in
-            let means = goes.means told was.0 (subst (λ (f : Facts). IsSettled f (pools.disk now.session.pool).state was.0) (sym same) was.2) in
-            let here = subst (λ (s : Setting). Follow s (ran_of statement goes.added goes.said goes.files ∷ []) was.0 kept.units) (setting_same pools held today so_far.facts)
+        units_more : (inputs : Inputs) → ForUnits pools first (SettledAfter pools first next.session (setting_for pools first inputs held today) (so_far.ran ++ (ran_of statement goes.added goes.said goes.files ∷ [])))
+        units_more inputs told units settled =
+            let was = so_far.units inputs told units settled in
+            let same = facts_same pools inputs so_far.facts in
+            let kept = (goes.run.keeps told (facts_for pools first inputs) (sym so_far.facts.shape) (tt {0}) was.0 (settled_with inputs was.2)).settled (tt {0}) in
+            let means = goes.means inputs told was.0 (subst (λ (f : Facts). IsSettled f (pools.disk now.session.pool).state was.0) (sym (facts_same pools no_inputs so_far.facts)) was.2) in
+            let here = subst (λ (s : Setting). Follow s (ran_of statement goes.added goes.said goes.files ∷ []) was.0 kept.units) (setting_same pools inputs held today so_far.facts)
             (means, (kept.units, subst (λ (f : Facts). Reaches f was.0 goes.added kept.units) (sym same) kept.reached, refl)) in
-            (kept.units, follow_join (setting_of pools first held today) so_far.ran (ran_of statement goes.added goes.said goes.files ∷ []) units was.0 kept.units was.1 here, kept.settled)
+            (kept.units, follow_join (setting_for pools first inputs held today) so_far.ran (ran_of statement goes.added goes.said goes.files ∷ []) units was.0 kept.units was.1 here, settled_with no_inputs kept.settled)
 
   -- ---- what is left behind it
 
@@ -203,12 +204,12 @@ module _ {P B : Type 0} {Own : B → Type 0} (pools : Ghosts P) (seen : OutDd B 
       later = omega (arith, so_far.later, leaves.printed.later);
     }
 
-    units_all : ForUnits pools first (RunOn (setting_of pools first held today) (so_far.ran ++ ran) under leaves.cut leaves.added after.pending)
-    units_all told units settled =
-        let was = so_far.units told units settled in
-        let on = leaves.means told was.0 (subst (λ (f : Facts). IsSettled f (pools.disk now.session.pool).state was.0) (sym (facts_same pools so_far.facts)) was.2) in
-        let same = subst (λ (s : Setting). RunOn s ran under leaves.cut leaves.added after.pending was.0) (setting_same pools held today so_far.facts) on in
-        (same.0, follow_join (setting_of pools first held today) so_far.ran ran units was.0 same.0 was.1 same.1, same.2)
+    units_all : (inputs : Inputs) → ForUnits pools first (RunOn (setting_for pools first inputs held today) (so_far.ran ++ ran) under leaves.cut leaves.added after.pending)
+    units_all inputs told units settled =
+        let was = so_far.units inputs told units settled in
+        let on = leaves.means inputs told was.0 (subst (λ (f : Facts). IsSettled f (pools.disk now.session.pool).state was.0) (sym (facts_same pools no_inputs so_far.facts)) was.2) in
+        let same = subst (λ (s : Setting). RunOn s ran under leaves.cut leaves.added after.pending was.0) (setting_same pools inputs held today so_far.facts) on in
+        (same.0, follow_join (setting_for pools first inputs held today) so_far.ran ran units was.0 same.0 was.1 same.1, same.2)
 
     pub leaves_all : LeavesAfter pools first held today [] (record { before = files_first; after = files_new }) whole_out (so_far.ran ++ ran) under wanted after
     leaves_all = record {
@@ -324,7 +325,7 @@ module _ {P B : Type 0} {Own : B → Type 0} (pools : Ghosts P) (seen : OutDd B 
       quiet = λ listed. refl;
       cut = record { before = now_files; after = now_files };
       handed = record { found = refl; kept = tt {0}; left = refl; same = refl };
-      means = λ told units settled. (units, refl, (refl, refl));
+      means = λ inputs told units settled. (units, refl, (refl, refl));
     }
 
     pub ends_whole : (left_behind : Left P B Own) → left_behind.pool ≡ now.session.pool → left_behind.outs.items ≡ now.outs.items → left_behind.steps.items ≡ now.steps.items → left_behind.pending ≡ None

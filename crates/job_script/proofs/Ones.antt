@@ -10,7 +10,8 @@ use Rattle.dump_fmt.specs.declared.outs.OutDd.{OutDd}
 use Rattle.dump_fmt.specs.Outs.{OutSeen, InSeen, FilesSeen}
 use Rattle.enq_table.specs.declared.hold.Hold.{Hold}
 use Rattle.move_core.specs.declared.steps.Step.{Step}
-use Rattle.move_core.specs.Facts.{shown}
+use Rattle.move_core.specs.Facts.{Inputs, shown}
+use Rattle.move_core.proofs.Resuming.{settled_with}
 use Rattle.move_core.specs.Runs.{IsRun}
 use Rattle.move_core.proofs.Running.{run_idle, run_less}
 use Rattle.run_lines.specs.declared.ending.RunEnd.{RunEnd}
@@ -23,7 +24,7 @@ use Rattle.job_ops.specs.unit_session.Sessions.{SessionView}
 use Rattle.job_ops.specs.declared.report.Report.{Report}
 use Rattle.job_ops.specs.Ends.{ForUnits, KeepsFacts, OnlyReads}
 use Rattle.job_ops.specs.Meaning.{IsReport, MeansStatement, IsCutCommand}
-use Rattle.job_ops.specs.Setting.{facts_of, setting_of}
+use Rattle.job_ops.specs.Setting.{facts_for, setting_for}
 use Rattle.job_script.specs.declared.left.Left.{Left}
 use Rattle.job_script.specs.declared.run.Between.{Between}
 use Rattle.job_script.specs.Ends.{After, after_of, SinkSeen, Prints, LeavesAfter}
@@ -85,11 +86,11 @@ keeps_files seen seen_in outs ins none = λ i. seen_files seen (outs none i) (ma
 -- a whole statement, by itself
 pub means_one : {P : Type 0} (pools : Ghosts P) (session next : SessionView P) {held : List Hold} {today : Day} (one : Ran) (cut : FilesSeen)
     → IsRun pools.tells (shown pools session.pool) (shown pools next.pool) (Unit {0}) one.steps None
-    → ForUnits pools session (λ units. MeansStatement (setting_of pools session held today) one.statement.command one.files units one.steps one.report)
-    → ForUnits pools session (RunOn (setting_of pools session held today) (one ∷ []) None cut [] None)
-means_one {P} pools session next {held} {today} one cut run means told units settled =
-    let kept = (run.keeps told (facts_of pools session) refl units settled).settled (tt {0}) in
-    (kept.units, (means told units settled, (kept.units, kept.reached, refl)), (refl, refl))
+    → ((inputs : Inputs) → ForUnits pools session (λ units. MeansStatement (setting_for pools session inputs held today) one.statement.command one.files units one.steps one.report))
+    → (inputs : Inputs) → ForUnits pools session (RunOn (setting_for pools session inputs held today) (one ∷ []) None cut [] None)
+means_one {P} pools session next {held} {today} one cut run means inputs told units settled =
+    let kept = (run.keeps told (facts_for pools session inputs) refl (tt {0}) units (settled_with inputs settled)).settled (tt {0}) in
+    (kept.units, (means inputs told units settled, (kept.units, kept.reached, refl)), (refl, refl))
 
 module _ {P B : Type 0} {Own : B → Type 0} (pools : Ghosts P) (seen : OutDd B Own → OutSeen) (ins_before ins_after : List InSeen) (before : Between P B Own) (statement : Statement)
     (held : List Hold) (today : Day) (taken_before taken_after : Option (List ℕ)) (faults_before faults_after : ℕ) where
@@ -137,7 +138,7 @@ module _ {P B : Type 0} {Own : B → Type 0} (pools : Ghosts P) (seen : OutDd B 
       quiet = λ listed. refl;
       cut = files_with left.outs.items;
       handed = record { found = refl; kept = tt {0}; left = refl; same = λ i. seen_files seen (outs i) (ins i) };
-      means = λ told units settled. (units, refl, (refl, refl));
+      means = λ inputs told units settled. (units, refl, (refl, refl));
     }),
   )
     where
@@ -148,7 +149,7 @@ module _ {P B : Type 0} {Own : B → Type 0} (pools : Ghosts P) (seen : OutDd B 
 
   module _ (session : SessionView P) (outs : List (OutDd B Own)) (said : Report) (steps added : List Step) (steps_are : steps ≡ before.steps.items ++ added) (facts : KeepsFacts pools before.session session)
       (run : IsRun pools.tells (shown pools before.session.pool) (shown pools session.pool) (Unit {0}) added None)
-      (means : ForUnits pools before.session (λ units. MeansStatement (setting_of pools before.session held today) statement.command (files_with outs) units added said))
+      (means : (inputs : Inputs) → ForUnits pools before.session (λ units. MeansStatement (setting_for pools before.session inputs held today) statement.command (files_with outs) units added said))
       (report_is : IsReport statement.command said) (quiet : OnlyReads statement.command → session.pool ≡ before.session.pool) (kept : KeepsFiles statement (files_with outs)) where
     abbrev one : Ran
     one = record { statement = statement; steps = added; report = said; files = files_with outs }
@@ -247,9 +248,9 @@ module _ {P B : Type 0} {Own : B → Type 0} (pools : Ghosts P) (seen : OutDd B 
   -- ---- it was cut
 
   module _ (outs : List (OutDd B Own)) (added : List Step) (pending : Option Step)
-      (means : ForUnits pools before.session (λ units. IsCutCommand (setting_of pools before.session held today) statement.command (files_with outs) units added pending)) where
-    cut_on : ForUnits pools before.session (RunOn (setting_of pools before.session held today) [] (Some statement) (files_with outs) added pending)
-    cut_on told units settled = (units, refl, means told units settled)
+      (means : (inputs : Inputs) → ForUnits pools before.session (λ units. IsCutCommand (setting_for pools before.session inputs held today) statement.command (files_with outs) units added pending)) where
+    cut_on : (inputs : Inputs) → ForUnits pools before.session (RunOn (setting_for pools before.session inputs held today) [] (Some statement) (files_with outs) added pending)
+    cut_on inputs told units settled = (units, refl, means inputs told units settled)
 
     -- by a pool that failed
     pub halted_in : (left : Left P B Own) (pool : P) (started : List ℕ) → KeepsFiles statement (files_with outs) → left.outs.items ≡ outs → started ≡ started_line (Some statement) → left.pool ≡ pool → left.steps.items ≡ before.steps.items ++ added
@@ -292,7 +293,7 @@ module _ {P B : Type 0} {Own : B → Type 0} (pools : Ghosts P) (seen : OutDd B 
       → left.outs.items ≡ outs → started ≡ started_line (Some statement) → left.pool ≡ session.pool
       → left.steps.items ≡ before.steps.items ++ added → left.pending ≡ None → left.end ≡ ends.Memory
       → IsRun pools.tells (shown pools before.session.pool) (shown pools session.pool) (Unit {0}) added None
-      → ForUnits pools before.session (λ units. IsCutCommand (setting_of pools before.session held today) statement.command (files_with outs) units added None)
+      → ((inputs : Inputs) → ForUnits pools before.session (λ units. IsCutCommand (setting_for pools before.session inputs held today) statement.command (files_with outs) units added None))
       → AppendsSome taken_before taken_after started → faults_before ≤ faults_after → (OnlyReads statement.command → session.pool ≡ before.session.pool) → Ends (Err left)
   short_in left outs session added started kept same line at steps under end run means some later quiet = (
     [],

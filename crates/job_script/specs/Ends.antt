@@ -6,14 +6,14 @@ use Rattle.dasd_pool.specs.Stream.{Appends, AppendsSome}
 use Rattle.dasd_pool.specs.declared.pool.Pool.{Ghosts}
 use Rattle.enq_table.specs.declared.hold.Hold.{Hold}
 use Rattle.move_core.specs.declared.steps.Step.{Step}
-use Rattle.move_core.specs.Facts.{shown}
+use Rattle.move_core.specs.Facts.{Inputs, shown}
 use Rattle.move_core.specs.Runs.{IsRun}
 use Rattle.sysin_lang.specs.declared.command.Statement.{Statement}
 use Rattle.sysin_lang.specs.Flow.{Plan}
 use Rattle.job_ops.specs.unit_session.Sessions.{SessionView}
 use Rattle.job_ops.specs.Ends.{ForUnits}
 use Rattle.dump_fmt.specs.Outs.{FilesSeen}
-use Rattle.job_ops.specs.Setting.{setting_of}
+use Rattle.job_ops.specs.Setting.{setting_for}
 use Rattle.run_lines.specs.declared.ending.RunEnd.{RunEnd}
 use Rattle.run_lines.specs.declared.ending.RunEnd.TheVariants as ends
 use Rattle.run_lines.specs.Texts.{AppendsLess}
@@ -75,7 +75,7 @@ pub record LeavesAfter {P : Type 0} (pools : Ghosts P) (session : SessionView P)
   pub quiet : OnlyListed ran under → left.pool ≡ session.pool
   pub cut : FilesSeen
   pub handed : HandsOn files ran under cut
-  pub means : ForUnits pools session (RunOn (setting_of pools session held today) ran under cut added left.pending)
+  pub means : (inputs : Inputs) → ForUnits pools session (RunOn (setting_for pools session inputs held today) ran under cut added left.pending)
 
 -- A run of a script: its statements are those of its plan, by their codes.
 pub record EndsScript {P : Type 0} (pools : Ghosts P) (session : SessionView P) (plan : Plan) (held : List Hold) (today : Day) (files : FilesSeen) (out : SinkSeen) (left : After P) : Type 0 where

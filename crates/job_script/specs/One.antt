@@ -8,14 +8,14 @@ use Rattle.dump_fmt.specs.declared.outs.OutDd.{OutDd}
 use Rattle.dump_fmt.specs.Outs.{OutSeen, InSeen, Files, FilesSeen}
 use Rattle.enq_table.specs.declared.hold.Hold.{Hold}
 use Rattle.move_core.specs.declared.steps.Step.{Step}
-use Rattle.move_core.specs.Facts.{shown}
+use Rattle.move_core.specs.Facts.{Inputs, shown}
 use Rattle.move_core.specs.Runs.{IsRun}
 use Rattle.sysin_lang.specs.declared.command.Statement.{Statement}
 use Rattle.job_ops.specs.unit_session.Sessions.{SessionView}
 use Rattle.job_ops.specs.declared.report.Report.{Report}
 use Rattle.job_ops.specs.Ends.{ForUnits, KeepsFacts, OnlyReads}
 use Rattle.job_ops.specs.Meaning.{IsReport, MeansStatement}
-use Rattle.job_ops.specs.Setting.{setting_of}
+use Rattle.job_ops.specs.Setting.{setting_for}
 use Rattle.run_lines.specs.declared.ending.RunEnd.{RunEnd}
 use Rattle.run_lines.specs.declared.ending.RunEnd.TheVariants as ends
 use Rattle.run_lines.specs.Texts.{AppendsLess}
@@ -57,7 +57,7 @@ pub record GoesOn {P B : Type 0} {Own : B → Type 0} (pools : Ghosts P) (seen :
   pub found : files.before ≡ seen_files seen before.outs.items ins_before
   pub left : seen_files seen next.outs.items ins_after ≡ files.after
   pub kept : KeepsFiles statement files
-  pub means : ForUnits pools before.session (λ units. MeansStatement (setting_of pools before.session held today) statement.command files units added said)
+  pub means : (inputs : Inputs) → ForUnits pools before.session (λ units. MeansStatement (setting_for pools before.session inputs held today) statement.command files units added said)
 
 -- what a run is to be stopped by within a statement: the statement ended, or it was cut, or it didn't begin
 abbrev pub IsStoppedIn : Statement → List Ran → Option Statement → RunEnd → Type 0

@@ -8,7 +8,7 @@ use Rattle.redo_core.specs.Opening.{IsFormatted}
 use Rattle.redo_core.specs.Faults.{zeroed, HasSerial, LabelsAre, IsAllClosed, MayFormat, MayOpen}
 use Rattle.redo_core.proofs.Openings.{zeroed_there, overlay_there}
 use Rattle.volume_model.specs.Unit.{UnitModel}
-use Rattle.move_core.specs.Facts.{Facts}
+use Rattle.move_core.specs.Facts.{Facts, Inputs}
 use Rattle.move_core.specs.Stands.{Means, Stands, IsSettled}
 use Rattle.move_core.specs.Resuming.{new_reading}
 
@@ -29,6 +29,23 @@ formatted_settled facts old new units allowed formatted means = record {
 
 pub synced_settled : (facts : Facts) (state : State) (units : List UnitModel) → IsSynced state → Stands facts state.contents units → IsSettled facts state units
 synced_settled facts state units all stands = record { stands = stands; journal = λ b. all (journal_of facts.shape) b; vital = λ u b less rests. inl (all u b) }
+
+-- whatever the inputs hold
+pub settled_with : {facts : Facts} {state : State} {units : List UnitModel} (inputs : Inputs) → IsSettled facts state units → IsSettled (record facts { inputs = inputs }) state units
+settled_with {facts} {state} {units} inputs settled = record {
+  stands =
+      let stands = settled.stands in
+      record {
+        reading = stands.reading;
+        reads = stands.reads;
+        names_are = stands.names_are;
+        room_is = stands.room_is;
+        labels = stands.labels;
+        means = stands.means;
+      };
+  journal = settled.journal;
+  vital = settled.vital;
+}
 
 -- ---- no rule is broken
 

@@ -1,13 +1,14 @@
 -- What a run leaves of the units that a pool stood for.
 use Rattle.std.specs.Prelude.{◌≡◌, ℕ, ◌≤◌, false, List, [], ◌∷◌, ◌++◌, length, take, Option, Some, None, Result, Ok, Err}
 use Rattle.dasd_pool.specs.Count.{Rose}
-use Rattle.dasd_pool.specs.Disk.{Image, Disk, MayLeave, LeavesOnly, Runs, none}
-use Rattle.redo_core.specs.Format.{is_open}
+use Rattle.dasd_pool.specs.Disk.{Image, Shape, Disk, MayLeave, LeavesOnly, Runs, none}
+use Rattle.redo_core.specs.declared.control.Control.TheVariants.{Idle}
+use Rattle.redo_core.specs.Format.{is_open, control_in}
 use Rattle.redo_core.specs.Reading.{journal_of}
 use Rattle.redo_core.specs.Faults.{IsAllClosed}
 use Rattle.volume_model.specs.Unit.{UnitModel}
 use Rattle.move_core.specs.declared.steps.Step.{Step}
-use Rattle.move_core.specs.Facts.{Facts, Shown}
+use Rattle.move_core.specs.Facts.{Facts, HasInputs, Shown}
 use Rattle.move_core.specs.Steps.{Reaches}
 use Rattle.move_core.specs.Stands.{Stands, IsSettled}
 
@@ -53,20 +54,32 @@ KeepsEach facts old new ended steps pending =
     (units : List UnitModel) → IsSettled facts old.state units → KeepsUnits facts old new ended units steps pending
 
 -- What calls do to a pool that they were given: the shape stays, the count of faults doesn't fall and rises where they don't end, and, where
--- the pool tells, they keep the units that the pool stood for, but for the steps that they did.
-pub record AreCalls (tells : Type 0) (old new : Shown) (ended : Type 0) (steps : List Step) (pending : Option Step) : Type 0 where
+-- the pool tells, they keep the units that the pool stood for, but for the steps that they did, whatever the facts are that are allowed.
+pub record AreCallsFor (allows : Facts → Type 0) (tells : Type 0) (old new : Shown) (ended : Type 0) (steps : List Step) (pending : Option Step) : Type 0 where
   pub shape : new.shape ≡ old.shape
   pub later : old.faults ≤ new.faults
   pub cause : ¬ ended → Rose old.faults new.faults
-  pub keeps : tells → (facts : Facts) → facts.shape ≡ old.shape → KeepsEach facts old.disk new.disk ended steps pending
+  pub keeps : tells → (facts : Facts) → facts.shape ≡ old.shape → allows facts → KeepsEach facts old.disk new.disk ended steps pending
 
--- What a function of a run does: the same, and where it did no step, none is under way, and the gate was closed before, it wrote nothing.
-pub record IsRun (tells : Type 0) (old new : Shown) (ended : Type 0) (steps : List Step) (pending : Option Step) : Type 0 where
+-- An opening has nothing to write: the gate is closed, and no slide is open.
+pub record IsFinished (shape : Shape) (image : Image) : Type 0 where
+  pub gate : is_open (image (journal_of shape) 1) ≡ false
+  pub control : control_in (image (journal_of shape) 2) ≡ Idle
+
+-- What a function of a run does: the same, and where it did no step, none is under way, and there was nothing to finish before, it wrote nothing.
+pub record IsRunFor (allows : Facts → Type 0) (tells : Type 0) (old new : Shown) (ended : Type 0) (steps : List Step) (pending : Option Step) : Type 0 where
   pub shape : new.shape ≡ old.shape
   pub later : old.faults ≤ new.faults
   pub cause : ¬ ended → Rose old.faults new.faults
-  pub keeps : tells → (facts : Facts) → facts.shape ≡ old.shape → KeepsEach facts old.disk new.disk ended steps pending
-  pub still : tells → is_open (old.disk.state.contents (journal_of old.shape) 1) ≡ false → steps ≡ [] → pending ≡ None → Runs none old.disk new.disk
+  pub keeps : tells → (facts : Facts) → facts.shape ≡ old.shape → allows facts → KeepsEach facts old.disk new.disk ended steps pending
+  pub still : tells → IsFinished old.shape old.disk.state.contents → steps ≡ [] → pending ≡ None → Runs none old.disk new.disk
+
+-- so whatever the inputs hold
+abbrev pub AreCalls : Type 0 → Shown → Shown → Type 0 → List Step → Option Step → Type 0
+AreCalls tells old new ended steps pending = AreCallsFor (HasInputs None) tells old new ended steps pending
+
+abbrev pub IsRun : Type 0 → Shown → Shown → Type 0 → List Step → Option Step → Type 0
+IsRun tells old new ended steps pending = IsRunFor (HasInputs None) tells old new ended steps pending
 
 -- a call has ended where it answered Ok
 abbrev pub Ended : {T E : Type 0} → Result T E → Type 0

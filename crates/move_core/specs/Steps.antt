@@ -1,6 +1,7 @@
 -- What each step changes on the volumes.
 use Rattle.std.specs.Prelude.{◌≡◌, ◌≢◌, ◌⊎◌, ℕ, ◌-◌, ◌*◌, ◌%◌, ◌<◌, ◌≤◌, Bool, true, false, ◌==◌, nat_le, if◌then◌else◌, List, [], ◌∷◌, ◌++◌, length, map, take, drop, replicate, All, AllPairs, Contains, Some, bit_and, slice_get, slice_index}
 use Rattle.ckd_image.specs.Device.{heads_of, ceil_div}
+use Rattle.dd_names.specs.declared.dd.DdName.{DdName}
 use Rattle.dsn_filter.specs.declared.dsn.Dsn.{Dsn}
 use Rattle.dsn_filter.specs.Dsn.{IsDsn}
 use Rattle.free_map.specs.declared.run.Run.{Run}
@@ -8,12 +9,15 @@ use Rattle.free_map.specs.Runs.{HasTrack, InRuns}
 use Rattle.vol_label.specs.declared.serial.Serial.{Serial}
 use Rattle.volume_model.specs.Changed.{threes_for, ChangesSets}
 use Rattle.volume_model.specs.Pinned.{AreByCylinders, IsNameOf}
-use Rattle.volume_model.specs.Unit.{Text, good, Extent, DataSet, AreByName, OnlineVolume, UnitModel, online, run_in, tracks_of, IsFreeTrack}
+use Rattle.volume_model.specs.Reads.{IsUnit}
+use Rattle.volume_model.specs.Sound.{Slots}
+use Rattle.volume_model.specs.Unit.{Text, good, Extent, DataSet, AreByName, OnlineVolume, UnitModel, online, offline, run_in, tracks_of, IsFreeTrack}
+use Rattle.volume_model.specs.declared.why.Why.TheVariants as whys
 use Rattle.move_core.specs.declared.steps.Origin.{Origin}
 use Rattle.move_core.specs.declared.steps.Origin.TheVariants.{Row, Part}
 use Rattle.move_core.specs.declared.steps.Step.{Step}
-use Rattle.move_core.specs.declared.steps.Step.TheVariants.{Move, Shrink, Add, Replace, Delete, Carry, ResetFlag, Repair}
-use Rattle.move_core.specs.Facts.{Facts}
+use Rattle.move_core.specs.declared.steps.Step.TheVariants.{Move, Shrink, Add, Replace, Delete, Carry, ResetFlag, Repair, FillStart, FillEnd}
+use Rattle.move_core.specs.Facts.{Facts, Original}
 
 -- ---- one unit
 
@@ -92,7 +96,6 @@ pub record Moves (unit : ℕ) (name : Dsn) (to : List Run) (before after : List 
   pub as_many : length (tracks_of extents) ≡ length (tracks_of set.extents)
   pub change : ChangesUnit unit before after (set ∷ []) (moved set extents ∷ [])
   pub place : MayTake change.old (map run_in set.extents) to
-  pub begins : BeginOnCylinders (heads_in change.old) extents
 
 -- ---- a data set that keeps its place
 
@@ -142,10 +145,25 @@ pub record Deletes (unit : ℕ) (name : Dsn) (before after : List UnitModel) : T
 
 -- ---- a data set that is copied
 
--- the data set that a copy is made of, and its volume; of dumps none can be named yet
-abbrev pub IsOrigin : List UnitModel → Origin → OnlineVolume → DataSet → Type 0
-IsOrigin units (Row unit name) volume set = (slice_get units unit ≡ Some (online volume)) × Contains volume.sets set × IsNameOf name set.name
-IsOrigin units (Part input number) volume set = ⊥
+-- the data set of a name on a unit, and its volume
+pub record IsRow (units : List UnitModel) (unit : ℕ) (name : Dsn) (volume : OnlineVolume) (set : DataSet) : Type 0 where
+  pub at : slice_get units unit ≡ Some (online volume)
+  pub there : Contains volume.sets set
+  pub name_is : IsNameOf name set.name
+
+-- what a copy of a data set is made of, where its extents get this type
+abbrev pub original_of : OnlineVolume → DataSet → ℕ → Original
+original_of volume set kind = record { device = volume.device; fields = set.fields; kind = kind; texts = set.texts }
+
+-- what a copy of a data set is made of
+pub record IsOriginal (volume : OnlineVolume) (set : DataSet) (original : Original) : Type 0 where
+  pub kind_is : IsNewKind set.extents original.kind
+  pub original_is : original ≡ original_of volume set original.kind
+
+-- what a copy is made of: a data set of a unit, or a part of a dump that an input holds
+abbrev pub IsOrigin : Facts → List UnitModel → Origin → Original → Type 0
+IsOrigin facts units (Row unit name) original = (volume : OnlineVolume) × (set : DataSet) × IsRow units unit name volume set × IsOriginal volume set original
+IsOrigin facts units (Part input number) original = facts.inputs.part input number ≡ Some original
 
 -- the fields of a format 1 with another name and another volume's serial
 abbrev pub fields_at : List ℕ → Serial → List ℕ → List ℕ
@@ -161,17 +179,15 @@ tracks_for heads kind tracks = if kind == 0x81 then ceil_div tracks heads * head
 
 -- A copy under a name on a volume of a like device: it keeps the fields of its origin but for name and serial, and the texts; tracks behind them are
 -- empty. On an unlike device its records would be packed anew, which isn't built.
-pub record IsCopy (from volume : OnlineVolume) (origin : DataSet) (name : Dsn) (to : List Run) (copy : DataSet) : Type 0 where
-  pub like : volume.device ≡ from.device
+pub record IsCopy (volume : OnlineVolume) (original : Original) (name : Dsn) (to : List Run) (copy : DataSet) : Type 0 where
+  pub like : volume.device ≡ original.device
   pub lawful : IsDsn name
   pub name_is : IsNameOf name copy.name
-  pub fields_are : copy.fields ≡ fields_at copy.name volume.serial origin.fields
-  pub kind : ℕ
-  pub kind_is : IsNewKind origin.extents kind
-  pub whole : LieOnCylinders (heads_in volume) kind to
-  pub extents_are : copy.extents ≡ extents_on kind to
-  pub size : length (tracks_of copy.extents) ≡ tracks_for (heads_in volume) kind (length origin.texts)
-  pub texts_are : copy.texts ≡ origin.texts ++ replicate (length (tracks_of copy.extents) - length origin.texts) empty_text
+  pub fields_are : copy.fields ≡ fields_at copy.name volume.serial original.fields
+  pub whole : LieOnCylinders (heads_in volume) original.kind to
+  pub extents_are : copy.extents ≡ extents_on original.kind to
+  pub size : length (tracks_of copy.extents) ≡ tracks_for (heads_in volume) original.kind (length original.texts)
+  pub texts_are : copy.texts ≡ original.texts ++ replicate (length (tracks_of copy.extents) - length original.texts) empty_text
 
 -- what stands on a unit under the name of a copy goes, where something is replaced, and else nothing does
 abbrev pub Gives : Bool → OnlineVolume → DataSet → List DataSet → Type 0
@@ -179,41 +195,71 @@ Gives false volume copy gone = (gone ≡ []) × All (λ other. other.name ≢ co
 Gives true volume copy gone = (old : DataSet) × (gone ≡ old ∷ []) × (old.name ≡ copy.name)
 
 -- A copy is put on free tracks of a unit, beside the data sets that are there or in the place of the one that has its name.
-pub record Copies (replaced : Bool) (from : OnlineVolume) (origin : DataSet) (unit : ℕ) (name : Dsn) (to : List Run) (before after : List UnitModel) : Type 0 where
+pub record Copies (replaced : Bool) (original : Original) (unit : ℕ) (name : Dsn) (to : List Run) (before after : List UnitModel) : Type 0 where
   pub gone : List DataSet
   pub copy : DataSet
   pub change : ChangesUnit unit before after gone (copy ∷ [])
-  pub copy_is : IsCopy from change.old origin name to copy
+  pub copy_is : IsCopy change.old original name to copy
   pub gives : Gives replaced change.old copy gone
   pub place : MayTake change.old [] to
 
 -- a data set of a unit, or a part of a dump, is put on another unit or the same
-pub record Puts (replaced : Bool) (origin : Origin) (unit : ℕ) (name : Dsn) (to : List Run) (before after : List UnitModel) : Type 0 where
-  pub from : OnlineVolume
-  pub set : DataSet
-  pub origin_is : IsOrigin before origin from set
-  pub copies : Copies replaced from set unit name to before after
+pub record Puts (facts : Facts) (replaced : Bool) (origin : Origin) (unit : ℕ) (name : Dsn) (to : List Run) (before after : List UnitModel) : Type 0 where
+  pub original : Original
+  pub origin_is : IsOrigin facts before origin original
+  pub copies : Copies replaced original unit name to before after
 
 -- a data set goes from one unit to another, at once
 pub record Carries (from : ℕ) (old : Dsn) (unit : ℕ) (name : Dsn) (to : List Run) (replaced : Bool) (before after : List UnitModel) : Type 0 where
   pub apart : from ≢ unit
+  pub volume : OnlineVolume
+  pub set : DataSet
+  pub row_is : IsRow before from old volume set
+  pub original : Original
+  pub original_is : IsOriginal volume set original
   pub between : List UnitModel
-  pub puts : Puts replaced (Row from old) unit name to before between
-  pub takes : ChangesUnit from between after (puts.set ∷ []) []
+  pub copies : Copies replaced original unit name to before between
+  pub takes : ChangesUnit from between after (set ∷ []) []
+
+-- ---- a volume that is restored as a whole
+
+-- what makes a unit's head no head of an image keeps it from being restored
+abbrev pub HasGoodHead : UnitModel → Type 0
+HasGoodHead (offline (whys.Head why) kept) = ⊥
+HasGoodHead model = Unit {0}
+
+-- From its start on a unit has no contents. Any unit but one of a bad head may be restored, where the input holds a full dump.
+pub record StartsFill (facts : Facts) (unit : ℕ) (input : DdName) (before after : List UnitModel) : Type 0 where
+  pub slots : Serial → Slots
+  pub full : facts.inputs.full input ≡ Some slots
+  pub old : UnitModel
+  pub head : HasGoodHead old
+  pub unit_is : Replaces unit old (offline whys.Filling []) before after
+
+-- With its end it is what the slots of the dump say, with the unit's own serial.
+pub record EndsFill (facts : Facts) (unit : ℕ) (input : DdName) (before after : List UnitModel) : Type 0 where
+  pub slots : Serial → Slots
+  pub full : facts.inputs.full input ≡ Some slots
+  pub serial : Serial
+  pub serial_is : slice_get facts.names unit ≡ Some serial
+  pub new : UnitModel
+  pub says : IsUnit false false (λ track. track) (facts.shape.head unit) (facts.shape.blocks unit) (slots serial) new
+  pub unit_is : Replaces unit (offline whys.Filling []) new before after
 
 -- ---- steps
 
--- What a step changes on a pool with these facts. The start and the end of a full restore aren't built.
+-- What a step changes on a pool with these facts.
 abbrev pub IsStep : Facts → Step → List UnitModel → List UnitModel → Type 0
 IsStep facts (Move unit name to) before after = Moves unit name to before after
 IsStep facts (Shrink unit name keep) before after = Shrinks unit name keep before after
-IsStep facts (Add unit name to origin) before after = Puts false origin unit name to before after
-IsStep facts (Replace unit name to origin) before after = Puts true origin unit name to before after
+IsStep facts (Add unit name to origin) before after = Puts facts false origin unit name to before after
+IsStep facts (Replace unit name to origin) before after = Puts facts true origin unit name to before after
 IsStep facts (Delete unit name) before after = Deletes unit name before after
 IsStep facts (Carry from old unit name to replaced) before after = Carries from old unit name to replaced before after
 IsStep facts (ResetFlag unit name) before after = Resets unit name before after
 IsStep facts (Repair unit) before after = ChangesUnit unit before after [] []
-IsStep facts step before after = ⊥
+IsStep facts (FillStart unit input) before after = StartsFill facts unit input before after
+IsStep facts (FillEnd unit input) before after = EndsFill facts unit input before after
 
 -- steps one after another
 abbrev pub Reaches : Facts → List UnitModel → List Step → List UnitModel → Type 0

@@ -5,7 +5,7 @@ ghost use Rattle.move_core.specs.Laws.{KeepsMeaning, EachImageStands, OpeningSta
 ghost use Rattle.move_core.specs.Loaded.{OneVtoc, LoadedIsOnline};
 ghost use Rattle.move_core.specs.Resuming.{FormattedIsSettled, SyncedIsSettled, SameBlocksStand, NoneIsOpen, StandingMayOpen};
 ghost use Rattle.move_core.specs.Runs.{Ended};
-ghost use Rattle.move_core.specs.RunLaws.{RunThen, RunStill, RunQuiet, RunBehind, RunDemoted, RunSwitched, RunStops};
+ghost use Rattle.move_core.specs.RunLaws.{RunThen, CallsThen, RunsAndCalls, RunAllows, RunStill, RunQuiet, RunBehind, RunDemoted, RunSwitched, RunKept, RunStops};
 
 use dasd_pool::{Pool, PoolFault};
 
@@ -45,10 +45,14 @@ pub fn running_laws<P: Pool>(
     second: &Result<(), PoolFault>,
 )
     ensures then { RunThen P.tells (shown P.Pool old.now) (shown P.Pool mid.now) (shown P.Pool new.now) (Ended first.now) (Ended second.now) }
+    ensures calls_then { CallsThen P.tells (shown P.Pool old.now) (shown P.Pool mid.now) (shown P.Pool new.now) (Ended first.now) (Ended second.now) }
+    ensures runs_and_calls { RunsAndCalls P.tells (shown P.Pool old.now) (shown P.Pool mid.now) (Ended first.now) }
+    ensures allows { RunAllows P.tells (shown P.Pool old.now) (shown P.Pool mid.now) (Ended first.now) }
     ensures still { RunStill P.tells (shown P.Pool old.now) (shown P.Pool mid.now) (Ended first.now) }
     ensures quiet { RunQuiet P.tells (shown P.Pool old.now) (shown P.Pool mid.now) (Ended first.now) }
     ensures behind { RunBehind P.tells (shown P.Pool old.now) (shown P.Pool mid.now) (shown P.Pool new.now) (Ended first.now) (Ended second.now) }
     ensures demoted { RunDemoted P.tells (shown P.Pool old.now) (shown P.Pool mid.now) (Ended first.now) (Ended second.now) }
     ensures switched { RunSwitched P.tells (shown P.Pool old.now) (shown P.Pool mid.now) (Ended first.now) }
+    ensures kept { RunKept P.tells (shown P.Pool old.now) (shown P.Pool mid.now) (Ended first.now) }
     ensures stops { RunStops P.tells (shown P.Pool old.now) (shown P.Pool mid.now) (Ended first.now) }
 {}

@@ -94,6 +94,6 @@ module _ {P : Type 0} (pools : Ghosts P) (given : Given) (pool : P) (left : Afte
 pub stays_settled : (tells : Type 0) (old new : Shown) (ended : Type 0) (steps : List Step) (pending : Option Step) → IsRun tells old new ended steps pending
     → tells → ended → steps ≡ [] → StaysSettled old.shape old.disk.state new.disk.state
 stays_settled tells old new ended steps pending run told over none facts units same settled =
-    let end = (run.keeps told facts same units settled).settled over in
+    let end = (run.keeps told facts same (tt {0}) units settled).settled over in
     let there : Reaches facts units [] end.units = subst (λ (list : List Step). Reaches facts units list end.units) none end.reached in
     subst (IsSettled facts new.disk.state) there end.settled

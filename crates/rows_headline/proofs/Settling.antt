@@ -19,7 +19,7 @@ use Rattle.volume_model.specs.Reads.{AreTexts, IsDataSet, AreDataSets, extent_in
 use Rattle.volume_model.specs.Check.{fives_of}
 use Rattle.volume_model.specs.Sound.{Slots, Volume, IsVolume}
 use Rattle.volume_model.specs.Unit.{Text, Extent, DataSet, OnlineVolume, UnitModel, online, run_in, tracks_of}
-use Rattle.move_core.specs.Facts.{Facts}
+use Rattle.move_core.specs.Facts.{Facts, no_inputs}
 use Rattle.move_core.specs.Resuming.{new_reading}
 use Rattle.move_core.specs.Stands.{is_sliding, place_in, Means}
 use Rattle.move_core.proofs.Below.{IsRunBelow, RowHasRuns, run_below, sound_rows}
@@ -136,7 +136,7 @@ module _ (shape : Shape) (volumes : Image) (names : List Serial) (room : ℕ) (v
 pub settled_there : (shape : Shape) (old made : State) → shape.units ≡ 2 → AreTold 15 (old.contents 0) (shape.blocks 0) → IsMade shape old made → HasVolume shape made → IsSettledVolume shape made
 settled_there shape old made two told journal online_is =
     let some : 0 < journal_of shape = omega (arith, two) in
-    let facts : Facts = record { shape = shape; names = journal.names; room = journal.room } in
+    let facts : Facts = record { shape = shape; names = journal.names; room = journal.room; inputs = no_inputs } in
     let same : (b : ℕ) → online_is.reading.volumes 0 b ≡ old.contents 0 b = λ b. online_is.reads.volumes_are 0 b some ∙ sym (journal.formatted.reads.volumes_are 0 b some) in
     let slots : online_is.reading.volumes 0 ≡ old.contents 0 = λ i b. same b i in
     let P : Slots → Type 0 = λ slots. IsVolume (shape.head 0) (shape.blocks 0) slots false online_is.found in

@@ -57,7 +57,7 @@ module _ (old new : MemoryView) (ended : Type 0) (steps : List Step) (pending : 
   now_of pool = disk_now (marked_state pool.units pool.texts pool.marks)
 
   keeps : KeepsUnits facts (disk_of old) (disk_of new) ended units steps pending
-  keeps = run.keeps tt facts same units settled
+  keeps = run.keeps tt facts same (tt {0}) units settled
 
   pub some_kept : 0 < new.keep
   some_kept = keeps_past new.keep (marked_state new.units new.texts new.marks) (kept_of new) (keeps.any_moment.goes_on (keeps_there old.keep (now_of old) (kept_of old) some tt))
@@ -76,7 +76,7 @@ module _ (old new : MemoryView) (ended : Type 0) (steps : List Step) (pending : 
     any_moment = λ from.
         let image : Image = torn_image tear new.units (take calls new.calls) in
         let within : (disk_of old).moment ≤ min calls (length new.calls) = omega (arith, old_moment, from, later) in
-        run_stops run tt facts same units settled image
+        run_stops run tt facts same (tt {0}) units settled image
         (left_there new.keep (now_of new) (kept_of new) (disk_of old).moment image some_kept (torn_left tear new.units new.calls calls (disk_of old).moment within));
     returned = λ all.
         let whole : take calls new.calls ≡ new.calls = take_all calls new.calls all in
@@ -92,7 +92,7 @@ module _ (old new : MemoryView) (ended : Type 0) (steps : List Step) (pending : 
   stop_closed calls tear from closed =
       let image : Image = torn_image tear new.units (take calls new.calls) in
       let within : (disk_of old).moment ≤ min calls (length new.calls) = omega (arith, old_moment, from, later) in
-      run_closed run tt facts same units settled closed image
+      run_closed run tt facts same (tt {0}) units settled closed image
       (left_there new.keep (now_of new) (kept_of new) (disk_of old).moment image some_kept (torn_left tear new.units new.calls calls (disk_of old).moment within))
 
 -- ---- what a stop left, handed in again
@@ -181,8 +181,8 @@ runs_on left earlier later run facts first returned before ready =
       units = ready.units;
       reached = ready.reached;
       any_moment = λ image since.
-          run_stops run tt facts ready.shape ready.units ready.settled image
+          run_stops run tt facts ready.shape (tt {0}) ready.units ready.settled image
           (subst (λ (n : ℕ). (disk_of later.pool).left_since n image) (sym start) since);
-      behind = (run.keeps tt facts ready.shape ready.units ready.settled).returned;
-      settled = (run.keeps tt facts ready.shape ready.units ready.settled).settled;
+      behind = (run.keeps tt facts ready.shape (tt {0}) ready.units ready.settled).returned;
+      settled = (run.keeps tt facts ready.shape (tt {0}) ready.units ready.settled).settled;
     }

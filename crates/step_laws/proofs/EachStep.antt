@@ -1,20 +1,26 @@
 -- Each kind of change leads from proper units to one list of units.
 use Rattle.std.proofs.Common.{◌≡◌, ℕ, List, [], ◌∷◌, Bool, true, false, refl, sym, ap, subst, ◌∙◌}
 use Rattle.std.proofs.lemmas.List.Elements.{All-head}
+use Rattle.std.proofs.lemmas.Option.{same_Some}
+use Rattle.dd_names.specs.declared.dd.DdName.{DdName}
 use Rattle.dsn_filter.specs.declared.dsn.Dsn.{Dsn}
 use Rattle.free_map.specs.declared.run.Run.{Run}
 use Rattle.volume_model.specs.Changed.{IsPut, ChangesSets}
+use Rattle.vol_label.specs.declared.serial.Serial.{Serial}
+use Rattle.volume_model.specs.Reads.{IsUnit}
+use Rattle.volume_model.specs.Sound.{Slots}
 use Rattle.volume_model.specs.Unit.{DataSet, OnlineVolume, UnitModel}
 use Rattle.move_core.specs.declared.steps.Origin.{Origin}
-use Rattle.move_core.specs.declared.steps.Origin.TheVariants.{Row}
-use Rattle.move_core.specs.Steps.{ChangesUnit, Moves, moved, Shrinks, shrunk, Resets, reset, Deletes, IsCopy, Gives, Copies, Puts, Carries}
+use Rattle.move_core.specs.Facts.{Facts, Original}
+use Rattle.move_core.specs.Steps.{ChangesUnit, Moves, moved, Shrinks, shrunk, Resets, reset, Deletes, IsCopy, Gives, Copies, Puts, Carries, StartsFill, EndsFill}
+use Rattle.move_core.proofs.OneUnit.{one_unit}
 use Rattle.step_laws.specs.Outcome.{AreProper}
 use Rattle.step_laws.proofs.Changes.{NoneHas, new_by_name, new_by_order, new_still}
-use Rattle.step_laws.proofs.Copies.{one_copy, one_origin}
+use Rattle.step_laws.proofs.Copies.{one_copy, one_origin, one_original, one_row}
 use Rattle.step_laws.proofs.Extents.{AreMoved, one_list}
 use Rattle.step_laws.proofs.Names.{AreApart, name_in, one_text}
-use Rattle.step_laws.proofs.Staying.{puts_proper}
-use Rattle.step_laws.proofs.Units.{old_there, same_old, same_units}
+use Rattle.step_laws.proofs.Staying.{copies_proper}
+use Rattle.step_laws.proofs.Units.{old_there, same_old, same_units, same_models}
 
 -- ---- two changes of one unit
 
@@ -65,14 +71,14 @@ one_delete unit name before a b proper one other =
 
 -- ---- a data set that is copied
 
-one_copying : (replaced : Bool) (from : OnlineVolume) (origin : DataSet) (unit : ℕ) (name : Dsn) (to : List Run) (before a b : List UnitModel) → AreProper before
-    → Copies replaced from origin unit name to before a → Copies replaced from origin unit name to before b → a ≡ b
-one_copying replaced from origin unit name to before a b proper one other = by replaced one.gives other.gives
+one_copying : (replaced : Bool) (original : Original) (unit : ℕ) (name : Dsn) (to : List Run) (before a b : List UnitModel) → AreProper before
+    → Copies replaced original unit name to before a → Copies replaced original unit name to before b → a ≡ b
+one_copying replaced original unit name to before a b proper one other = by replaced one.gives other.gives
   where
     same : one.copy ≡ other.copy
     same =
-        one_copy from one.change.old origin name to one.copy other.copy one.copy_is
-        (subst (λ (volume : OnlineVolume). IsCopy from volume origin name to other.copy) (sym (old_same proper one.change other.change)) other.copy_is)
+        one_copy one.change.old original name to one.copy other.copy one.copy_is
+        (subst (λ (volume : OnlineVolume). IsCopy volume original name to other.copy) (sym (old_same proper one.change other.change)) other.copy_is)
         (All-head IsPut one.copy [] one.change.changes.are_put) (All-head IsPut other.copy [] other.change.changes.are_put)
 
     by : (takes : Bool) → Gives takes one.change.old one.copy one.gone → Gives takes other.change.old other.copy other.gone → a ≡ b
@@ -81,19 +87,35 @@ one_copying replaced from origin unit name to before a b proper one other = by r
     by true (old, gone_is, named) (older, less_is, named_too) =
         one_by_name proper one.change other.change old older gone_is less_is (named ∙ ap name_in same ∙ sym named_too) (λ alike. ap (λ (set : DataSet). set ∷ []) same)
 
-pub one_put : (replaced : Bool) (origin : Origin) (unit : ℕ) (name : Dsn) (to : List Run) (before a b : List UnitModel) → AreProper before → Puts replaced origin unit name to before a
-    → Puts replaced origin unit name to before b → a ≡ b
-one_put replaced origin unit name to before a b proper one other =
-    let same = one_origin before origin one.from other.from one.set other.set proper one.origin_is other.origin_is in
-    one_copying replaced one.from one.set unit name to before a b proper one.copies
-    (subst (λ (volume : OnlineVolume). Copies replaced volume one.set unit name to before b) (sym same.0)
-    (subst (λ (set : DataSet). Copies replaced other.from set unit name to before b) (sym same.1) other.copies))
+pub one_put : (facts : Facts) (replaced : Bool) (origin : Origin) (unit : ℕ) (name : Dsn) (to : List Run) (before a b : List UnitModel) → AreProper before
+    → Puts facts replaced origin unit name to before a → Puts facts replaced origin unit name to before b → a ≡ b
+one_put facts replaced origin unit name to before a b proper one other =
+    let same : one.original ≡ other.original = one_origin facts before origin one.original other.original proper one.origin_is other.origin_is in
+    one_copying replaced one.original unit name to before a b proper one.copies
+    (subst (λ (original : Original). Copies replaced original unit name to before b) (sym same) other.copies)
 
 pub one_carry : (from : ℕ) (old : Dsn) (unit : ℕ) (name : Dsn) (to : List Run) (replaced : Bool) (before a b : List UnitModel) → AreProper before
     → Carries from old unit name to replaced before a → Carries from old unit name to replaced before b → a ≡ b
 one_carry from old unit name to replaced before a b proper one other =
-    let between : one.between ≡ other.between = one_put replaced (Row from old) unit name to before one.between other.between proper one.puts other.puts in
-    let set = (one_origin before (Row from old) one.puts.from other.puts.from one.puts.set other.puts.set proper one.puts.origin_is other.puts.origin_is).1 in
-    let takes : ChangesUnit from one.between b (other.puts.set ∷ []) [] =
-    subst (λ (units : List UnitModel). ChangesUnit from units b (other.puts.set ∷ []) []) (sym between) other.takes in
-    one_by_name (puts_proper replaced (Row from old) unit name to before one.between proper one.puts) one.takes takes one.puts.set other.puts.set refl refl (ap name_in set) (λ same. refl)
+    let row = one_row before from old one.volume other.volume one.set other.set proper one.row_is other.row_is in
+    let original : one.original ≡ other.original =
+    one_original one.volume other.volume one.set other.set one.original other.original row.0 row.1 one.original_is other.original_is in
+    let between : one.between ≡ other.between =
+    one_copying replaced one.original unit name to before one.between other.between proper one.copies
+    (subst (λ (o : Original). Copies replaced o unit name to before other.between) (sym original) other.copies) in
+    let takes : ChangesUnit from one.between b (other.set ∷ []) [] =
+    subst (λ (units : List UnitModel). ChangesUnit from units b (other.set ∷ []) []) (sym between) other.takes in
+    one_by_name (copies_proper replaced one.original unit name to before one.between proper one.copies) one.takes takes one.set other.set refl refl (ap name_in row.1) (λ same. refl)
+
+-- ---- a volume that is restored as a whole
+
+pub one_start : (facts : Facts) (unit : ℕ) (input : DdName) (before a b : List UnitModel) → StartsFill facts unit input before a → StartsFill facts unit input before b → a ≡ b
+one_start facts unit input before a b one other = same_models one.unit_is other.unit_is refl
+
+pub one_end : (facts : Facts) (unit : ℕ) (input : DdName) (before a b : List UnitModel) → EndsFill facts unit input before a → EndsFill facts unit input before b → a ≡ b
+one_end facts unit input before a b one other =
+    let slots : one.slots ≡ other.slots = same_Some one.slots other.slots (sym one.full ∙ other.full) in
+    let serial : one.serial ≡ other.serial = same_Some one.serial other.serial (sym one.serial_is ∙ other.serial_is) in
+    let says = subst (λ (s : Slots). IsUnit false false (λ track. track) (facts.shape.head unit) (facts.shape.blocks unit) s other.new) (λ i. sym slots i (sym serial i)) other.says in
+    same_models one.unit_is other.unit_is
+    (one_unit false (λ track. track) (facts.shape.head unit) (facts.shape.blocks unit) (one.slots one.serial) false one.new other.new one.says says)

@@ -6,16 +6,16 @@ ghost use Rattle.dasd_pool.specs.Calls.{size_in};
 ghost use Rattle.dasd_pool.specs.Count.{Rose};
 ghost use Rattle.dasd_pool.specs.Disk.{Runs, none};
 ghost use Rattle.redo_core.specs.Faults.{IsOpenFault, MayOpen};
-ghost use Rattle.redo_core.specs.Format.{is_open};
 ghost use Rattle.redo_core.specs.Opening.{AreNames, of_opening};
 ghost use Rattle.redo_core.specs.Reading.{journal_of};
 ghost use Rattle.volume_model.specs.Unit.{UnitModel};
 ghost use Rattle.move_core.specs.Facts.{Facts, shown};
-ghost use Rattle.move_core.specs.Runs.{IsRun};
+ghost use Rattle.move_core.specs.Runs.{IsFinished, IsRun};
 ghost use Rattle.move_core.specs.Stands.{IsSettled};
 ghost use Rattle.unit_load.specs.Kept.{IsKept};
 ghost use Rattle.unit_load.specs.Reads.{OnlyReads};
 ghost use Rattle.unit_steps.specs.Loaded.{AreLoaded, HaveStates, KeepVtocs, AreVtocsOf, AreModels, IsModel};
+ghost use Rattle.standing_units.specs.Standing.{IsSettledFor};
 ghost use Rattle.unit_session.specs.Sessions.{begun, HasBegun, IsRefusal, IsSameSession};
 
 use crate::copies::Source;
@@ -119,12 +119,15 @@ impl<P: Pool> Session<P> {
         ensures names { IfOk result (λ session. session.names ≡ names.now) }
         ensures room { IfOk result (λ session. 3 ≤ session.room) }
 
+        // There are units for which it is settled, whatever the blocks of its volumes are.
+        ensures settled { P.tells → IfOk result (λ session. IsSettledFor (P.shape session.pool) names.now (P.disk session.pool).state) }
+
         // What never changes of the pool is what its registration says.
         ensures facts { P.tells → IfOk result (λ session. (facts : Facts) (models : List UnitModel) → facts.shape ≡ P.shape session.pool
-            → IsSettled facts (P.disk session.pool).state models → facts ≡ record { shape = P.shape session.pool; names = session.names; room = session.room }) }
+            → IsSettled facts (P.disk session.pool).state models → facts ≡ record { shape = P.shape session.pool; names = session.names; room = session.room; inputs = facts.inputs }) }
 
-        // The gate is closed behind it.
-        ensures closed { P.tells → IfOk result (λ session. is_open ((P.disk session.pool).state.contents (journal_of (P.shape session.pool)) 1) ≡ false) }
+        // Another opening would have nothing to write.
+        ensures closed { P.tells → IfOk result (λ session. IsFinished (P.shape session.pool) (P.disk session.pool).state.contents) }
 
         // A refusal names the first cause that stands against the opening, and at no moment was anything written; nor was it where memory or the
         // pool failed before all causes were known not to stand.

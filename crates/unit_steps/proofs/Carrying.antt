@@ -29,7 +29,7 @@ use Rattle.unit_steps.specs.Plans.{PlansCarry}
 use Rattle.unit_steps.specs.Rendering.{WasRendered, WereRendered, entry_for, entries_of}
 use Rattle.unit_steps.proofs.OneChange.{TakesModels, IsHere, unit_within, unit_here, to_unit, take_change, here_loaded}
 use Rattle.unit_steps.proofs.Placing.{placed_there, placed_both}
-use Rattle.unit_steps.proofs.Putting.{copied, copied_name, copy_texts, copy_no_mark, copy_stands, puts}
+use Rattle.unit_steps.proofs.Putting.{copied, copied_name, copy_texts, copy_no_mark, copy_stands, is_row, original, is_original, copies}
 use Rattle.unit_steps.proofs.Rows.{gone_set}
 use Rattle.unit_steps.proofs.Small.{remove_no_mark}
 use Rattle.unit_steps.proofs.Units.{AreAlone, IsTaken}
@@ -105,8 +105,13 @@ module _ (shape : Shape) (units : List UnitState) (vtocs : List (List ℕ)) (old
       gone.models_after,
       record {
         apart = plan.apart;
+        volume = source.is.before;
+        set = (copied plan.copy source here).0;
+        row_is = is_row plan.copy source here;
+        original = original plan.copy source here;
+        original_is = is_original plan.copy source here;
         between = put.models_after;
-        puts = puts plan.copy source here put;
+        copies = copies plan.copy source here put;
         takes = to_unit gone ((copied plan.copy source here).0 ∷ []) [] gone_is refl;
       },
       gone.alone,
@@ -127,7 +132,7 @@ module _ (shape : Shape) (units : List UnitState) (vtocs : List (List ℕ)) (old
       by [] were held = absurd were
       by (one ∷ []) were held = absurd were.1
       by (one ∷ two ∷ three ∷ more) were held = absurd were.1.1
-      by (one ∷ two ∷ []) were held = λ facts models alone.
+      by (one ∷ two ∷ []) were held = λ facts allowed models alone.
           let made = carried plan one two were.0 were.1.0 held facts models alone in
           let first = map (entry_for unit) one.blocks in
           let second = map (entry_for from) two.blocks in

@@ -24,7 +24,7 @@ module _ (facts : Facts) (state : State) (units : List UnitModel) (room : ℕ) (
   control_idle = settled.stands.reads.obeys.control_is ∙ sym idle.rest.reads.obeys.control_is
 
   pub quiet : (u : ℕ) → u < journal_of facts.shape → settled.stands.reading.fills u ≡ false
-  quiet u less = settled.stands.reads.obeys.fills_are u less ∙ sym (idle.rest.reads.obeys.fills_are u less) ∙ idle.closed u less
+  quiet u less = settled.stands.reads.obeys.fills_are u less ∙ sym (idle.rest.reads.obeys.fills_are u less)
 
   pub units_found : units ≡ settled.stands.means.found
   units_found = subst (λ (control : Control). IsAfterSlide settled.stands.reading.room control settled.stands.means.found units) control_idle settled.stands.means.after

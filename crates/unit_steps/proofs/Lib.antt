@@ -16,4 +16,5 @@ pub mod Staying
 pub mod Moving
 pub mod Putting
 pub mod Carrying
+pub mod Giving
 pub mod Taking

@@ -24,7 +24,7 @@ use Rattle.unit_change.specs.Described.{own_place}
 use Rattle.unit_change.proofs.Kept.{texts_kept}
 use Rattle.unit_load.specs.declared.state.UnitState.{UnitState}
 use Rattle.move_core.specs.declared.steps.Step.TheVariants as steps
-use Rattle.move_core.specs.Steps.{MayTake, KeepsExtents, JoinsExtents, BeginOnCylinders, moved, empty_text}
+use Rattle.move_core.specs.Steps.{MayTake, KeepsExtents, JoinsExtents, moved, empty_text}
 use Rattle.unit_steps.specs.declared.plan.Tracks.TheVariants as texts
 use Rattle.unit_steps.specs.Copied.{DifferOnFree, AreHeld}
 use Rattle.unit_steps.specs.Loaded.{HaveStates, AreLoaded, KeepVtocs, AreVtocsOf}
@@ -140,7 +140,7 @@ module _ (shape : Shape) (units : List UnitState) (vtocs : List (List ℕ)) (old
       from_one shape units vtocs new have are keep vtocs_are (steps.Move unit name to) unit (Swap name swap.row) changes rendered swap.changes_are were
       (λ one was.
       take_one shape units vtocs new have are keep vtocs_are unit swap.volume swap.loaded (Swap name swap.row) swap.may (swap_no_mark name swap.row) one was (steps.Move unit name to)
-      (λ facts models alone here.
+      (λ facts allowed models alone here.
       let set = (swapped swap here).0 in
       let is = (swapped swap here).1 in (
         set.texts,
@@ -156,6 +156,5 @@ module _ (shape : Shape) (units : List UnitState) (vtocs : List (List ℕ)) (old
               to_unit t (set ∷ []) (moved set plan.extents ∷ []) (swapped_gone swap here t plan.row_is.name_is)
               (is_put heads swap.row set.texts (moved set plan.extents) (plan.row_is.name_is ∙ sym is.name_is) (plan.row_is.fields_are ∙ sym is.fields_are) plan.row_is.extents_are refl refl);
           place = move_place plan here;
-          begins = subst (λ (d : Device). BeginOnCylinders (heads_of d) plan.extents) (sym here.is.describes.device_is) plan.begins;
         },
       )))

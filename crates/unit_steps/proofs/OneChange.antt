@@ -1,5 +1,5 @@
 -- A plan of one change takes the units of its pool by what the change makes of its unit.
-use Rattle.std.proofs.Common.{◌≡◌, ◌≢◌, ⊎_elim, ℕ, ◌<◌, List, [], ◌∷◌, length, map, Some, sym, ap, subst, ◌∙◌, arith}
+use Rattle.std.proofs.Common.{◌≡◌, ◌≢◌, ⊎_elim, ℕ, ◌<◌, List, [], ◌∷◌, length, map, None, Some, sym, ap, subst, ◌∙◌, arith}
 use Rattle.std.specs.Prelude.{slice_get}
 use Rattle.std.proofs.lemmas.List.{append-nil, length-map}
 use Rattle.std.proofs.lemmas.Option.{same_Some, slice_get_cases, slice_get_within}
@@ -27,7 +27,7 @@ use Rattle.unit_load.specs.declared.state.UnitState.{UnitState}
 use Rattle.unit_load.specs.declared.state.UnitState.TheVariants.{Online}
 use Rattle.unit_load.specs.State.{IsStateOf}
 use Rattle.move_core.specs.declared.steps.Step.{Step}
-use Rattle.move_core.specs.Facts.{Facts}
+use Rattle.move_core.specs.Facts.{Facts, HasInputs}
 use Rattle.move_core.specs.Steps.{ChangesUnit, IsStep}
 use Rattle.unit_steps.specs.Loaded.{HaveStates, AreLoaded, KeepVtocs, AreVtocsOf}
 use Rattle.unit_steps.specs.Plans.{IsLoadedAt}
@@ -35,9 +35,13 @@ use Rattle.unit_steps.specs.Rendering.{WasRendered, WereRendered, entry_for, ent
 use Rattle.unit_steps.proofs.Units.{AreAlone, IsOnlineUnit, online_unit, IsTaken, taken}
 
 -- On each pool whose units are what these blocks say, the entries make a step.
+abbrev pub TakesModelsFor : (Facts → Type 0) → Shape → Image → Step → List Entry → Type 0
+TakesModelsFor allows shape contents step entries =
+    (facts : Facts) → allows facts → (models : List UnitModel) → AreAlone shape contents models
+    → (after : List UnitModel) × IsStep facts step models after × AreAlone shape (placed contents entries) after
+
 abbrev pub TakesModels : Shape → Image → Step → List Entry → Type 0
-TakesModels shape contents step entries =
-    (facts : Facts) (models : List UnitModel) → AreAlone shape contents models → (after : List UnitModel) × IsStep facts step models after × AreAlone shape (placed contents entries) after
+TakesModels shape contents step entries = TakesModelsFor (HasInputs None) shape contents step entries
 
 -- ---- a loaded unit among those of a pool
 
@@ -124,15 +128,15 @@ module _ (shape : Shape) (units : List UnitState) (vtocs : List (List ℕ)) (con
   here_loaded unit volume models loaded alone =
       unit_here shape contents unit volume models (are unit (Online volume) loaded).0 (are unit (Online volume) loaded).1 (unit_within shape units unit volume have loaded) alone
 
-  pub take_one : (unit : ℕ) (volume : Volume) → IsLoadedAt units unit volume → (change : Change) → MayChange volume change → change ≢ Mark → (rendered : Rendered)
+  pub take_one : {allows : Facts → Type 0} (unit : ℕ) (volume : Volume) → IsLoadedAt units unit volume → (change : Change) → MayChange volume change → change ≢ Mark → (rendered : Rendered)
       → WasRendered units vtocs unit change rendered → (step : Step)
-      → ((facts : Facts) (models : List UnitModel) → AreAlone shape contents models → (here : IsHere shape contents unit volume models)
+      → ((facts : Facts) → allows facts → (models : List UnitModel) → AreAlone shape contents models → (here : IsHere shape contents unit volume models)
       → (texts : List Text) × AreTextsPut (heads_of volume.device) (contents unit) change texts
       × ((t : IsTaken shape (placed contents (map (entry_for unit) rendered.blocks)) unit volume change texts here.is.before models) → IsStep facts step models t.models_after))
-      → TakesModels shape contents step (map (entry_for unit) rendered.blocks)
-  take_one unit volume loaded change may no_mark rendered was step by facts models alone =
+      → TakesModelsFor allows shape contents step (map (entry_for unit) rendered.blocks)
+  take_one unit volume loaded change may no_mark rendered was step by facts allowed models alone =
       let here = here_loaded unit volume models loaded alone in
-      let told = by facts models alone here in
+      let told = by facts allowed models alone here in
       let slots_are : AreSlotsOf volume.vtoc (slot_of volume.device) was.slots (contents unit) = vtocs_are unit (Online volume) was.slots loaded was.kept in
       let t =
       take_change shape units vtocs contents models alone unit volume loaded keep change rendered was slots_are (are unit (Online volume) loaded).0 (are unit (Online volume) loaded).1 may no_mark
@@ -140,16 +144,16 @@ module _ (shape : Shape) (units : List UnitState) (vtocs : List (List ℕ)) (con
       (t.models_after, told.2 t, t.alone)
 
   -- changes that are one change
-  pub from_one : (step : Step) (unit : ℕ) (change : Change) (changes : List (ℕ × Change)) (rendered : List Rendered) → changes ≡ (unit, change) ∷ []
+  pub from_one : {allows : Facts → Type 0} (step : Step) (unit : ℕ) (change : Change) (changes : List (ℕ × Change)) (rendered : List Rendered) → changes ≡ (unit, change) ∷ []
       → WereRendered units vtocs changes rendered
-      → ((one : Rendered) → WasRendered units vtocs unit change one → TakesModels shape contents step (map (entry_for unit) one.blocks))
-      → TakesModels shape contents step (entries_of changes rendered)
-  from_one step unit change changes rendered is were by =
-      subst (λ (list : List (ℕ × Change)). TakesModels shape contents step (entries_of list rendered)) (sym is)
+      → ((one : Rendered) → WasRendered units vtocs unit change one → TakesModelsFor allows shape contents step (map (entry_for unit) one.blocks))
+      → TakesModelsFor allows shape contents step (entries_of changes rendered)
+  from_one {allows} step unit change changes rendered is were by =
+      subst (λ (list : List (ℕ × Change)). TakesModelsFor allows shape contents step (entries_of list rendered)) (sym is)
       (only rendered (subst (λ (list : List (ℕ × Change)). WereRendered units vtocs list rendered) is were))
     where
-      only : (list : List Rendered) → WereRendered units vtocs ((unit, change) ∷ []) list → TakesModels shape contents step (entries_of ((unit, change) ∷ []) list)
+      only : (list : List Rendered) → WereRendered units vtocs ((unit, change) ∷ []) list → TakesModelsFor allows shape contents step (entries_of ((unit, change) ∷ []) list)
       only [] were = absurd were
       only (one ∷ []) were =
-          subst (λ (entries : List Entry). TakesModels shape contents step entries) (sym (append-nil (map (entry_for unit) one.blocks))) (by one were.0)
+          subst (λ (entries : List Entry). TakesModelsFor allows shape contents step entries) (sym (append-nil (map (entry_for unit) one.blocks))) (by one were.0)
       only (one ∷ two ∷ more) were = absurd were.1

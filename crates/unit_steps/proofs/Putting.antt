@@ -23,8 +23,8 @@ use Rattle.unit_load.specs.declared.state.UnitState.{UnitState}
 use Rattle.move_core.specs.declared.steps.Origin.TheVariants as origins
 use Rattle.move_core.specs.declared.steps.Step.{Step}
 use Rattle.move_core.specs.declared.steps.Step.TheVariants as steps
-use Rattle.move_core.specs.Facts.{Facts}
-use Rattle.move_core.specs.Steps.{MayTake, IsNewKind, LieOnCylinders, IsOrigin, fields_at, empty_text, tracks_for, IsCopy, Gives, Puts, IsStep}
+use Rattle.move_core.specs.Facts.{Facts, Original}
+use Rattle.move_core.specs.Steps.{MayTake, IsNewKind, LieOnCylinders, IsRow, original_of, IsOriginal, fields_at, empty_text, tracks_for, IsCopy, Gives, Copies, Puts, IsStep}
 use Rattle.unit_steps.specs.declared.plan.Tracks.TheVariants as texts
 use Rattle.unit_steps.specs.Copied.{DifferOnFree, IsPutBy, AreHeld}
 use Rattle.unit_steps.specs.Loaded.{HaveStates, AreLoaded, KeepVtocs, AreVtocsOf}
@@ -43,11 +43,11 @@ pub put_by : (replaced : Bool) (name : Dsn) (row : Row) → IsPutBy (putting rep
 put_by true name row = refl
 put_by false name row = refl
 
-put_sets : (heads : ℕ) (replaced : Bool) (name : Dsn) (row : Row) (texts : List Text) → sets_put heads (putting replaced name row) texts ≡ set_put heads row texts ∷ []
+pub put_sets : (heads : ℕ) (replaced : Bool) (name : Dsn) (row : Row) (texts : List Text) → sets_put heads (putting replaced name row) texts ≡ set_put heads row texts ∷ []
 put_sets heads true name row texts = refl
 put_sets heads false name row texts = refl
 
-put_texts : (heads : ℕ) (slots : Slots) (replaced : Bool) (name : Dsn) (row : Row) (texts : List Text) → AreTexts heads own_place slots (tracks_of (extents_of heads row)) texts
+pub put_texts : (heads : ℕ) (slots : Slots) (replaced : Bool) (name : Dsn) (row : Row) (texts : List Text) → AreTexts heads own_place slots (tracks_of (extents_of heads row)) texts
     → AreTextsPut heads slots (putting replaced name row) texts
 put_texts heads slots true name row texts are = are
 put_texts heads slots false name row texts are = are
@@ -86,7 +86,14 @@ module _ {replaced : Bool} {units : List UnitState} {from : ℕ} {origin : Dsn} 
   pub copied_name : IsNameOf origin copied.0.name
   copied_name = subst (IsNameOf origin) (sym copied.1.name_is) plan.old_is.name_is
 
-  pub is_copy : IsCopy source.is.before here.is.before copied.0 name to copy
+  -- what the copy is made of
+  abbrev pub original : Original
+  original = original_of source.is.before copied.0 plan.kind
+
+  pub is_original : IsOriginal source.is.before copied.0 original
+  is_original = record { kind_is = subst (λ (extents : List Extent). IsNewKind extents plan.kind) (sym copied.1.extents_are) plan.kind_is; original_is = refl }
+
+  pub is_copy : IsCopy here.is.before original name to copy
   is_copy =
       let serial : here.is.before.serial ≡ plan.volume.serial = here.is.describes.serial_is in
       let long : length set.texts ≡ length tracks_from = texts_long (heads_of plan.source.device) own_place (contents from) tracks_from set.texts copied.1.texts_are in
@@ -96,8 +103,6 @@ module _ {replaced : Bool} {units : List UnitState} {from : ℕ} {origin : Dsn} 
         lawful = plan.lawful;
         name_is = plan.named;
         fields_are = plan.row_is.fields_are ∙ (λ i. fields_at plan.row.name (sym serial i) (sym copied.1.fields_are i));
-        kind = plan.kind;
-        kind_is = subst (λ (extents : List Extent). IsNewKind extents plan.kind) (sym copied.1.extents_are) plan.kind_is;
         whole = subst (λ (d : Device). LieOnCylinders (heads_of d) plan.kind to) (sym device) plan.whole;
         extents_are = plan.row_is.extents_are;
         size =
@@ -124,29 +129,26 @@ module _ {replaced : Bool} {units : List UnitState} {from : ℕ} {origin : Dsn} 
   pub copy_place : MayTake here.is.before [] to
   copy_place = record { some = copy_runs.0; apart = copy_runs.1; tracks = λ track held. inl (free_track here.is track (plan.free track held)) }
 
-  pub is_origin : IsOrigin models (origins.Row from origin) source.is.before copied.0
-  is_origin = (source.at ∙ ap Some source.is.model_is, copied.1.there, copied_name)
+  pub is_row : IsRow models from origin source.is.before copied.0
+  is_row = record { at = source.at ∙ ap Some source.is.model_is; there = copied.1.there; name_is = copied_name }
 
   pub puts_it : sets_put (heads_of plan.volume.device) change copy_texts ≡ copy ∷ []
   puts_it = ap (λ (c : Change). sets_put heads c copy_texts) plan.change_is ∙ put_sets heads replaced name plan.row copy_texts
 
   -- the step
-  abbrev pub puts : {later : Image} (t : IsTaken shape later unit plan.volume change copy_texts here.is.before models)
-      → Puts replaced (origins.Row from origin) unit name to models t.models_after
-  puts t = record {
-    from = source.is.before;
-    set = copied.0;
-    origin_is = is_origin;
-    copies =
-        record {
-          gone = t.gone;
-          copy = copy;
-          change = to_unit t t.gone (copy ∷ []) refl puts_it;
-          copy_is = is_copy;
-          gives = copy_gives t.gone t.gone_are plan.may;
-          place = copy_place;
-        };
+  abbrev pub copies : {later : Image} (t : IsTaken shape later unit plan.volume change copy_texts here.is.before models) → Copies replaced original unit name to models t.models_after
+  copies t = record {
+    gone = t.gone;
+    copy = copy;
+    change = to_unit t t.gone (copy ∷ []) refl puts_it;
+    copy_is = is_copy;
+    gives = copy_gives t.gone t.gone_are plan.may;
+    place = copy_place;
   }
+
+  abbrev pub puts : (facts : Facts) {later : Image} (t : IsTaken shape later unit plan.volume change copy_texts here.is.before models)
+      → Puts facts replaced (origins.Row from origin) unit name to models t.models_after
+  puts facts t = record { original = original; origin_is = (source.is.before, copied.0, is_row, is_original); copies = copies t }
 
   pub copy_no_mark : change ≢ Mark
   copy_no_mark = put_small replaced name plan.row change plan.change_is
@@ -170,7 +172,7 @@ module _ (shape : Shape) (units : List UnitState) (vtocs : List (List ℕ)) (old
     (were : WereRendered units vtocs changes rendered) where
   put_taken : (replaced : Bool) (from : ℕ) (origin : Dsn) (unit : ℕ) (name : Dsn) (to : List Run) (step : Step) → PlansPut replaced units from origin unit name to changes
       → AreHeld units (texts.Rows from origin) changes old new
-      → ((facts : Facts) (before after : List UnitModel) → Puts replaced (origins.Row from origin) unit name to before after → IsStep facts step before after)
+      → ((facts : Facts) (before after : List UnitModel) → Puts facts replaced (origins.Row from origin) unit name to before after → IsStep facts step before after)
       → TakesModels shape new step (entries_of changes rendered)
   put_taken replaced from origin unit name to step plan held is_step =
       let copy = plan.copy in
@@ -180,11 +182,11 @@ module _ (shape : Shape) (units : List UnitState) (vtocs : List (List ℕ)) (old
       (λ one was.
       take_one shape units vtocs new have are keep vtocs_are unit copy.volume copy.loaded plan.change copy.may
       (put_small replaced name copy.row plan.change copy.change_is) one was step
-      (λ facts models alone here.
+      (λ facts allowed models alone here.
       let source = here_loaded shape units vtocs new have are keep vtocs_are from copy.source models copy.source_loaded alone in (
         copy_texts copy source here,
         copy_stands copy source here old [] differ one_held,
-        λ t. is_step facts models t.models_after (puts copy source here t),
+        λ t. is_step facts models t.models_after (puts copy source here facts t),
       )))
 
   pub add_taken : (from : ℕ) (origin : Dsn) (unit : ℕ) (name : Dsn) (to : List Run) → PlansPut false units from origin unit name to changes → AreHeld units (texts.Rows from origin) changes old new

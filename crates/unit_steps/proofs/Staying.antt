@@ -46,7 +46,7 @@ module _ (shape : Shape) (units : List UnitState) (vtocs : List (List ℕ)) (con
       from_one shape units vtocs contents have are keep vtocs_are (steps.Delete unit name) unit (Remove name) changes rendered plan.changes_are were
       (λ one was.
       take_one shape units vtocs contents have are keep vtocs_are unit plan.volume plan.loaded (Remove name) plan.may (remove_no_mark name) one was (steps.Delete unit name)
-      (λ facts models alone here. (
+      (λ facts allowed models alone here. (
         [],
         refl,
         λ t. record { set = t.gone_are.0; name_is = t.gone_are.2; change = to_unit t (t.gone_are.0 ∷ []) [] t.gone_are.1 refl },
@@ -57,7 +57,7 @@ module _ (shape : Shape) (units : List UnitState) (vtocs : List (List ℕ)) (con
       from_one shape units vtocs contents have are keep vtocs_are (steps.Repair unit) unit Repair changes rendered plan.changes_are were
       (λ one was.
       take_one shape units vtocs contents have are keep vtocs_are unit plan.volume plan.loaded Repair tt repair_no_mark one was (steps.Repair unit)
-      (λ facts models alone here. ([], refl, λ t. to_unit t [] [] t.gone_are refl)))
+      (λ facts allowed models alone here. ([], refl, λ t. to_unit t [] [] t.gone_are refl)))
 
   pub reset_taken : (unit : ℕ) (name : Dsn) → PlansReset units unit name changes → TakesModels shape contents (steps.ResetFlag unit name) (entries_of changes rendered)
   reset_taken unit name plan =
@@ -67,7 +67,7 @@ module _ (shape : Shape) (units : List UnitState) (vtocs : List (List ℕ)) (con
       from_one shape units vtocs contents have are keep vtocs_are (steps.ResetFlag unit name) unit (Swap name swap.row) changes rendered swap.changes_are were
       (λ one was.
       take_one shape units vtocs contents have are keep vtocs_are unit swap.volume swap.loaded (Swap name swap.row) swap.may (swap_no_mark name swap.row) one was (steps.ResetFlag unit name)
-      (λ facts models alone here.
+      (λ facts allowed models alone here.
       let set = (swapped swap here).0 in
       let is = (swapped swap here).1 in (
         set.texts,
@@ -91,7 +91,7 @@ module _ (shape : Shape) (units : List UnitState) (vtocs : List (List ℕ)) (con
       from_one shape units vtocs contents have are keep vtocs_are (steps.Shrink unit name kept) unit (Swap name swap.row) changes rendered swap.changes_are were
       (λ one was.
       take_one shape units vtocs contents have are keep vtocs_are unit swap.volume swap.loaded (Swap name swap.row) swap.may (swap_no_mark name swap.row) one was (steps.Shrink unit name kept)
-      (λ facts models alone here.
+      (λ facts allowed models alone here.
       let set = (swapped swap here).0 in
       let is = (swapped swap here).1 in
       let texts : List Text = take kept set.texts in

@@ -28,11 +28,13 @@ use Rattle.move_core.specs.declared.steps.Step.TheVariants as steps
 use Rattle.move_core.specs.Facts.{Facts}
 use Rattle.move_core.specs.Laws.{WillStand, OpensNone}
 use Rattle.move_core.specs.Stands.{is_sliding, place_in, IsAfterSlide, Means, IsSettled}
-use Rattle.move_core.specs.Taking.{IsIdle, AreSame, TakeUnits}
+use Rattle.move_core.specs.Taking.{IsIdle, AreSame, TakeUnitsFor}
 use Rattle.unit_steps.specs.declared.plan.Tracks.{Tracks}
 use Rattle.unit_steps.specs.declared.plan.Tracks.TheVariants as texts
 use Rattle.unit_steps.specs.Copied.{DifferOnFree, AreHeld}
 use Rattle.unit_steps.specs.Laws.{PlansTakeUnits}
+use Rattle.unit_steps.specs.Parts.{PartsTakeUnits}
+use Rattle.unit_steps.proofs.Giving.{part_taken}
 use Rattle.unit_steps.specs.Loaded.{HaveStates, AreLoaded, KeepVtocs, AreVtocsOf}
 use Rattle.unit_steps.specs.Plans.{Plans}
 use Rattle.unit_steps.specs.Rendering.{WasRendered, WereRendered, entry_for, entries_of}
@@ -41,7 +43,7 @@ use Rattle.unit_steps.proofs.Carrying.{carry_taken}
 use Rattle.unit_steps.proofs.Copying.{copied_load}
 use Rattle.unit_steps.proofs.Idle.{own_slots, control_idle, quiet, units_found, unit_stands}
 use Rattle.unit_steps.proofs.Moving.{move_taken}
-use Rattle.unit_steps.proofs.OneChange.{TakesModels}
+use Rattle.unit_steps.proofs.OneChange.{TakesModelsFor, TakesModels}
 use Rattle.unit_steps.proofs.Placing.{placed_both}
 use Rattle.unit_steps.proofs.Putting.{add_taken, replace_taken}
 use Rattle.unit_steps.proofs.Staying.{delete_taken, repair_taken, reset_taken, shrink_taken}
@@ -167,14 +169,14 @@ module _ (facts : Facts) (state : State) (units : List UnitModel) (room : ℕ) (
     opens_none closed = subst (λ (r : Reading). ¬ IsBusy facts.shape r) (sym only_volumes) closed
 
 -- models that are taken are units that are taken
-take_units : (shape : Shape) (room : ℕ) (contents : Image) (step : Step) (entries : List Entry) → TakesModels shape contents step entries
-    → All (IsBelow (journal_of shape)) entries → ((image : Image) (u : ℕ) → placed image entries u 0 ≡ image u 0) → TakeUnits shape room contents step entries
-take_units shape room contents step entries takes below firsts facts state units same_shape same idle settled =
-    let own_takes : TakesModels facts.shape contents step entries = subst (λ (s : Shape). TakesModels s contents step entries) (sym same_shape) takes in
+pub take_units : {allows : Facts → Type 0} (shape : Shape) (room : ℕ) (contents : Image) (step : Step) (entries : List Entry) → TakesModelsFor allows shape contents step entries
+    → All (IsBelow (journal_of shape)) entries → ((image : Image) (u : ℕ) → placed image entries u 0 ≡ image u 0) → TakeUnitsFor allows shape room [] contents step entries
+take_units {allows} shape room contents step entries takes below firsts facts state units same_shape allowed same idle settled =
+    let own_takes : TakesModelsFor allows facts.shape contents step entries = subst (λ (s : Shape). TakesModelsFor allows s contents step entries) (sym same_shape) takes in
     let own_same : AreSame facts.shape state.contents contents = subst (λ (s : Shape). AreSame s state.contents contents) (sym same_shape) same in
     let own_below : All (IsBelow (journal_of facts.shape)) entries = subst (λ (s : Shape). All (IsBelow (journal_of s)) entries) (sym same_shape) below in
     let own_idle : IsIdle facts.shape state room = subst (λ (s : Shape). IsIdle s state room) (sym same_shape) idle in
-    let made = own_takes facts units (models_alone facts state units room own_idle settled contents own_same) in (
+    let made = own_takes facts allowed units (models_alone facts state units room own_idle settled contents own_same) in (
       made.0,
       made.1,
       will_stand facts state units room own_idle settled contents own_same entries made.0 made.2 own_below (firsts settled.stands.reading.volumes),
@@ -214,3 +216,12 @@ plans_take shape room old new units vtocs plan rendered have are keep kept is we
     (planned_taken shape units vtocs old new have now.0 keep now.1 differ plan.changes rendered were plan.step plan.tracks is held)
     (entries_below shape units vtocs have plan.changes rendered were)
     (λ image u. firsts_stay shape units vtocs keep plan.changes rendered image u were)
+
+pub parts_take : PartsTakeUnits
+parts_take shape room old new units vtocs original input number unit name to changes rendered have are keep kept plan were differ short gives =
+    let now = copied_load shape old new units vtocs have are kept differ short in
+    take_units shape room new (steps.Add unit name to (origins.Part input number)) (entries_of changes rendered)
+    (part_taken shape units vtocs new have now.0 keep now.1 changes rendered were false original input number unit name to (steps.Add unit name to (origins.Part input number)) plan gives
+    (λ facts before after is. is))
+    (entries_below shape units vtocs have changes rendered were)
+    (λ image u. firsts_stay shape units vtocs keep changes rendered image u were)

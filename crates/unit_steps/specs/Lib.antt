@@ -6,3 +6,4 @@ pub mod Plans
 pub mod Rendering
 pub mod Copied
 pub mod Laws
+pub mod Parts

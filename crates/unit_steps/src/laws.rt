@@ -1,5 +1,6 @@
 //! What holds of plans, of the tracks that are copied for one, and of the commit that makes its step.
 
+ghost use Rattle.unit_steps.specs.Parts.{PartsTakeUnits};
 ghost use Rattle.unit_steps.specs.Laws.{FreeTracksMayBeWritten, CopiedUnitsLoad, PlansAreSmall, EntriesAreReady, UnchangedHaveNoEntry, PatchedVtocsAreKept, SwitchedUnitsLoad, PlansTakeUnits};
 
 /// Free tracks may be written: no meaning rests on one, and each unit loads as it did.
@@ -16,5 +17,6 @@ pub fn switching_laws()
     ensures unchanged { UnchangedHaveNoEntry }
     ensures kept { PatchedVtocsAreKept }
     ensures takes { PlansTakeUnits }
+    ensures parts { PartsTakeUnits }
     ensures loads { SwitchedUnitsLoad }
 {}

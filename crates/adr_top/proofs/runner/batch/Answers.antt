@@ -19,7 +19,7 @@ returns-clause-headline g c =
 pub returns-clause-stops : goal.returns-clause-stops
 returns-clause-stops g c = λ told none facts same units settled image left.
     let run = returns-clause-headline g c none in
-    (run_stops run told facts same units settled image left, λ closed. run_closed run told facts same units settled closed image left)
+    (run_stops run told facts same (tt {0}) units settled image left, λ closed. run_closed run told facts same (tt {0}) units settled closed image left)
 
 pub returns-clause-shape : goal.returns-clause-shape
 returns-clause-shape g c = rw (c.hand_back.ensures.pool) (shape_of_run g.P.Pool _ c.args.pool (after_of c.run_words-left.result) c.run_words-left.ensures.ends)

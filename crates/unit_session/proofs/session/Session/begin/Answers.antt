@@ -3,7 +3,8 @@ use Rattle.dasd_pool.specs.Count.{Rose}
 use Rattle.dasd_pool.specs.Disk.{Shape}
 use Rattle.vol_label.specs.declared.serial.Serial.{Serial}
 use Rattle.redo_core.specs.Reading.{journal_of}
-use Rattle.move_core.proofs.Running.{run_less, run_opened, run_refused, run_still, run_then}
+use Rattle.move_core.proofs.Running.{finished_at_rest, run_less, run_opened, run_refused, run_still, run_then}
+use Rattle.standing_units.proofs.Standing.{opened_stands, settled_at}
 use Rattle.unit_session.specs.Sessions.{HasNothingOpen}
 use Rattle.unit_session.proofs.Beginning.{pool_cause, opened_reads}
 use Rattle.unit_session.proofs.Loading.{still_free, still_rest, still_loaded, still_kept, still_vtocs}
@@ -68,7 +69,7 @@ pub returns-in-Ok-loaded-clause-closed : goal.returns-in-Ok-loaded-clause-closed
 returns-in-Ok-loaded-clause-closed g c told =
     let does = c.in-Ok.ensures in
     let reads = c.loaded.ensures.reads in
-    (still_rest reads.shape (reads.same told) (still_rest does.shape refl (does.rest told))).closed
+    finished_at_rest (still_rest reads.shape (reads.same told) (still_rest does.shape refl (does.rest told))) does.idle.0
 
 pub returns-in-Ok-loaded-clause-runs : goal.returns-in-Ok-loaded-clause-runs
 returns-in-Ok-loaded-clause-runs g c told = opened_reads (c.in-Ok.ensures.runs told) (c.loaded.ensures.reads.runs told)
@@ -92,3 +93,9 @@ returns-in-Err-loaded-clause-runs g c told = rw (c.into_pool.ensures) (opened_re
 
 pub returns-in-Err-loaded-clause-careful : goal.returns-in-Err-loaded-clause-careful
 returns-in-Err-loaded-clause-careful g c told = inl (c.in-Ok.ensures.allowed told)
+
+pub returns-in-Ok-loaded-clause-settled : goal.returns-in-Ok-loaded-clause-settled
+returns-in-Ok-loaded-clause-settled g c told =
+    let does = c.in-Ok.ensures in
+    let reads = c.loaded.ensures.reads in
+    settled_at (reads.shape ∙ does.shape) (reads.same told) (opened_stands _ _ _ _ _ _ _ (does.allowed told) (does.opened told))
