@@ -3,20 +3,22 @@
 
 mod slots;
 
-ghost use Rattle.std.specs.Prelude.{◌≡◌, ◌≤◌, length, take};
+ghost use Rattle.std.specs.Prelude.{Contains, IsTrue, IfSome};
+ghost use Rattle.dsn_filter.specs.Dsn.{IsDsn};
+ghost use Rattle.volume_model.specs.Pinned.{IsNameOf};
+ghost use Rattle.vtoc_core.specs.declared.volume.Row.{Row as RowOf};
+ghost use Rattle.vtoc_render.specs.Loads.{LoadsFrom};
 
 use crate::slots::{head_of, label, slots_of};
-use ckd_image::Head;
 use dsn_filter::Dsn;
-use rows_render::changed;
+use rows_slots::loaded;
 use std::alloc::Global;
 use std::process::ExitCode;
 use std::time::Instant;
 use std::{env, io};
 use volume_change::Change;
-use vtoc_check::vtoc_run;
-use vtoc_core::Volume;
-use vtoc_load::load_vtoc;
+use vtoc_core::{Volume, is_named};
+use vtoc_render::{Rendered, render};
 
 /// The most tracks: their data sets have 51 tracks for each of them, and a volume has less than 65,536.
 const MOST: u32 = 1200;
@@ -33,33 +35,35 @@ fn tracks_wanted(rt: &HostRuntime) -> io::Result<u32> {
     Ok(tracks)
 }
 
-/// The first of slots of so many bytes.
-fn first_slot(slots: &[u8], size: usize) -> &[u8]
-    requires { size ≤ length slots.now }
-    ensures { result.now ≡ take size slots.now }
+/// The name of the first data set.
+fn first_name() -> Option<Dsn>
+    ensures { IfSome result IsDsn }
 {
-    &slots[..size]
+    Dsn::read(b"A000000").ok()
 }
 
-/// The volume of the VTOC in these slots, if one loads.
-fn loaded(alloc: Global, head: Head, slots: &[u8]) -> Option<Volume> {
-    let size = head.device.slot() as usize;
-    if head.tracks > 65_535 || slots.len() < size {
+/// Whether a data set of a volume has a name.
+fn has_set(volume: &Volume, name: Dsn) -> bool
+    requires { IsDsn name }
+    ensures { IsTrue result → (row : RowOf) × Contains volume.now.rows row × IsNameOf name row.name }
+{
+    for row in volume.rows.as_slice() {
+        if is_named(&row.name, name) {
+            return true;
+        }
+    }
+    false
+}
+
+/// The VTOC without a data set, if there is one of this name.
+fn removed(alloc: Global, volume: &Volume, slots: &[u8], name: Dsn) -> Option<Rendered>
+    requires loads { LoadsFrom volume.now slots.now }
+    requires name { IsDsn name }
+{
+    if !has_set(volume, name) {
         return None;
     }
-    let label = label();
-    let Ok(run) = vtoc_run(alloc, head, &label, first_slot(slots, size)) else {
-        return None;
-    };
-    let at = label.vtoc.at;
-    let track = u32::from(at.cylinder) * 15 + u32::from(at.head);
-    if run.first != track || slots.len() as u64 != u64::from(run.len) * size as u64 {
-        return None;
-    }
-    match load_vtoc(alloc, head, &label, run, slots, false) {
-        Ok(volume) => Some(volume),
-        Err(_) => None,
-    }
+    render(alloc, volume, slots, &Change::Remove(name)).ok()
 }
 
 /// Milliseconds since a moment.
@@ -68,24 +72,24 @@ fn since(rt: &HostRuntime, start: Instant) -> io::Result<u64> {
 }
 
 fn measure(rt: &HostRuntime, tracks: u32, slots: &[u8]) -> io::Result<()> {
-    let head = head_of(tracks);
     let start = Instant::now(rt)?;
-    let volume = loaded(rt.alloc(), head, slots);
-    let loading = since(rt, start)?;
-    let Ok(name) = Dsn::read(b"A000000") else {
+    let Ok(Some(volume)) = loaded(rt.alloc(), head_of(tracks), &label(), slots, false) else {
         return Ok(());
     };
-    let start = Instant::now(rt)?;
-    let rendered = changed(rt.alloc(), head, &label(), slots, &Change::Remove(name));
+    let loading = since(rt, start)?;
+    let Some(name) = first_name() else {
+        return Ok(());
+    };
+    let Some(rendered) = removed(rt.alloc(), &volume, slots, name) else {
+        return Ok(());
+    };
     let changing = since(rt, start)?;
-    if let (Some(volume), Ok(rendered)) = (volume, rendered) {
-        println!(rt;
-            "VTOC tracks {tracks}, data sets {}, tracks that a removal changes {}",
-            volume.rows.len(),
-            rendered.blocks.len()
-        )?;
-        eprintln!(rt; "loaded in {loading} ms; loaded, tried and changed in {changing} ms")?;
-    }
+    println!(rt;
+        "VTOC tracks {tracks}, data sets {}, tracks that a removal changes {}",
+        volume.rows.len(),
+        rendered.blocks.len()
+    )?;
+    eprintln!(rt; "loaded in {loading} ms; loaded and changed in {changing} ms")?;
     Ok(())
 }
 

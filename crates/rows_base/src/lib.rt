@@ -3,9 +3,9 @@
 
 mod machine;
 
-pub use adr_top::{Day, Dsn, Run, Step, batch, read_words};
-pub use machine::{HELD_WORDS, Job, LISTING_WORDS, Machine, Ran, WORDS_OF_TWO};
+pub use adr_top::{Dsn, Run, Step, read_words};
+pub use machine::{Failing, LISTING_WORDS, Machine, Outside, Ran, words_of};
 pub use rows_bytes::{
-    BASE, Change, GIVEN, Given, JOURNAL_BLOCK, LABEL, REGISTERED, REGISTERED_TWO, RowsFault,
-    SECOND, SLOT, VOL001, Vtoc, WITH_SET, journal, label_slot, volume, vtoc_slot,
+    Change, GIVEN, Given, JOURNAL_BLOCK, REGISTERED, REGISTERED_TWO, RowsFault, SLOT, WITH_SET,
+    journal, volume,
 };

@@ -59,12 +59,6 @@ pub const WITH_SET: Given = Given {
     ..GIVEN
 };
 
-/// The volume without data sets under the serial VOL002.
-pub const SECOND: Given = Given {
-    blocks: &[(234, 0xf2)],
-    ..GIVEN
-};
-
 /// The bytes of the unit of a volume.
 pub fn volume(alloc: Global, given: Given) -> Result<UnitText, RowsFault> {
     let mut head = [0; 512];

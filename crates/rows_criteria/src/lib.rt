@@ -1,5 +1,0 @@
-//! Tests: criteria and the days that they name.
-#![tactic(auto)]
-
-#[cfg(test)]
-mod tests;

@@ -1,5 +1,0 @@
-//! Tests: DD names.
-#![tactic(auto)]
-
-#[cfg(test)]
-mod tests;

@@ -1,5 +1,0 @@
-//! Tests: DSCBs and their fields.
-#![tactic(auto)]
-
-#[cfg(test)]
-mod tests;

@@ -1,5 +1,0 @@
-//! Tests: the filters of SYSIN commands.
-#![tactic(auto)]
-
-#[cfg(test)]
-mod tests;

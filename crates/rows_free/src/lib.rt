@@ -1,5 +1,0 @@
-//! Tests: free tracks and places for new extents.
-#![tactic(auto)]
-
-#[cfg(test)]
-mod tests;

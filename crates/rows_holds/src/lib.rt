@@ -1,5 +1,0 @@
-//! Tests: held names.
-#![tactic(auto)]
-
-#[cfg(test)]
-mod tests;

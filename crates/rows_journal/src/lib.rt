@@ -1,7 +1,0 @@
-//! Tests: journals that are made, opened and refused.
-#![tactic(auto)]
-
-#[cfg(test)]
-mod stopped;
-#[cfg(test)]
-mod tests;

@@ -1,5 +1,0 @@
-//! Tests: labels, serials and their code page.
-#![tactic(auto)]
-
-#[cfg(test)]
-mod tests;

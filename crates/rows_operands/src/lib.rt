@@ -1,5 +1,0 @@
-//! Tests: the operands of SYSIN commands.
-#![tactic(auto)]
-
-#[cfg(test)]
-mod tests;

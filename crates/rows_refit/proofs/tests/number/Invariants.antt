@@ -1,6 +1,0 @@
-use Rattle.std.proofs.Common.{◌≤◌, All}
-use Rattle.ckd_image.specs.Track.{IsRecord}
-use Rattle.rows_refit.proofs.tests.number.Given as goal
-
-abbrev pub invariant-loop-length : goal.invariant-loop-length
-invariant-loop-length l = record { low : 1 ≤ l.r; recs : All IsRecord l.recs }

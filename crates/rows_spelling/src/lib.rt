@@ -1,5 +1,0 @@
-//! Tests: the spellings of SYSIN words.
-#![tactic(auto)]
-
-#[cfg(test)]
-mod tests;

@@ -1,7 +1,0 @@
-//! Tests: PRINT and RELEASE as statements over a session in memory.
-#![tactic(auto)]
-
-#[cfg(test)]
-mod ground;
-#[cfg(test)]
-mod tests;

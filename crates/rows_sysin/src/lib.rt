@@ -1,5 +1,0 @@
-//! Tests: texts of SYSIN.
-#![tactic(auto)]
-
-#[cfg(test)]
-mod tests;

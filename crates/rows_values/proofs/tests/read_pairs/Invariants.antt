@@ -1,5 +1,0 @@
-use Rattle.std.proofs.Common.{length}
-use Rattle.rows_values.proofs.tests.read_pairs.Given as goal
-
-abbrev pub decreases-tokens : goal.decreases-tokens
-decreases-tokens l = length l.tokens

@@ -1,5 +1,0 @@
-//! Tests: the values of SYSIN operands.
-#![tactic(auto)]
-
-#[cfg(test)]
-mod tests;
