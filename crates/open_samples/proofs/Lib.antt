@@ -1,0 +1,5 @@
+mod Volume
+mod Journal
+mod Sliding
+mod Slide
+mod Fill

@@ -1,0 +1,3 @@
+mod SetTracks
+mod Places
+mod Bounds
