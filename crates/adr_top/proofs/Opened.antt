@@ -15,8 +15,8 @@ use Rattle.redo_core.specs.Reading.{journal_of}
 use Rattle.move_core.specs.declared.steps.Step.{Step}
 use Rattle.move_core.specs.Facts.{Facts, Inputs, no_inputs, Shown, shown}
 use Rattle.move_core.proofs.Resuming.{settled_with}
-use Rattle.move_core.specs.Runs.{IsFinished, IsRun}
-use Rattle.move_core.specs.Stands.{IsSettled}
+use Rattle.move_core.specs.Runs.{EndsSettled, IsFinished, IsRun}
+use Rattle.move_core.specs.Stands.{Stands, IsSettled}
 use Rattle.move_core.proofs.Running.{run_less, run_then}
 use Rattle.sysin_lang.specs.Flow.{Plan}
 use Rattle.job_script.specs.unit_session.Sessions.{SessionView, IsRefusal}
@@ -84,16 +84,24 @@ module _ {P : Type 0} (pools : Ghosts P) (pool : P) (session : SessionView P) (p
     (begins : IsRun pools.tells (shown pools pool) (shown pools session.pool) (Unit {0}) [] None)
     (own : pools.tells → (facts : Facts) (units : List UnitModel) → facts.shape ≡ pools.shape session.pool → IsSettled facts (pools.disk session.pool).state units
     → facts ≡ record { shape = pools.shape session.pool; names = session.names; room = session.room; inputs = facts.inputs })
+    (stood : pools.tells → (facts : Facts) (units : List UnitModel) → facts.shape ≡ pools.shape pool → Stands facts (pools.disk pool).state.contents units
+    → IsSettled facts (pools.disk session.pool).state units)
     (runs : EndsScript pools session plan held today files out left) where
-  -- what the script means on the units of the session it means on those of the pool
-  means : pools.tells → (facts : Facts) (units : List UnitModel) → facts.shape ≡ pools.shape pool → IsSettled facts (pools.disk pool).state units
+  -- what the script means on the units of the session it means on those of the pool, which are the same
+  means : pools.tells → (facts : Facts) (units : List UnitModel) → facts.shape ≡ pools.shape pool → Stands facts (pools.disk pool).state.contents units
       → RunOn (record { facts = facts; today = today; held = held }) runs.ran runs.under runs.leaves.cut runs.leaves.added left.pending units
-  means told facts units same settled =
-      let end = (begins.keeps told facts same (tt {0}) units settled).settled (tt {0}) in
-      let is : facts ≡ facts_at pools session facts.inputs = own told facts end.units (same ∙ sym begins.shape) end.settled in
-      subst (λ (u : List UnitModel). RunOn (record { facts = facts; today = today; held = held }) runs.ran runs.under runs.leaves.cut runs.leaves.added left.pending u) end.reached
-      (subst (λ (f : Facts). RunOn (record { facts = f; today = today; held = held }) runs.ran runs.under runs.leaves.cut runs.leaves.added left.pending end.units) (sym is)
-      (runs.leaves.means facts.inputs told end.units (settled_with no_inputs (subst (λ (f : Facts). IsSettled f (pools.disk session.pool).state end.units) is end.settled))))
+  means told facts units same stands =
+      let settled = stood told facts units same stands in
+      let is : facts ≡ facts_at pools session facts.inputs = own told facts units (same ∙ sym begins.shape) settled in
+      subst (λ (f : Facts). RunOn (record { facts = f; today = today; held = held }) runs.ran runs.under runs.leaves.cut runs.leaves.added left.pending units) (sym is)
+      (runs.leaves.means facts.inputs told units (settled_with no_inputs (subst (λ (f : Facts). IsSettled f (pools.disk session.pool).state units) is settled)))
+
+  -- and so what it leaves of them
+  ends_settled : pools.tells → left.end ≢ ends.Pool → (facts : Facts) (units : List UnitModel) → facts.shape ≡ pools.shape pool → Stands facts (pools.disk pool).state.contents units
+      → EndsSettled facts (pools.disk left.pool) units left.steps left.pending
+  ends_settled told ended facts units same stands =
+      subst (λ (l : List Step). EndsSettled facts (pools.disk left.pool) units l left.pending) (sym runs.leaves.steps_are)
+      ((runs.leaves.run.keeps told facts (same ∙ sym begins.shape) (tt {0}) units (stood told facts units same stands)).settled ended)
 
   pub opens_run : IsRun pools.tells (shown pools pool) (shown pools left.pool) (left.end ≢ ends.Pool) left.steps left.pending
   opens_run =
@@ -125,4 +133,5 @@ module _ {P : Type 0} (pools : Ghosts P) (pool : P) (session : SessionView P) (p
     cut = runs.leaves.cut;
     handed = runs.leaves.handed;
     means = means;
+    settled = ends_settled;
   }

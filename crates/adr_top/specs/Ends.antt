@@ -16,8 +16,8 @@ use Rattle.redo_core.specs.Steps.{of_making}
 use Rattle.redo_core.specs.Reading.{journal_of}
 use Rattle.move_core.specs.declared.steps.Step.{Step}
 use Rattle.move_core.specs.Facts.{Facts, shown}
-use Rattle.move_core.specs.Runs.{IsRun}
-use Rattle.move_core.specs.Stands.{IsSettled}
+use Rattle.move_core.specs.Runs.{EndsSettled, IsRun}
+use Rattle.move_core.specs.Stands.{Stands}
 use Rattle.sysin_lang.specs.declared.command.Statement.{Statement}
 use Rattle.sysin_lang.specs.Flow.{Plan}
 use Rattle.run_words.specs.declared.run.Run.{Run}
@@ -171,8 +171,10 @@ pub record RunsText {P : Type 0} (pools : Ghosts P) (files : FilesSeen) (out : S
   pub still : pools.tells → left.steps ≡ [] → left.pending ≡ None → Runs (of_opening (journal_of (pools.shape pool)) (pools.disk pool).state.contents) (pools.disk pool) (pools.disk left.pool)
   pub cut : FilesSeen
   pub handed : HandsOn files ran under cut
-  pub means : pools.tells → (facts : Facts) (units : List UnitModel) → facts.shape ≡ pools.shape pool → IsSettled facts (pools.disk pool).state units
+  pub means : pools.tells → (facts : Facts) (units : List UnitModel) → facts.shape ≡ pools.shape pool → Stands facts (pools.disk pool).state.contents units
       → RunOn (record { facts = facts; today = today; held = table }) ran under cut added left.pending units
+  pub settled : pools.tells → left.end ≢ ends.Pool → (facts : Facts) (units : List UnitModel) → facts.shape ≡ pools.shape pool → Stands facts (pools.disk pool).state.contents units
+      → EndsSettled facts (pools.disk left.pool) units left.steps left.pending
 
 -- The pool was called for texts that were ready. Where it failed its count of faults rose.
 pub record EndsReady {P : Type 0} (pools : Ghosts P) (given : Given) (pool : P) (left : After P) : Type 0 where

@@ -4,7 +4,7 @@ ghost use Rattle.std.specs.Prelude.{◌≡◌, ◌≢◌, [], List, None, map};
 ghost use Rattle.by_rules.specs.Day.{IsToday};
 ghost use Rattle.dasd_pool.specs.Disk.{Image, Runs};
 ghost use Rattle.dump_fmt.specs.Outs.{files_of};
-ghost use Rattle.redo_core.specs.Faults.{IsAllClosed};
+ghost use Rattle.redo_core.specs.Faults.{HasNoSlide};
 ghost use Rattle.redo_core.specs.Opening.{of_opening};
 ghost use Rattle.redo_core.specs.Reading.{journal_of};
 ghost use Rattle.volume_model.specs.Unit.{UnitModel};
@@ -154,14 +154,14 @@ pub fn batch<S: Source, H: Source, O: Sink, P: Pool>(
         (source_seen S.Source sysin.old sysin.new) (source_seen H.Source held.old held.new) (sink_seen O.Sink out.old out.new)) pool
         (record { pool = result.pool; steps = result.steps.items; pending = result.pending; end = end }) }
 
-    // Over a settled pool: whatever moment a stop comes at, the units stand as they were after some of the moves, and no slide and no fill is open where none
-    // was. Where the run doesn't end with 16 the units stand as all steps leave them, none is under way, and the pool is settled.
+    // Over a settled pool: whatever moment a stop comes at, the units stand as they were after some of the moves, and no slide is open where none was.
+    // Where the run doesn't end with 16 the units stand as all steps leave them, none is under way, and the pool is settled.
     ensures headline { ¬ AsksForJournal words.now
         → IsRunOf P.tells (shown P.Pool pool) (shown P.Pool result.pool) (result.status ≢ 16) result.steps.items result.pending }
     ensures stops { P.tells → ¬ AsksForJournal words.now → (facts : Facts) → facts.shape ≡ P.shape pool → (units : List UnitModel)
         → IsSettled facts (P.disk pool).state units → (image : Image) → (P.disk result.pool).left_since (P.disk pool).moment image
         → StandsAfterSome facts units (moves_of result.steps.items result.pending) image
-        × (IsAllClosed facts.shape (P.disk pool).state.contents → IsAllClosed facts.shape image) }
+        × (HasNoSlide facts.shape (P.disk pool).state.contents → HasNoSlide facts.shape image) }
     ensures shape { P.shape result.pool ≡ P.shape pool }
 
     // Where the words ask for no journal to be made, no step was done and none is under way, at most the opening of the journal was written, at any moment.

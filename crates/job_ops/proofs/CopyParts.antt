@@ -1,5 +1,5 @@
 -- What a session says of the data set that is to be copied, and what is judged of it.
-use Rattle.std.proofs.Common.{◌≡◌, ◌≢◌, ◌↔◌, ℕ, ◌<◌, ◌≤◌, ◌==◌, Bool, true, IsTrue, List, [], ◌∷◌, length, All, Option, Some, None, refl, sym, ap, subst, ◌∙◌}
+use Rattle.std.proofs.Common.{◌≡◌, ◌≢◌, ◌↔◌, ℕ, ◌<◌, ◌≤◌, ◌==◌, Bool, true, IsTrue, List, [], ◌∷◌, length, All, Option, Some, None, refl, sym, ap, subst, ◌∙◌, false}
 use Rattle.std.specs.Prelude.{IfSome, IfNone, slice_get}
 use Rattle.std.proofs.lemmas.Bool.{eqb-true, eq-eqb}
 use Rattle.std.proofs.lemmas.List.Elements.{All-head}
@@ -57,12 +57,12 @@ at_none {X} Holds {found} is holds = subst (λ (o : Option X). IfNone o Holds) i
 pub record IsAsked {P : Type 0} (pools : Ghosts P) (session : SessionView P) (unit : ℕ) (state : UnitState) : Type 0 where
   pub below : unit < journal_of (pools.shape session.pool)
   pub value : slice_get session.units unit ≡ Some state
-  pub kept : (slots : List ℕ) × IsKept ((pools.shape session.pool).head unit) ((pools.shape session.pool).blocks unit) state slots
+  pub kept : (slots : List ℕ) × IsKept false ((pools.shape session.pool).head unit) ((pools.shape session.pool).blocks unit) state slots
   pub model : pools.tells → (facts : Facts) (models : List UnitModel) (model : UnitModel) → facts.shape ≡ pools.shape session.pool → IsSettled facts (pools.disk session.pool).state models
       → slice_get models unit ≡ Some model → IsModel state model
 
 pub asked : {P : Type 0} (pools : Ghosts P) (session : SessionView P) (unit : ℕ) (state : UnitState) → unit < journal_of (pools.shape session.pool) → slice_get session.units unit ≡ Some state
-    → ((slots : List ℕ) × IsKept ((pools.shape session.pool).head unit) ((pools.shape session.pool).blocks unit) state slots)
+    → ((slots : List ℕ) × IsKept false ((pools.shape session.pool).head unit) ((pools.shape session.pool).blocks unit) state slots)
     → (pools.tells → (facts : Facts) (models : List UnitModel) (model : UnitModel) → facts.shape ≡ pools.shape session.pool → IsSettled facts (pools.disk session.pool).state models
     → slice_get models unit ≡ Some model → IsModel state model)
     → IsAsked pools session unit state

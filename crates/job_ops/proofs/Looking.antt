@@ -110,8 +110,8 @@ loaded_there {room} {units} {unit} name may volume loaded =
     subst (λ (v : Volume). (row : Row) × HasRow v name row) (same_volume units unit may.may.volume volume may.may.loaded loaded)
     (All-head (λ (n : Dsn). (row : Row) × HasRow may.may.volume n row) name [] may.sets)
 
-pub loaded_sound : (head : List ℕ) (blocks : ℕ) {state : UnitState} {volume : Volume} → state ≡ states.Online volume → ((slots : List ℕ) × IsKept head blocks state slots) → IsSound volume
-loaded_sound head blocks {state} {volume} is kept = (head, blocks, kept.0, subst (λ (s : UnitState). IsKept head blocks s kept.0) is kept.1)
+pub loaded_sound : (head : List ℕ) (blocks : ℕ) {state : UnitState} {volume : Volume} → state ≡ states.Online volume → ((slots : List ℕ) × IsKept false head blocks state slots) → IsSound volume
+loaded_sound head blocks {state} {volume} is kept = (head, blocks, kept.0, subst (λ (s : UnitState). IsKept false head blocks s kept.0) is kept.1)
 
 pub found_row : (volume : Volume) (name : Dsn) (rows : List Row) (place : ℕ) (row : Row) → IsDsn name → rows ≡ volume.rows → place < length volume.rows
     → IsNameOf name (get_or volume.rows place row).name → row ≡ get_or rows place row → HasRow volume name row

@@ -6,7 +6,7 @@ use Rattle.dasd_pool.specs.Disk.{Image, Shape, Disk, MayLeave, LeavesOnly, Touch
 use Rattle.dasd_pool.proofs.Moments.{and_then, weaken, since_start, runs_start}
 use Rattle.redo_core.specs.declared.entries.Entry.{Entry}
 use Rattle.redo_core.specs.Reading.{Reading}
-use Rattle.redo_core.specs.Faults.{IsAllClosed}
+use Rattle.redo_core.specs.Faults.{HasNoSlide}
 use Rattle.redo_core.specs.Phases.{OldOrNew, IsCommitted}
 use Rattle.redo_core.specs.declared.control.Control.{Control}
 use Rattle.redo_core.specs.Opening.{ReadsSame, IsOpened}
@@ -16,7 +16,7 @@ use Rattle.move_core.specs.declared.steps.Step.{Step}
 use Rattle.move_core.specs.Facts.{Facts}
 use Rattle.move_core.specs.Steps.{Reaches}
 use Rattle.move_core.specs.Stands.{Stands, AreUnused, IsSettled}
-use Rattle.move_core.specs.Laws.{WillStand, OpensNone}
+use Rattle.move_core.specs.Laws.{WillStand, OpensNoSlide}
 use Rattle.move_core.proofs.Standing.{opening_stands, opened_settled, image_stands, commit_stands, committed_settled, same_closed, image_closed, commit_closed}
 use Rattle.move_core.specs.Runs.{moves_of, StandsAfterSome, StandsAfterMost, EndsSettled, KeepsUnits, KeepsEach}
 use Rattle.move_core.proofs.Unused.{masked, masked_left, masked_settled, unused_settled}
@@ -82,7 +82,7 @@ moves_then steps more (Some step) = sym (append_assoc steps more (step ∷ []))
 -- ---- a run whose moments and end are known
 
 pub settled_keeps : (facts : Facts) (old new : Disk) (ended : Type 0) (first : List UnitModel) (steps : List Step)
-    → LeavesOnly old new (StandsAfterSome facts first steps) → (IsAllClosed facts.shape old.state.contents → LeavesOnly old new (IsAllClosed facts.shape))
+    → LeavesOnly old new (StandsAfterSome facts first steps) → (HasNoSlide facts.shape old.state.contents → LeavesOnly old new (HasNoSlide facts.shape))
     → EndsSettled facts new first steps None → KeepsUnits facts old new ended first steps None
 settled_keeps facts old new ended first steps moments closes ends = record {
   any_moment = moments;
@@ -112,8 +112,8 @@ module _ (facts : Facts) (may : ℕ → ℕ → Bool) (old new : Disk) (units : 
       all_of facts units [] units refl image (image_stands facts (masked may old.state) units image
       (masked_settled may facts old.state units settled unused) (masked_left may old.state image spares))) run.leaves
 
-  quiet_closed : IsAllClosed facts.shape old.state.contents → LeavesOnly old new (IsAllClosed facts.shape)
-  quiet_closed closed = weaken old new (Spares may old.state) (IsAllClosed facts.shape)
+  quiet_closed : HasNoSlide facts.shape old.state.contents → LeavesOnly old new (HasNoSlide facts.shape)
+  quiet_closed closed = weaken old new (Spares may old.state) (HasNoSlide facts.shape)
       (λ image spares.
       image_closed facts (masked may old.state) units image (masked_settled may facts old.state units settled unused) (masked_left may old.state image spares) closed) run.leaves
 
@@ -145,17 +145,17 @@ each_moment facts old new ended units steps pending settled keeps =
     (λ image left.
     lengthened facts units [] (moves_of steps pending) 0 image (all_of facts units [] units refl image (image_stands facts old.state units image settled left)))
 
--- no slide and no fill is open in it
+-- no slide is open in it
 pub each_closed : (facts : Facts) (old new : Disk) (ended : Type 0) (units : List UnitModel) (steps : List Step) (pending : Option Step)
-    → IsSettled facts old.state units → KeepsUnits facts old new ended units steps pending → IsAllClosed facts.shape old.state.contents
-    → (image : Image) → new.left_since old.moment image → IsAllClosed facts.shape image
+    → IsSettled facts old.state units → KeepsUnits facts old new ended units steps pending → HasNoSlide facts.shape old.state.contents
+    → (image : Image) → new.left_since old.moment image → HasNoSlide facts.shape image
 each_closed facts old new ended units steps pending settled keeps closed =
-    since_start old new (IsAllClosed facts.shape) (keeps.closed closed) (λ image left. image_closed facts old.state units image settled left closed)
+    since_start old new (HasNoSlide facts.shape) (keeps.closed closed) (λ image left. image_closed facts old.state units image settled left closed)
 
 -- nor in what the pool then holds
 pub ends_closed : (facts : Facts) (old new : Disk) (ended : Type 0) (units : List UnitModel) (steps : List Step) (pending : Option Step)
-    → IsSettled facts old.state units → KeepsUnits facts old new ended units steps pending → IsAllClosed facts.shape old.state.contents
-    → IsAllClosed facts.shape new.state.contents
+    → IsSettled facts old.state units → KeepsUnits facts old new ended units steps pending → HasNoSlide facts.shape old.state.contents
+    → HasNoSlide facts.shape new.state.contents
 ends_closed facts old new ended units steps pending settled keeps closed =
     each_closed facts old new ended units steps pending settled keeps closed new.state.contents
     (new.counts_now old.moment new.state.contents keeps.any_moment.later (λ u b was. refl))
@@ -199,7 +199,7 @@ module _ (facts : Facts) (old mid new : Disk) (ended later : Type 0) (first : Li
               settled = last.settled;
             };
         closed = λ closed.
-            and_then old mid new (IsAllClosed facts.shape) (run.closed closed)
+            and_then old mid new (HasNoSlide facts.shape) (run.closed closed)
             (second.closed (ends_closed facts old mid ended first steps None start run closed));
       }
 
@@ -207,7 +207,7 @@ module _ (facts : Facts) (old mid new : Disk) (ended later : Type 0) (first : Li
 
 module _ (facts : Facts) (old new : Disk) (move : Option Step) (units made : List UnitModel) (settled : IsSettled facts old.state units)
     (entries : List Entry) (reached : Reaches facts units (moves_of [] move) made) (will : WillStand facts settled.stands.reading entries made)
-    (opens_none : OpensNone facts.shape settled.stands.reading entries) (moments : LeavesOnly old new (OldOrNew facts.shape old.state entries)) where
+    (opens_none : OpensNoSlide facts.shape settled.stands.reading entries) (moments : LeavesOnly old new (OldOrNew facts.shape old.state entries)) where
   abbrev moves : List Step
   moves = moves_of [] move
 
@@ -220,8 +220,8 @@ module _ (facts : Facts) (old new : Disk) (move : Option Step) (units made : Lis
   commit_moments = weaken old new (OldOrNew facts.shape old.state entries) (StandsAfterSome facts units moves)
       (λ image either. stands_some image (commit_stands facts old.state units made entries image settled will either)) moments
 
-  closes : IsAllClosed facts.shape old.state.contents → LeavesOnly old new (IsAllClosed facts.shape)
-  closes closed = weaken old new (OldOrNew facts.shape old.state entries) (IsAllClosed facts.shape)
+  closes : HasNoSlide facts.shape old.state.contents → LeavesOnly old new (HasNoSlide facts.shape)
+  closes closed = weaken old new (OldOrNew facts.shape old.state entries) (HasNoSlide facts.shape)
       (λ image either. commit_closed facts old.state units entries image settled opens_none either closed) moments
 
   pub commit_failed : (ended : Type 0) → ¬ ended → KeepsUnits facts old new ended units [] move
@@ -275,8 +275,8 @@ opening_moments facts old new units settled moments = weaken old new (ReadsSame 
     (λ image same. all_of facts units [] units refl image (opening_stands facts old.state units image settled same)) moments
 
 opening_closed : (facts : Facts) (old new : Disk) (units : List UnitModel) → IsSettled facts old.state units
-    → LeavesOnly old new (ReadsSame facts.shape old.state) → IsAllClosed facts.shape old.state.contents → LeavesOnly old new (IsAllClosed facts.shape)
-opening_closed facts old new units settled moments closed = weaken old new (ReadsSame facts.shape old.state) (IsAllClosed facts.shape)
+    → LeavesOnly old new (ReadsSame facts.shape old.state) → HasNoSlide facts.shape old.state.contents → LeavesOnly old new (HasNoSlide facts.shape)
+opening_closed facts old new units settled moments closed = weaken old new (ReadsSame facts.shape old.state) (HasNoSlide facts.shape)
     (λ image same. same_closed facts old.state units image settled same closed) moments
 
 -- it was refused, and wrote nothing where it ended

@@ -5,7 +5,7 @@ use Rattle.dasd_pool.specs.Disk.{Image, Shape, State, IsSynced}
 use Rattle.redo_core.specs.Format.{is_open, directory_in, control_in, is_filling}
 use Rattle.redo_core.specs.Reading.{journal_of, overlay, control_block, Reading, Obeys, IsRegistration, IsDirectory, IsControl}
 use Rattle.redo_core.specs.Opening.{IsFormatted}
-use Rattle.redo_core.specs.Faults.{zeroed, HasSerial, LabelsAre, IsAllClosed, MayFormat, MayOpen}
+use Rattle.redo_core.specs.Faults.{zeroed, HasSerial, LabelsAre, HasNoSlide, MayFormat, MayOpen}
 use Rattle.redo_core.proofs.Openings.{zeroed_there, overlay_there}
 use Rattle.volume_model.specs.Unit.{UnitModel}
 use Rattle.move_core.specs.Facts.{Facts, Inputs}
@@ -101,7 +101,7 @@ module _ (facts : Facts) (image : Image) (units : List UnitModel) (stands : Stan
         label = subst (λ (slot : List ℕ). HasSerial (record { device = has.device; tracks = shape.blocks unit }) slot serial) (sym same) has.label;
       })
 
-  pub standing_may_open : IsAllClosed facts.shape image → MayOpen facts.shape image facts.names
+  pub standing_may_open : HasNoSlide facts.shape image → MayOpen facts.shape image facts.names
   standing_may_open closed = record {
     reading = stands.reading;
     idle = record { obeys = zeroed_obeys; idle = closed stands.reading stands.reads };

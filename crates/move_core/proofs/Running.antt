@@ -12,7 +12,7 @@ use Rattle.redo_core.specs.declared.control.Control.TheVariants.{Idle}
 use Rattle.redo_core.specs.declared.entries.Entry.{Entry}
 use Rattle.redo_core.specs.Format.{is_open, control_in, directory_in}
 use Rattle.redo_core.specs.Reading.{journal_of, fills_of}
-use Rattle.redo_core.specs.Faults.{IsAllClosed}
+use Rattle.redo_core.specs.Faults.{HasNoSlide}
 use Rattle.redo_core.specs.Opening.{IsOpened, ReadsSame, of_opening, of_redo}
 use Rattle.redo_core.specs.Phases.{IsAtRest, OldOrNew, IsCommitted}
 use Rattle.redo_core.proofs.Crash.{closed_overlay}
@@ -21,7 +21,7 @@ use Rattle.move_core.specs.declared.steps.Step.{Step}
 use Rattle.move_core.specs.Facts.{Facts, Shown}
 use Rattle.move_core.specs.Stands.{AreUnused, IsSettled}
 use Rattle.move_core.specs.Runs.{StandsAfterSome, KeepsUnits, AreCallsFor, IsFinished, IsRunFor, IsRun, moves_of}
-use Rattle.move_core.specs.Taking.{IsQuiet, IsIdle, TakeUnitsFor, KeepUnits}
+use Rattle.move_core.specs.Taking.{IsQuiet, TakeUnitsFor, KeepUnits}
 use Rattle.move_core.proofs.Below.{nil_parts}
 use Rattle.move_core.proofs.Keeping.{demote, under_way, quiet, still, idle, ends_less, keeps_then, opened, refused, commit_done, commit_failed, each_moment, each_closed}
 use Rattle.dasd_pool.proofs.Streams.{rose_since}
@@ -206,10 +206,10 @@ pub run_stops : {allows : Facts → Type 0} {tells : Type 0} {old new : Shown} {
 run_stops {allows} {tells} {old} {new} {ended} {steps} {pending} run told facts same allowed units settled =
     each_moment facts old.disk new.disk ended units steps pending settled (run.keeps told facts same allowed units settled)
 
--- no slide and no fill is open in it where none was
+-- no slide is open in it where none was
 pub run_closed : {allows : Facts → Type 0} {tells : Type 0} {old new : Shown} {ended : Type 0} {steps : List Step} {pending : Option Step} → IsRunFor allows tells old new ended steps pending → tells
-    → (facts : Facts) → facts.shape ≡ old.shape → allows facts → (units : List UnitModel) → IsSettled facts old.disk.state units → IsAllClosed facts.shape old.disk.state.contents
-    → (image : Image) → new.disk.left_since old.disk.moment image → IsAllClosed facts.shape image
+    → (facts : Facts) → facts.shape ≡ old.shape → allows facts → (units : List UnitModel) → IsSettled facts old.disk.state units → HasNoSlide facts.shape old.disk.state.contents
+    → (image : Image) → new.disk.left_since old.disk.moment image → HasNoSlide facts.shape image
 run_closed {allows} {tells} {old} {new} {ended} {steps} {pending} run told facts same allowed units settled closed =
     each_closed facts old.disk new.disk ended units steps pending settled (run.keeps told facts same allowed units settled) closed
 
@@ -262,31 +262,10 @@ finished_at_rest {shape} {state} rest idle = record {
       ap control_in (sym (closed_overlay shape.block_size (journal_of shape) state.contents rest.closed (journal_of shape) 2)) ∙ sym rest.reads.obeys.control_is ∙ idle;
 }
 
--- a journal at rest with nothing under way
-pub idle_at_rest : {shape : Shape} {state : State} {room : ℕ} {control : Control} {fills : List Bool} → IsAtRest shape state room control fills → control ≡ Idle
-    → ((u : ℕ) → u < journal_of shape → fills_of fills u ≡ false) → IsIdle shape state room
-idle_at_rest {shape} {state} {room} {control} {fills} rest idle closed = record {
-  rest = record {
-    closed = rest.closed;
-    synced = rest.synced;
-    names = rest.names;
-    reads =
-        let reads = rest.reads in
-        let obeys = reads.obeys in
-        record {
-          obeys = record {
-            head = obeys.head;
-            registration = obeys.registration;
-            body = obeys.body;
-            control = obeys.control;
-            control_is = sym idle ∙ obeys.control_is;
-            fills_are = λ u less. sym (closed u less) ∙ obeys.fills_are u less;
-          };
-          long = reads.long;
-          volumes_are = reads.volumes_are;
-        };
-  };
-}
+-- a journal at rest with no slide open
+pub quiet_at_rest : {shape : Shape} {state : State} {room : ℕ} {control : Control} {fills : List Bool} → IsAtRest shape state room control fills → control ≡ Idle
+    → IsQuiet shape state room fills
+quiet_at_rest {shape} {state} {room} {control} {fills} rest idle = record { rest = subst (λ (c : Control). IsAtRest shape state room c fills) idle rest }
 
 pub switch_done : {allows : Facts → Type 0} {tells : Type 0} {old new : Shown} {ended : Type 0} {step : Step} {room : ℕ} {fills : List Bool} {entries : List Entry} → new.shape ≡ old.shape → old.faults ≤ new.faults
     → (tells → IsQuiet old.shape old.disk.state room fills) → (tells → TakeUnitsFor allows old.shape room fills old.disk.state.contents step entries)

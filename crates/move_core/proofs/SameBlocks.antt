@@ -6,7 +6,7 @@ use Rattle.dasd_pool.specs.Disk.{Image, Shape}
 use Rattle.redo_core.specs.declared.entries.Entry.{Entry}
 use Rattle.redo_core.specs.declared.target.Target.{Target}
 use Rattle.redo_core.specs.Format.{is_open, directory_in}
-use Rattle.redo_core.specs.Faults.{IsAllClosed}
+use Rattle.redo_core.specs.Faults.{HasNoSlide}
 use Rattle.redo_core.specs.Reading.{journal_of, overlay, placed, body_for, Reads, IsDirectory}
 use Rattle.redo_core.proofs.Closed.{closed_by}
 use Rattle.redo_core.proofs.Crash.{closed_overlay, placed_agree}
@@ -65,6 +65,6 @@ module _ (facts : Facts) (image other : Image) (units : List UnitModel) (stands 
       (λ u b less rests. overlay_same u b (same u b (volume_there u less) rests.2) ∙ sym (stands.reads.volumes_are u b less))
 
   -- and no slide or fill is open in it where none was
-  pub closed_there : IsAllClosed facts.shape image → IsAllClosed facts.shape other
+  pub closed_there : HasNoSlide facts.shape image → HasNoSlide facts.shape other
   closed_there closed =
       closed_by shape other (record stands.reading { volumes = overlay shape.block_size j other }) there_reads (closed stands.reading stands.reads)

@@ -10,7 +10,7 @@ use Rattle.redo_core.specs.declared.control.Control.TheVariants.{Idle, Slide}
 use Rattle.redo_core.specs.declared.entries.Entry.{Entry}
 use Rattle.redo_core.specs.Format.{directory_in}
 use Rattle.redo_core.specs.Reading.{journal_of, with_entries, Reading, Reads, IsLawful, IsRegistration, IsDirectory}
-use Rattle.redo_core.specs.Faults.{HasSerial, IsAllClosed}
+use Rattle.redo_core.specs.Faults.{HasSerial, HasNoSlide}
 use Rattle.redo_core.specs.Phases.{ReadsNew, OldOrNew, IsCommitted}
 use Rattle.redo_core.specs.Opening.{ReadsSame, IsOpened}
 use Rattle.redo_core.proofs.Closed.{closed_by}
@@ -21,7 +21,7 @@ use Rattle.volume_model.specs.Reads.{IsVital}
 use Rattle.volume_model.specs.Sound.{Slots}
 use Rattle.move_core.specs.Facts.{Facts}
 use Rattle.move_core.specs.Stands.{is_sliding, place_in, IsAfterSlide, Means, RestsOn, Stands, IsSettled}
-use Rattle.move_core.specs.Laws.{WillStand, OpensNone}
+use Rattle.move_core.specs.Laws.{WillStand, OpensNoSlide}
 use Rattle.move_core.proofs.Frames.{unit_moves}
 
 -- a slide, where there is one, goes down
@@ -188,25 +188,25 @@ committed_settled facts old new before after entries settled will committed = re
   vital = λ u b less rests. inl (committed.all u b);
 }
 
--- ---- no slide and no fill is open
+-- ---- no slide is open
 
 -- where an image reads as a settled pool did, none is that wasn't
 pub same_closed : (facts : Facts) (state : State) (units : List UnitModel) (image : Image)
-    → IsSettled facts state units → ReadsSame facts.shape state image → IsAllClosed facts.shape state.contents → IsAllClosed facts.shape image
+    → IsSettled facts state units → ReadsSame facts.shape state image → HasNoSlide facts.shape state.contents → HasNoSlide facts.shape image
 same_closed facts state units image settled same closed =
     let told = same settled.stands.reading settled.stands.reads in
     closed_by facts.shape image (record settled.stands.reading { volumes = told.0 }) told.1 (closed settled.stands.reading settled.stands.reads)
 
 -- a stop now
 pub image_closed : (facts : Facts) (state : State) (units : List UnitModel) (image : Image)
-    → IsSettled facts state units → MayLeave state image → IsAllClosed facts.shape state.contents → IsAllClosed facts.shape image
+    → IsSettled facts state units → MayLeave state image → HasNoSlide facts.shape state.contents → HasNoSlide facts.shape image
 image_closed facts state units image settled left =
     same_closed facts state units image settled (spared_reads facts.shape state settled.journal image (λ u b unlisted was. left u b was))
 
 -- within a commit that opens none
 pub commit_closed : (facts : Facts) (state : State) (before : List UnitModel) (entries : List Entry) (image : Image)
-    → (settled : IsSettled facts state before) → OpensNone facts.shape settled.stands.reading entries
-    → OldOrNew facts.shape state entries image → IsAllClosed facts.shape state.contents → IsAllClosed facts.shape image
+    → (settled : IsSettled facts state before) → OpensNoSlide facts.shape settled.stands.reading entries
+    → OldOrNew facts.shape state entries image → HasNoSlide facts.shape state.contents → HasNoSlide facts.shape image
 commit_closed facts state before entries image settled opens_none either closed = ⊎_elim
     (λ same. same_closed facts state before image settled same closed)
     (λ new.

@@ -42,9 +42,9 @@ pub record WillStand (facts : Facts) (reading : Reading) (entries : List Entry) 
   pub labels : LabelsAre facts.shape (placed reading.volumes entries) facts.names (journal_of facts.shape)
   pub means : Means facts.shape (with_entries facts.shape reading entries) units
 
--- with all entries in place no slide and no fill is open where none was
-abbrev pub OpensNone : Shape → Reading → List Entry → Type 0
-OpensNone shape reading entries = ¬ IsBusy shape reading → ¬ IsBusy shape (with_entries shape reading entries)
+-- with all entries in place no slide is open where none was
+abbrev pub OpensNoSlide : Shape → Reading → List Entry → Type 0
+OpensNoSlide shape reading entries = ¬ IsBusy reading → ¬ IsBusy (with_entries shape reading entries)
 
 -- What a stop leaves within a commit stands for the units before it, or for those that the commit makes.
 abbrev pub CommitStands : Type 0

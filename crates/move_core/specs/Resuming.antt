@@ -4,7 +4,7 @@ use Rattle.dasd_pool.specs.Disk.{Image, State, IsSynced}
 use Rattle.vol_label.specs.declared.serial.Serial.{Serial}
 use Rattle.redo_core.specs.declared.control.Control.TheVariants.{Idle}
 use Rattle.redo_core.specs.Reading.{Reading}
-use Rattle.redo_core.specs.Faults.{IsAllClosed, MayFormat, MayOpen}
+use Rattle.redo_core.specs.Faults.{HasNoSlide, MayFormat, MayOpen}
 use Rattle.redo_core.specs.Opening.{IsFormatted}
 use Rattle.volume_model.specs.Unit.{UnitModel}
 use Rattle.move_core.specs.Facts.{Facts}
@@ -29,16 +29,16 @@ SyncedIsSettled =
 abbrev pub SameBlocksStand : Type 0
 SameBlocksStand =
     (facts : Facts) (one other : Image) (units : List UnitModel) → ((u b : ℕ) → u < facts.shape.units → b < facts.shape.blocks u → other u b ≡ one u b)
-    → Stands facts one units → Stands facts other units × (IsAllClosed facts.shape one → IsAllClosed facts.shape other)
+    → Stands facts one units → Stands facts other units × (HasNoSlide facts.shape one → HasNoSlide facts.shape other)
 
 -- No slide and no fill is open where a journal was made, and none where nothing stood against an opening.
 abbrev pub NoneIsOpen : Type 0
 NoneIsOpen =
-    ((facts : Facts) (old new : State) → IsFormatted facts.shape old facts.names facts.room new → IsAllClosed facts.shape new.contents)
-    × ((facts : Facts) (image : Image) (names : List Serial) → MayOpen facts.shape image names → IsAllClosed facts.shape image)
+    ((facts : Facts) (old new : State) → IsFormatted facts.shape old facts.names facts.room new → HasNoSlide facts.shape new.contents)
+    × ((facts : Facts) (image : Image) (names : List Serial) → MayOpen facts.shape image names → HasNoSlide facts.shape image)
 
--- Where an image stands for units, and no slide and no fill is open, nothing stands against its opening under these names.
+-- Where an image stands for units, and no slide is open, nothing stands against its opening under these names.
 abbrev pub StandingMayOpen : Type 0
 StandingMayOpen =
-    (facts : Facts) (image : Image) (units : List UnitModel) → Stands facts image units → IsAllClosed facts.shape image
+    (facts : Facts) (image : Image) (units : List UnitModel) → Stands facts image units → HasNoSlide facts.shape image
     → MayOpen facts.shape image facts.names

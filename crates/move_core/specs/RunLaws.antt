@@ -3,7 +3,7 @@ use Rattle.std.specs.Prelude.{◌≡◌, ℕ, ◌≤◌, List, [], ◌∷◌, �
 use Rattle.dasd_pool.specs.Count.{Rose}
 use Rattle.dasd_pool.specs.Disk.{Image, LeavesOnly, Runs, none}
 use Rattle.redo_core.specs.declared.entries.Entry.{Entry}
-use Rattle.redo_core.specs.Faults.{IsAllClosed}
+use Rattle.redo_core.specs.Faults.{HasNoSlide}
 use Rattle.redo_core.specs.Phases.{OldOrNew, IsCommitted}
 use Rattle.volume_model.specs.Unit.{UnitModel}
 use Rattle.move_core.specs.declared.steps.Step.{Step}
@@ -79,10 +79,10 @@ RunKept tells old new ended =
     × (¬ ended → Rose old.faults new.faults → AreCallsFor (HasInputs inputs) tells old new ended [] None)
 
 -- Over a settled pool that tells, whatever moment since its beginning a run is stopped at, what is left stands for the first units after a
--- prefix of its moves; and where no slide and no fill was open, none is open in what is left.
+-- prefix of its moves; and where no slide was open, none is open in what is left.
 abbrev pub RunStops : Type 0 → Shown → Shown → Type 0 → Type 0
 RunStops tells old new ended =
     (inputs : Option Inputs) (steps : List Step) (pending : Option Step) → IsRunFor (HasInputs inputs) tells old new ended steps pending → tells
     → (facts : Facts) (units : List UnitModel) → facts.shape ≡ old.shape → HasInputs inputs facts → IsSettled facts old.disk.state units
     → (image : Image) → new.disk.left_since old.disk.moment image
-    → StandsAfterSome facts units (moves_of steps pending) image × (IsAllClosed facts.shape old.disk.state.contents → IsAllClosed facts.shape image)
+    → StandsAfterSome facts units (moves_of steps pending) image × (HasNoSlide facts.shape old.disk.state.contents → HasNoSlide facts.shape image)

@@ -5,7 +5,7 @@ use Rattle.dasd_pool.specs.Disk.{Image, Shape, Disk, MayLeave, LeavesOnly, Runs,
 use Rattle.redo_core.specs.declared.control.Control.TheVariants.{Idle}
 use Rattle.redo_core.specs.Format.{is_open, control_in}
 use Rattle.redo_core.specs.Reading.{journal_of}
-use Rattle.redo_core.specs.Faults.{IsAllClosed}
+use Rattle.redo_core.specs.Faults.{HasNoSlide}
 use Rattle.volume_model.specs.Unit.{UnitModel}
 use Rattle.move_core.specs.declared.steps.Step.{Step}
 use Rattle.move_core.specs.Facts.{Facts, HasInputs, Shown}
@@ -40,13 +40,13 @@ pub record EndsSettled (facts : Facts) (new : Disk) (first : List UnitModel) (st
   pub settled : IsSettled facts new.state units
 
 -- A run that began on a settled pool. Whatever moment it is stopped at, what is left stands for the first units after a prefix of its
--- moves; once it has returned, after all the steps that it did. Where it ended, nothing is under way, and the pool is settled. Where no slide
--- and no fill was open, none is in what is left.
+-- moves; once it has returned, after all the steps that it did. Where it ended, no step is under way, and the pool is settled. Where no slide
+-- was open, none is in what is left.
 pub record KeepsUnits (facts : Facts) (old new : Disk) (ended : Type 0) (first : List UnitModel) (steps : List Step) (pending : Option Step) : Type 0 where
   pub any_moment : LeavesOnly old new (StandsAfterSome facts first (moves_of steps pending))
   pub returned : (image : Image) → MayLeave new.state image → StandsAfterMost facts first (moves_of steps pending) (length steps) image
   pub settled : ended → EndsSettled facts new first steps pending
-  pub closed : IsAllClosed facts.shape old.state.contents → LeavesOnly old new (IsAllClosed facts.shape)
+  pub closed : HasNoSlide facts.shape old.state.contents → LeavesOnly old new (HasNoSlide facts.shape)
 
 -- so for each units that the pool may have stood for
 abbrev pub KeepsEach : Facts → Disk → Disk → Type 0 → List Step → Option Step → Type 0

@@ -20,7 +20,7 @@ module _ (shape : Shape) (image : Image) (one other : Reading) (is : Obeys shape
   same_names = also.registration.names_are ∙ sym is.registration.names_are
 
 -- no rule is broken
-no_rule : (shape : Shape) (image : Image) (reading : Reading) → Obeys shape image reading → ¬ IsBusy shape reading → (rule : JournalRule) → ¬ IsFirstBroken shape image rule
+no_rule : (shape : Shape) (image : Image) (reading : Reading) → Obeys shape image reading → ¬ IsBusy reading → (rule : JournalRule) → ¬ IsFirstBroken shape image rule
 no_rule shape image reading is idle rules.Head broken = broken is.head
 no_rule shape image reading is idle rules.Registration broken = broken.1 reading.names reading.room is.registration
 no_rule shape image reading is idle rules.Body broken =

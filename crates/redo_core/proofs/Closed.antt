@@ -1,27 +1,25 @@
--- Images of which no slide and no fill is open.
-use Rattle.std.proofs.Common.{◌≡◌, ⊎_elim, inl, inr, ℕ, ◌+◌, ◌≤◌, List, [], length, refl, sym, ◌∙◌, ap, arith}
-use Rattle.std.proofs.lemmas.Bool.{cases_Bool, both_ways, false≢true}
+-- Images of which no slide is open.
+use Rattle.std.proofs.Common.{◌≡◌, inl, inr, ℕ, ◌+◌, ◌≤◌, List, [], length, refl, sym, ◌∙◌, ap, arith}
+use Rattle.std.proofs.lemmas.Bool.{cases_Bool, both_ways}
 use Rattle.dasd_pool.specs.Disk.{Image, Shape, State}
 use Rattle.vol_label.specs.declared.serial.Serial.{Serial}
 use Rattle.redo_core.specs.declared.target.Target.{Target}
-use Rattle.redo_core.specs.Format.{is_open, control_in, is_filling, directory_in}
+use Rattle.redo_core.specs.Format.{is_open, control_in, directory_in}
 use Rattle.redo_core.specs.Reading.{journal_of, control_block, Reading, Reads, Obeys}
 use Rattle.redo_core.specs.Steps.{HasTargets}
 use Rattle.redo_core.specs.Opening.{IsFormatted}
-use Rattle.redo_core.specs.Faults.{zeroed, IsBusy, IsAllClosed, MayOpen}
+use Rattle.redo_core.specs.Faults.{zeroed, IsBusy, HasNoSlide, MayOpen}
 use Rattle.redo_core.proofs.Openings.{zeroed_there, overlay_there}
 
 -- what is under way is said by the control block alone
-pub same_busy : (shape : Shape) (image later : Image) (one other : Reading) → control_block shape later ≡ control_block shape image → Obeys shape image one → Obeys shape later other → IsBusy shape other → IsBusy shape one
-same_busy shape image later one other same is also = ⊎_elim
-    (λ slide. inl (λ idle. slide (also.control_is ∙ ap control_in same ∙ sym is.control_is ∙ idle)))
-    (λ fill. inr (fill.0, fill.1, is.fills_are fill.0 fill.1 ∙ sym (ap (λ (block : List ℕ). is_filling block fill.0) same) ∙ sym (also.fills_are fill.0 fill.1) ∙ fill.2))
+pub same_busy : (shape : Shape) (image later : Image) (one other : Reading) → control_block shape later ≡ control_block shape image → Obeys shape image one → Obeys shape later other → IsBusy other → IsBusy one
+same_busy shape image later one other same is also slide = λ idle. slide (also.control_is ∙ ap control_in same ∙ sym is.control_is ∙ idle)
 
-pub closed_by : (shape : Shape) (image : Image) (reading : Reading) → Reads shape image reading → ¬ IsBusy shape reading → IsAllClosed shape image
+pub closed_by : (shape : Shape) (image : Image) (reading : Reading) → Reads shape image reading → ¬ IsBusy reading → HasNoSlide shape image
 closed_by shape image reading reads idle other also busy = idle (same_busy shape image image reading other refl reads.obeys also.obeys busy)
 
 -- of an image that has the same control
-pub closed_same : (shape : Shape) (image later : Image) (reading : Reading) → control_block shape later ≡ control_block shape image → Reads shape image reading → IsAllClosed shape image → IsAllClosed shape later
+pub closed_same : (shape : Shape) (image later : Image) (reading : Reading) → control_block shape later ≡ control_block shape image → Reads shape image reading → HasNoSlide shape image → HasNoSlide shape later
 closed_same shape image later reading same reads closed other also busy = closed reading reads (same_busy shape image later reading other same reads.obeys also.obeys busy)
 
 -- where the journal has all its blocks, the control is as it is with zeros past its end
@@ -38,11 +36,11 @@ control_there shape image reading is long =
     by list few has = sym (overlay_there shape image reading.room list long few has (journal_of shape) 2 (zeroed_there shape image (journal_of shape) 2 (omega (arith, long))))
 
 -- a journal that may be opened
-pub allowed_closed : (shape : Shape) (image : Image) (names : List Serial) → MayOpen shape image names → IsAllClosed shape image
+pub allowed_closed : (shape : Shape) (image : Image) (names : List Serial) → MayOpen shape image names → HasNoSlide shape image
 allowed_closed shape image names may other also busy =
     let is = may.idle.obeys in
     may.idle.idle (same_busy shape (zeroed shape image) image may.reading other (control_there shape image may.reading is may.long) is also.obeys busy)
 
 -- and one that was made
-pub formatted_closed : (shape : Shape) (old : State) (names : List Serial) (room : ℕ) (new : State) → IsFormatted shape old names room new → IsAllClosed shape new.contents
-formatted_closed shape old names room new is = closed_by shape new.contents _ is.reads (λ busy. ⊎_elim (λ slide. slide refl) (λ fill. false≢true fill.2) busy)
+pub formatted_closed : (shape : Shape) (old : State) (names : List Serial) (room : ℕ) (new : State) → IsFormatted shape old names room new → HasNoSlide shape new.contents
+formatted_closed shape old names room new is = closed_by shape new.contents _ is.reads (λ slide. slide refl)

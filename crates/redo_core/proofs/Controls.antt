@@ -9,8 +9,16 @@ use Rattle.redo_core.specs.declared.control.Control.{Control}
 use Rattle.redo_core.specs.declared.entries.Entry.{Entry}
 use Rattle.redo_core.specs.Format.{control_in, is_filling}
 use Rattle.redo_core.specs.Reading.{journal_of, set_block, placed, control_after, fills_after, with_entries, fills_of, Reading, IsControl}
-use Rattle.redo_core.specs.Phases.{IsEntry, IsStatusAfter}
+use Rattle.redo_core.specs.Phases.{IsEntry, MayGo, IsStatusAfter}
+use Rattle.redo_core.specs.Steps.{IsJournal}
 use Rattle.redo_core.proofs.Crash.{other_unit}
+
+-- the journal is the last unit
+pub journal_is : {shape : Shape} {unit room : ℕ} → IsJournal shape unit room → unit ≡ journal_of shape
+journal_is is = omega (arith, is.last)
+
+pub at_journal : {shape : Shape} {unit room : ℕ} → IsJournal shape unit room → IsJournal shape (journal_of shape) room
+at_journal {shape} {unit} {room} is = subst (λ (u : ℕ). IsJournal shape u room) (journal_is is) is
 
 -- entries of volumes leave the control
 module _ (journal : ℕ) where
@@ -45,13 +53,16 @@ module _ (shape : Shape) (entries : List Entry) (volumes : All (λ entry. entry.
 
 -- an entry of a volume
 pub volume_entry : (shape : Shape) (entry : Entry) → entry.unit < journal_of shape → entry.block < shape.blocks entry.unit → length entry.slot ≡ shape.block_size entry.unit → IsEntry shape entry
-volume_entry shape entry less there slot =
+volume_entry shape entry less there slot = record { volume = less; there = there; slot = slot }
+
+pub volume_goes : (shape : Shape) (entry : Entry) → IsEntry shape entry → MayGo shape entry
+volume_goes shape entry is =
     let journal = journal_of shape in
     record {
-      place = or_left (nat_lt entry.unit journal) (is_at journal 2 entry.unit entry.block) (lt-ltb entry.unit journal less);
-      control = λ at. absurd (both_ways (is_at journal 2 entry.unit entry.block) (other_unit journal 2 entry.unit entry.block (λ same. omega (arith, less, same))) at);
-      there = there;
-      slot = slot;
+      place = or_left (nat_lt entry.unit journal) (is_at journal 2 entry.unit entry.block) (lt-ltb entry.unit journal is.volume);
+      control = λ at. absurd (both_ways (is_at journal 2 entry.unit entry.block) (other_unit journal 2 entry.unit entry.block (λ same. omega (arith, is.volume, same))) at);
+      there = is.there;
+      slot = is.slot;
     }
 
 -- two places are one, from both sides
@@ -95,7 +106,7 @@ fills_placed journal (entry ∷ entries) image fills u is =
     apart false = refl
 
 -- and it is a lawful one
-lawful_by : (shape : Shape) (entries : List Entry) (image : Image) → AllByRecursion (IsEntry shape) entries → IsControl shape (image (journal_of shape) 2) → IsControl shape (placed image entries (journal_of shape) 2)
+lawful_by : (shape : Shape) (entries : List Entry) (image : Image) → AllByRecursion (MayGo shape) entries → IsControl shape (image (journal_of shape) 2) → IsControl shape (placed image entries (journal_of shape) 2)
 lawful_by shape [] image each is = is
 lawful_by shape (entry ∷ entries) image each is = lawful_by shape entries (set_block image entry.unit entry.block entry.slot) each.1 here
   where
@@ -107,8 +118,8 @@ lawful_by shape (entry ∷ entries) image each is = lawful_by shape entries (set
       | inr apart ↦ subst (λ (t : Bool). IsControl shape (if t then entry.slot else image (journal_of shape) 2)) (sym apart) is
     ]
 
-pub lawful_placed : (shape : Shape) (entries : List Entry) (image : Image) → All (IsEntry shape) entries → IsControl shape (image (journal_of shape) 2) → IsControl shape (placed image entries (journal_of shape) 2)
-lawful_placed shape entries image each is = lawful_by shape entries image (recursion_from_All (IsEntry shape) entries each) is
+pub lawful_placed : (shape : Shape) (entries : List Entry) (image : Image) → All (MayGo shape) entries → IsControl shape (image (journal_of shape) 2) → IsControl shape (placed image entries (journal_of shape) 2)
+lawful_placed shape entries image each is = lawful_by shape entries image (recursion_from_All (MayGo shape) entries each) is
 
 -- one entry more
 pub control_more : (journal : ℕ) (entries : List Entry) (entry : Entry) (control : Control)

@@ -10,7 +10,7 @@ use Rattle.redo_core.specs.declared.entries.Entry.{Entry}
 use Rattle.redo_core.specs.declared.target.Target.{Target}
 use Rattle.redo_core.specs.Format.{is_open, control_in, is_filling, room_in, directory_in}
 use Rattle.redo_core.specs.Reading.{journal_of, is_place, placed, overlay, control_block, fills_of, Reading, Reads, IsRegistration, IsControl, IsTarget, IsDirectory}
-use Rattle.redo_core.specs.Phases.{targets, of_commit, IsEntry, ReadsNew, OldOrNew, IsCommitted, IsAtRest, IsStatusAfter}
+use Rattle.redo_core.specs.Phases.{targets, of_commit, MayGo, ReadsNew, OldOrNew, IsCommitted, IsAtRest, IsStatusAfter}
 use Rattle.redo_core.specs.Opening.{IsSure, ReadsSame}
 use Rattle.redo_core.specs.Steps.{HoldsOld, HoldsNew, HoldsEither, IsShut, IsDone, IsPlaced}
 use Rattle.redo_core.proofs.Crash.{closed_overlay, placed_agree, other_unit}
@@ -28,13 +28,13 @@ module _ (shape : Shape) where
   pub place_control : is_place (journal_of shape) (journal_of shape) 2 ≡ true
   place_control = or_right (nat_lt journal journal) (is_at journal 2 journal 2) (and_from (journal == journal) (2 == 2) (eq-eqb journal journal refl) refl)
 
-  pub all_placed : (entries : List Entry) → All (IsEntry shape) entries → All (IsPlaced shape (journal_of shape)) entries
-  all_placed entries each = All-weaker (IsEntry shape) (IsPlaced shape journal) (λ entry is. record { place = is.place; there = is.there; slot = is.slot }) entries each
+  pub all_placed : (entries : List Entry) → All (MayGo shape) entries → All (IsPlaced shape (journal_of shape)) entries
+  all_placed entries each = All-weaker (MayGo shape) (IsPlaced shape journal) (λ entry is. record { place = is.place; there = is.there; slot = is.slot }) entries each
 
-  targets_there : (entries : List Entry) → All (IsEntry shape) entries → All (IsTarget shape journal) (targets entries)
+  targets_there : (entries : List Entry) → All (MayGo shape) entries → All (IsTarget shape journal) (targets entries)
   targets_there entries each =
       All-map (IsTarget shape journal) (λ entry. record { unit = entry.unit; block = entry.block }) entries
-      (All-weaker (IsEntry shape) (λ entry. IsTarget shape journal (record { unit = entry.unit; block = entry.block })) (λ entry is. record { place = is.place; there = is.there }) entries each)
+      (All-weaker (MayGo shape) (λ entry. IsTarget shape journal (record { unit = entry.unit; block = entry.block })) (λ entry is. record { place = is.place; there = is.there }) entries each)
 
   -- an image with the same registration and control, and a lawful body where the gate is open
   pub reads_as : (old image : Image) (before : Reading) (volumes : Image) → Reads shape old before → image (journal_of shape) 0 ≡ old (journal_of shape) 0
@@ -72,7 +72,7 @@ module _ (shape : Shape) where
       λ u b less sure. holds.places u b (place_volume u b less) (sure_synced u b sure) ∙ sym (shown u b) ∙ sym (reads.volumes_are u b less),
     )
 
-    module _ (entries : List Entry) (each : All (IsEntry shape) entries) (apart : AllPairs (λ one other. one ≢ other) (targets entries)) (few : length entries ≤ room_in (old.contents (journal_of shape) 0)) where
+    module _ (entries : List Entry) (each : All (MayGo shape) entries) (apart : AllPairs (λ one other. one ≢ other) (targets entries)) (few : length entries ≤ room_in (old.contents (journal_of shape) 0)) where
       pub new_reads : (image : Image) → HoldsNew shape.block_size (journal_of shape) old entries image → ReadsNew shape old entries image
       new_reads image holds before reads =
           let block : control_block shape image ≡ placed old.contents entries journal 2 = holds.places journal 2 place_control in
@@ -156,7 +156,7 @@ rest_written shape old new room control fills unit block less touches rest =
     }
 
 -- the same, by the journal's number
-module _ (shape : Shape) (unit : ℕ) (last : unit + 1 ≡ shape.units) (entries : List Entry) (each : All (IsEntry shape) entries) (apart : AllPairs (λ one other. one ≢ other) (targets entries)) where
+module _ (shape : Shape) (unit : ℕ) (last : unit + 1 ≡ shape.units) (entries : List Entry) (each : All (MayGo shape) entries) (apart : AllPairs (λ one other. one ≢ other) (targets entries)) where
   last_unit : journal_of shape ≡ unit
   last_unit = omega (arith, last)
 

@@ -54,13 +54,6 @@ pub may_at : (shape other : Shape) (image was : Image) (names : List Serial) →
 may_at shape other image was names one_shape one_image h =
     subst (λ (x : Image). MayOpen shape x names) one_image (subst (λ (x : Shape). MayOpen x was names) one_shape h)
 
--- a slide or a fill, by the number of volumes
-pub busy_at : (shape : Shape) (journal : ℕ) (reading : Reading) → journal + 1 ≡ shape.units → (reading.control ≢ Idle) ⊎ ((u : ℕ) × (u < journal) × (reading.fills u ≡ true)) → IsBusy shape reading
-busy_at shape journal reading last = ⊎_elim (λ slide. inl slide) (λ fill. inr (fill.0, omega (arith, fill.1, last), fill.2))
-
-pub not_busy : (shape : Shape) (journal : ℕ) (reading : Reading) → journal + 1 ≡ shape.units → ¬ ((reading.control ≢ Idle) ⊎ ((u : ℕ) × (u < journal) × (reading.fills u ≡ true))) → ¬ IsBusy shape reading
-not_busy shape journal reading last idle busy = idle (⊎_elim (λ slide. inl slide) (λ fill. inr (fill.0, omega (arith, fill.1, last), fill.2)) busy)
-
 pub who_names : (shape : Shape) (image : Image) (registered names : List Serial) (f : JournalFault) → IsNameFault registered names f → IsWhoFault shape image registered names f
 who_names shape image registered names (WrongUnit unit kept found) h = inl h
 who_names shape image registered names Pool h = absurd h

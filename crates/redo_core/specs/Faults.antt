@@ -49,13 +49,13 @@ pub record IsRegistered (shape : Shape) (image : Image) (room : ℕ) : Type 0 wh
   pub names : List Serial
   pub registration : IsRegistration (journal_of shape) (image (journal_of shape) 0) names room
 
--- a slide or a fill is open
-abbrev pub IsBusy : Shape → Reading → Type 0
-IsBusy shape reading = (reading.control ≢ Idle) ⊎ ((u : ℕ) × (u < journal_of shape) × (reading.fills u ≡ true))
+-- a slide is open: none but it may go on
+abbrev pub IsBusy : Reading → Type 0
+IsBusy reading = reading.control ≢ Idle
 
--- in whatever an image reads as, no slide and no fill is open
-abbrev pub IsAllClosed : Shape → Image → Type 0
-IsAllClosed shape image = (reading : Reading) → Reads shape image reading → ¬ IsBusy shape reading
+-- in whatever an image reads as, no slide is open
+abbrev pub HasNoSlide : Shape → Image → Type 0
+HasNoSlide shape image = (reading : Reading) → Reads shape image reading → ¬ IsBusy reading
 
 -- the rules before this one hold, and this one doesn't
 abbrev pub IsFirstBroken : Shape → Image → JournalRule → Type 0
@@ -65,7 +65,7 @@ IsFirstBroken shape image rules.Registration =
 IsFirstBroken shape image rules.Body = (room : ℕ) × IsRegistered shape image room × ¬ HasBody shape image room
 IsFirstBroken shape image rules.Control =
     (room : ℕ) × IsRegistered shape image room × HasBody shape image room × ¬ IsControl shape (control_block shape image)
-IsFirstBroken shape image rules.Busy = (reading : Reading) × Obeys shape image reading × IsBusy shape reading
+IsFirstBroken shape image rules.Busy = (reading : Reading) × Obeys shape image reading × IsBusy reading
 IsFirstBroken shape image rule = ⊥
 
 -- the fault is of the pool, of memory, or of the first broken rule
@@ -127,12 +127,12 @@ IsWhoFault shape image registered names Pool = Unit {0}
 IsWhoFault shape image registered names NoMemory = Unit {0}
 IsWhoFault shape image registered names fault = ⊥
 
--- the four rules hold, and nothing is under way
+-- the four rules hold, and no slide is open
 pub record IsIdle (shape : Shape) (image : Image) (reading : Reading) : Type 0 where
   pub obeys : Obeys shape (zeroed shape image) reading
-  pub idle : ¬ IsBusy shape reading
+  pub idle : ¬ IsBusy reading
 
--- Nothing stands against an opening: the rules hold, nothing is under way, the journal has all its blocks, the names are the registered
+-- Nothing stands against an opening: the rules hold, no slide is open, the journal has all its blocks, the names are the registered
 -- ones, and each label that reads has its name, with an open body in place.
 pub record MayOpen (shape : Shape) (image : Image) (names : List Serial) : Type 0 where
   pub reading : Reading

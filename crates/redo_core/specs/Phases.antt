@@ -1,5 +1,5 @@
 -- What a commit leaves, at any moment and at its end.
-use Rattle.std.specs.Prelude.{◌<◌, ◌≡◌, ◌⊎◌, ℕ, ◌+◌, List, length, map, Bool, true, false, ◌==◌, ◌&&◌, ◌||◌, nat_le}
+use Rattle.std.specs.Prelude.{◌<◌, ◌≡◌, ◌⊎◌, ℕ, ◌+◌, List, length, map, All, Some, Bool, true, false, ◌==◌, ◌&&◌, ◌||◌, nat_le}
 use Rattle.dasd_pool.specs.Disk.{Image, Shape, State, IsSynced, is_at}
 use Rattle.vol_label.specs.declared.serial.Serial.{Serial}
 use Rattle.redo_core.specs.declared.control.Control.{Control}
@@ -8,7 +8,7 @@ use Rattle.redo_core.specs.declared.target.Target.{Target}
 use Rattle.redo_core.specs.Format.{is_open}
 use Rattle.redo_core.specs.Reading.{journal_of, is_place, placed, among, control_after, fills_after, with_entries, fills_of, Reading, Reads}
 use Rattle.redo_core.specs.Opening.{ReadsSame}
-use Rattle.redo_core.specs.Statuses.{IsControlBlock}
+use Rattle.redo_core.specs.Statuses.{EntriesView, IsControlBlock}
 
 -- the targets of entries
 abbrev pub targets : List Entry → List Target
@@ -37,8 +37,19 @@ of_body journal count u b = (u == journal) && (nat_le 3 b && nat_le b (3 + count
 abbrev pub of_commit : ℕ → List Entry → ℕ → ℕ → Bool
 of_commit journal entries u b = (of_body journal (length entries) u b || is_at journal 1 u b) || among (targets entries) u b
 
--- an entry for a block of a volume that is there, or for the control block, where it is a control block
+-- an entry for a block of a volume that is there
 pub record IsEntry (shape : Shape) (entry : Entry) : Type 0 where
+  pub volume : entry.unit < journal_of shape
+  pub there : entry.block < shape.blocks entry.unit
+  pub slot : length entry.slot ≡ shape.block_size entry.unit
+
+-- entries of which each is for a block of a volume that is there, and what is to go to the control block is a control block
+pub record AreEntries (shape : Shape) (entries : EntriesView) : Type 0 where
+  pub blocks : All (IsEntry shape) entries.blocks
+  pub control : (slot : List ℕ) → entries.control ≡ Some slot → IsControlBlock shape slot
+
+-- an entry that may go to its place: a block of a volume that is there, or the control block, where it is a control block
+pub record MayGo (shape : Shape) (entry : Entry) : Type 0 where
   pub place : is_place (journal_of shape) entry.unit entry.block ≡ true
   pub control : is_at (journal_of shape) 2 entry.unit entry.block ≡ true → IsControlBlock shape entry.slot
   pub there : entry.block < shape.blocks entry.unit

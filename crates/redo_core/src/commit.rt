@@ -6,7 +6,7 @@ ghost use Rattle.dasd_pool.specs.Disk.{Image, IsSynced, LeavesOnly, Runs, none};
 ghost use Rattle.redo_core.specs.declared.control.Control.{Control};
 ghost use Rattle.redo_core.specs.Format.{wide, room_in};
 ghost use Rattle.redo_core.specs.Reading.{journal_of, among, placed, body_for};
-ghost use Rattle.redo_core.specs.Phases.{targets, of_body, of_commit, IsEntry, IsAtRest, IsStatusAfter, OldOrNew, IsCommitted};
+ghost use Rattle.redo_core.specs.Phases.{targets, of_body, of_commit, MayGo, IsAtRest, IsStatusAfter, OldOrNew, IsCommitted};
 ghost use Rattle.redo_core.specs.Steps.{IsJournal, IsPlaced, IsShut, HasEntries, HoldsEither, IsDone};
 
 use crate::blocks::{put_block, put_directory, set_gate};
@@ -138,7 +138,7 @@ pub fn apply<P: Pool>(
 ) -> Result<(), PoolFault>
     requires journal { IsJournal (P.shape pool.old) journal (length entries.now) }
     requires size { length buffer.old ≡ wide }
-    requires each { All (IsEntry (P.shape pool.old)) entries.now }
+    requires each { All (MayGo (P.shape pool.old)) entries.now }
     requires apart { AllPairs (λ one other. one ≢ other) (targets entries.now) }
     requires shut { P.tells → IsShut journal (P.disk pool.old).state }
     requires few { P.tells → length entries.now ≤ room_in ((P.disk pool.old).state.contents journal 0) }

@@ -1,10 +1,11 @@
 //! What the control block says.
 
-ghost use Rattle.std.specs.Prelude.{◌≡◌, ◌<◌, ℕ, replicate, slice_index, IfOk};
+ghost use Rattle.std.specs.Prelude.{◌≡◌, ◌+◌, ◌-◌, ◌++◌, length, map, drop, replicate, IfOk};
 ghost use Rattle.std.specs.Int.{bit_at};
+ghost use Rattle.std.specs.List.{range_with_len};
 ghost use Rattle.redo_core.specs.declared.control.Control.TheVariants.{Slide};
 ghost use Rattle.redo_core.specs.Format.{wide, control_text};
-ghost use Rattle.redo_core.specs.Statuses.{HasFour, IsControlText, SaysControl};
+ghost use Rattle.redo_core.specs.Statuses.{HasFour, status_text, block_saying};
 
 use ckd_image::text::put_over;
 use ckd_image::{Bytes, NoMemory};
@@ -57,13 +58,24 @@ fn front(control: Control) -> [u8; 24]
 
 /// Each bit as a byte.
 fn bits(filling: u64) -> [u8; 64]
-    ensures { (u : ℕ) → u < 64 → slice_index result u ≡ bit_at filling u }
+    ensures { result ≡ map (bit_at filling) (range_with_len 0 64) }
 {
     let mut bytes = [0; 64];
     for unit in 0..64usize {
         bytes[unit] = ((filling >> unit) & 1) as u8;
     }
     bytes
+}
+
+/// The front of a control block: what is under way, and of each volume number whether a fill is.
+fn status(control: Control, filling: u64) -> [u8; 128]
+    ensures text { result ≡ status_text control filling }
+    ensures fits { HasFour control }
+{
+    let mut text = [0; 128];
+    put_over(&mut text, 0, &front(control));
+    put_over(&mut text, 64, &bits(filling));
+    text
 }
 
 /// A block of zeros.
@@ -74,17 +86,26 @@ fn zeros(alloc: Global) -> Result<Bytes, NoMemory>
     Ok(Bytes::from_vec(zeros))
 }
 
-/// A control block that says this, with zeros where the format says nothing.
+/// Makes of a block with zeros behind its front the control block that says this.
+pub(crate) fn put_status(block: &mut Bytes, control: Control, filling: u64)
+    requires size { length block.old ≡ wide }
+    requires behind { drop 128 block.old ≡ replicate (wide - 128) 0 }
+    ensures says { block.new ≡ block_saying control filling }
+    ensures fits { HasFour control }
+{
+    block.put_over(0, &status(control, filling));
+}
+
+/// A control block that says this.
 pub(crate) fn control_block(
     alloc: Global,
     control: Control,
     filling: u64,
 ) -> Result<Bytes, NoMemory>
-    ensures text { IfOk result (λ block. IsControlText block control filling) }
-    ensures says { IfOk result (λ block. SaysControl block control filling) }
+    ensures says { IfOk result (λ block. block ≡ block_saying control filling) }
+    ensures fits { HasFour control }
 {
     let mut block = zeros(alloc)?;
-    block.put_over(0, &front(control));
-    block.put_over(64, &bits(filling));
+    put_status(&mut block, control, filling);
     Ok(block)
 }

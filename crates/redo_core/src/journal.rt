@@ -1,20 +1,22 @@
 //! The journal of a pool, between two commits.
 
-ghost use Rattle.std.specs.Prelude.{◌≡◌, ◌≢◌, ◌⊎◌, ◌≤◌, ◌<◌, ℕ, [], All, AllPairs, length, false, IfOk, IfErr, OnOk};
+ghost use Rattle.std.specs.Prelude.{◌≡◌, ◌≢◌, ◌⊎◌, ◌≤◌, ◌<◌, ℕ, [], AllPairs, length, ◌==◌, IfOk, IfErr, OnOk};
+ghost use Rattle.std.specs.Int.{bit_at};
 ghost use Rattle.dasd_pool.specs.Calls.{size_in};
 ghost use Rattle.dasd_pool.specs.Count.{Rose, HasCause};
 ghost use Rattle.dasd_pool.specs.Disk.{Image, LeavesOnly, Runs, IsSynced, none, is_at};
 ghost use Rattle.redo_core.specs.declared.control.Control.TheVariants.{Idle};
-ghost use Rattle.redo_core.specs.Reading.{journal_of, fills_of};
+ghost use Rattle.redo_core.specs.Reading.{journal_of, fills_of, IsLawful};
 ghost use Rattle.redo_core.specs.Steps.{IsJournal, of_making};
-ghost use Rattle.redo_core.specs.Phases.{targets, of_commit, IsAtRest, IsEntry, IsStatusAfter, OldOrNew, IsCommitted};
+ghost use Rattle.redo_core.specs.Phases.{targets, of_commit, AreEntries, IsAtRest, IsStatusAfter, OldOrNew, IsCommitted};
+ghost use Rattle.redo_core.specs.Statuses.{AreVolumes, HasFour, control_alone, entries_at};
 ghost use Rattle.redo_core.specs.Opening.{AreNames, IsFormatted, IsOpened, MakingLeaves, ReadsSame, SparesVolumes, of_opening};
 ghost use Rattle.redo_core.specs.Faults.{IsFormatFault, IsOpenFault, MayFormat, MayOpen};
 ghost use Rattle.redo_core.specs.Stops.{pool_after, pool_of, IsStatusOf};
 
 use crate::commit::apply;
 use crate::control::Control;
-use crate::entries::Entries;
+use crate::entries::{Entries, Entry, say, spare_for};
 use crate::fault::JournalFault;
 use crate::format::format_on;
 use crate::opening::open_on;
@@ -40,12 +42,14 @@ pub struct Journal<P: Pool> {
     control: Control,
     fills: [bool; 64],
     buffer: Vec<u8>,
+    spare: [Entry; 1], // for the control block, so that its commit takes no memory
 }
 
 impl<P: Pool> Model for Journal<P> {
     ghost use Rattle.std.specs.Prelude.{◌≡◌, ◌≤◌, length};
     ghost use Rattle.redo_core.specs.Format.{wide};
     ghost use Rattle.redo_core.specs.Phases.{IsAtRest};
+    ghost use Rattle.redo_core.specs.Statuses.{IsSpare};
     ghost use Rattle.redo_core.specs.Steps.{IsJournal};
     ghost use Rattle.redo_core.specs.Opening.{AreNames, IsFormatted, IsOpened, MakingLeaves, ReadsSame, SparesVolumes};
     ghost use Rattle.redo_core.specs.Faults.{IsFormatFault, IsOpenFault, MayFormat, MayOpen};
@@ -55,8 +59,23 @@ impl<P: Pool> Model for Journal<P> {
 
     ghost view = { λ j. record { pool = j.pool; room = j.room; control = j.control; fills = j.fills } };
 
-    ghost invariant = { λ j. IsJournal (P.shape j.pool) j.unit j.room × (3 ≤ j.room) × (length j.buffer.items ≡ wide)
+    ghost invariant = { λ j. IsJournal (P.shape j.pool) j.unit j.room × (3 ≤ j.room) × (length j.buffer.items ≡ wide) × IsSpare j.unit j.spare
         × (P.tells → IsAtRest (P.shape j.pool) (P.disk j.pool).state j.room j.control j.fills) };
+}
+
+/// A bit for each of these volumes of which a fill is open.
+fn bits_of(fills: &[bool; 64], volumes: u32) -> u64
+    requires { volumes ≤ 64 }
+    ensures volumes { AreVolumes volumes result }
+    ensures flags { (u : ℕ) → u < volumes → (bit_at result u == 1) ≡ fills_of fills.now u }
+{
+    let mut filling = 0;
+    for unit in 0..volumes {
+        if fills[unit as usize] {
+            filling |= 1 << unit;
+        }
+    }
+    filling
 }
 
 fn zeros(alloc: Global, len: usize) -> Result<Vec<u8>, AllocError>
@@ -120,10 +139,10 @@ impl<P: Pool> Journal<P> {
         ensures opened { P.tells → IfOk result (λ journal.
             IsOpened (P.shape pool) (P.disk pool).state names.now journal.room journal.control journal.fills (P.disk journal.pool).state) }
 
-        // The journal is at rest then, a commit may have three entries at least, and nothing is under way.
+        // The journal is at rest then, a commit may have three entries at least, and no slide is open.
         ensures rest { P.tells → IfOk result (λ journal. IsAtRest (P.shape pool) (P.disk journal.pool).state journal.room journal.control journal.fills) }
         ensures room { IfOk result (λ journal. 3 ≤ journal.room) }
-        ensures idle { IfOk result (λ journal. (journal.control ≡ Idle) × ((u : ℕ) → u < journal_of (P.shape pool) → fills_of journal.fills u ≡ false)) }
+        ensures idle { IfOk result (λ journal. journal.control ≡ Idle) }
 
         // It opens only where nothing stands against it. A refusal names the first cause, and at no moment was anything written; nor was it
         // where a block can't be read before all causes are known not to stand.
@@ -145,6 +164,12 @@ impl<P: Pool> Journal<P> {
                 cause: JournalFault::NoMemory,
             });
         };
+        let Ok(spare) = spare_for(alloc, unit) else {
+            return Err(JournalStop {
+                pool,
+                cause: JournalFault::NoMemory,
+            });
+        };
         match open_on(alloc, &mut pool, unit, names, &mut buffer) {
             Ok(found) => {
                 let room = found.room;
@@ -157,16 +182,23 @@ impl<P: Pool> Journal<P> {
                     control,
                     fills,
                     buffer,
+                    spare,
                 })
             }
             Err(cause) => Err(JournalStop { pool, cause }),
         }
     }
 
-    /// What is under way, as the control block says. The blocks read so, behind a closed gate.
+    /// The blocks read as this value says, behind a closed gate.
+    pub fn rests(&self)
+        ensures { P.tells → IsAtRest (P.shape self.now.pool) (P.disk self.now.pool).state self.now.room self.now.control self.now.fills }
+    {
+        let _ = &self.pool;
+    }
+
+    /// The slide that is open, as the control block says.
     pub fn control(&self) -> Control
-        ensures value { result ≡ self.now.control }
-        ensures says { P.tells → IsAtRest (P.shape self.now.pool) (P.disk self.now.pool).state self.now.room self.now.control self.now.fills }
+        ensures { result ≡ self.now.control }
     {
         self.control
     }
@@ -186,6 +218,14 @@ impl<P: Pool> Journal<P> {
         ensures { result ≡ fills_of self.now.fills unit }
     {
         self.fills[unit as usize]
+    }
+
+    /// A bit for each volume of which a fill is open, as `commit_control` and `Entries::push_control` take them.
+    pub fn fills(&self) -> u64
+        ensures volumes { AreVolumes (journal_of (P.shape self.now.pool)) result }
+        ensures flags { (u : ℕ) → u < journal_of (P.shape self.now.pool) → (bit_at result u == 1) ≡ fills_of self.now.fills u }
+    {
+        bits_of(&self.fills, self.unit)
     }
 
     /// How many volumes there are.
@@ -273,25 +313,27 @@ impl<P: Pool> Journal<P> {
         pool
     }
 
-    /// Puts the entries in place, all or none of them. Each is for a block of a volume or for the control block.
+    /// Puts the entries in place, all or none of them.
     pub fn commit(self, entries: Entries) -> Result<Journal<P>, JournalStop<P>>
-        requires room { length entries ≤ self.room }
-        requires each { All (IsEntry (P.shape self.pool)) entries }
-        requires apart { AllPairs (λ one other. one ≢ other) (targets entries) }
+        requires room { length (entries_at (journal_of (P.shape self.pool)) entries) ≤ self.room }
+        requires each { AreEntries (P.shape self.pool) entries }
+        requires apart { AllPairs (λ one other. one ≢ other) (targets entries.blocks) }
         ensures shape { P.shape (pool_after result) ≡ P.shape self.pool }
 
         // At every moment the blocks read as before or with all entries in place.
-        ensures any_moment { P.tells → LeavesOnly (P.disk self.pool) (P.disk (pool_after result)) (OldOrNew (P.shape self.pool) (P.disk self.pool).state entries) }
+        ensures any_moment { P.tells → LeavesOnly (P.disk self.pool) (P.disk (pool_after result))
+            (OldOrNew (P.shape self.pool) (P.disk self.pool).state (entries_at (journal_of (P.shape self.pool)) entries)) }
         ensures each_image { P.tells → (image : Image) → (P.disk (pool_after result)).left_since (P.disk self.pool).moment image
-            → OldOrNew (P.shape self.pool) (P.disk self.pool).state entries image }
-        ensures runs { P.tells → Runs (of_commit (journal_of (P.shape self.pool)) entries) (P.disk self.pool) (P.disk (pool_after result)) }
+            → OldOrNew (P.shape self.pool) (P.disk self.pool).state (entries_at (journal_of (P.shape self.pool)) entries) image }
+        ensures runs { P.tells → Runs (of_commit (journal_of (P.shape self.pool)) (entries_at (journal_of (P.shape self.pool)) entries)) (P.disk self.pool) (P.disk (pool_after result)) }
 
         // With no entries nothing is written.
-        ensures still { P.tells → entries ≡ [] → Runs none (P.disk self.pool) (P.disk (pool_after result)) }
+        ensures still { P.tells → entries_at (journal_of (P.shape self.pool)) entries ≡ [] → Runs none (P.disk self.pool) (P.disk (pool_after result)) }
         ensures rest { P.tells → IfOk result (λ journal. IsAtRest (P.shape self.pool) (P.disk journal.pool).state journal.room journal.control journal.fills) }
-        ensures committed { P.tells → IfOk result (λ journal. IsCommitted (P.shape self.pool) (P.disk self.pool).state entries (P.disk journal.pool).state) }
+        ensures committed { P.tells → IfOk result (λ journal. IsCommitted (P.shape self.pool) (P.disk self.pool).state
+            (entries_at (journal_of (P.shape self.pool)) entries) (P.disk journal.pool).state) }
         ensures same { IfOk result (λ journal. journal.room ≡ self.room) }
-        ensures status { IfOk result (λ journal. IsStatusAfter (P.shape self.pool) entries self.control self.fills journal.control journal.fills) }
+        ensures status { IfOk result (λ journal. IsStatusAfter (P.shape self.pool) (entries_at (journal_of (P.shape self.pool)) entries) self.control self.fills journal.control journal.fills) }
         ensures faults { P.faults self.pool ≤ P.faults (pool_after result) }
         ensures cause { IfErr result (λ stop. (stop.cause ≡ JournalFault.Pool) × Rose (P.faults self.pool) (P.faults stop.pool)) }
     {
@@ -302,9 +344,11 @@ impl<P: Pool> Journal<P> {
             control,
             fills,
             mut buffer,
+            spare,
         } = self;
         let before = Status { control, fills };
-        let list = entries.as_slice();
+        let all = entries.into_list(unit);
+        let list = all.as_slice();
         let after = status_after(&pool, unit, list, before);
         match apply(&mut pool, unit, &mut buffer, list) {
             Ok(()) => {
@@ -317,6 +361,70 @@ impl<P: Pool> Journal<P> {
                     control,
                     fills,
                     buffer,
+                    spare,
+                })
+            }
+            Err(_) => Err(JournalStop {
+                pool,
+                cause: JournalFault::Pool,
+            }),
+        }
+    }
+
+    /// Puts what is under way in place, and nothing else: bit u of `filling`, that a fill of volume u is open. It takes no memory.
+    pub fn commit_control(
+        self,
+        control: Control,
+        filling: u64,
+    ) -> Result<Journal<P>, JournalStop<P>>
+        requires lawful { IsLawful (P.shape self.pool) control }
+        requires volumes { AreVolumes (journal_of (P.shape self.pool)) filling }
+        ensures fits { HasFour control }
+        ensures shape { P.shape (pool_after result) ≡ P.shape self.pool }
+
+        // At every moment the blocks read as before or with the control block in place.
+        ensures any_moment { P.tells → LeavesOnly (P.disk self.pool) (P.disk (pool_after result))
+            (OldOrNew (P.shape self.pool) (P.disk self.pool).state (control_alone (journal_of (P.shape self.pool)) control filling)) }
+        ensures each_image { P.tells → (image : Image) → (P.disk (pool_after result)).left_since (P.disk self.pool).moment image
+            → OldOrNew (P.shape self.pool) (P.disk self.pool).state (control_alone (journal_of (P.shape self.pool)) control filling) image }
+        ensures runs { P.tells → Runs (of_commit (journal_of (P.shape self.pool)) (control_alone (journal_of (P.shape self.pool)) control filling)) (P.disk self.pool) (P.disk (pool_after result)) }
+        ensures rest { P.tells → IfOk result (λ journal. IsAtRest (P.shape self.pool) (P.disk journal.pool).state journal.room journal.control journal.fills) }
+        ensures committed { P.tells → IfOk result (λ journal. IsCommitted (P.shape self.pool) (P.disk self.pool).state
+            (control_alone (journal_of (P.shape self.pool)) control filling) (P.disk journal.pool).state) }
+        ensures same { IfOk result (λ journal. journal.room ≡ self.room) }
+        ensures status { IfOk result (λ journal. IsStatusAfter (P.shape self.pool) (control_alone (journal_of (P.shape self.pool)) control filling) self.control self.fills journal.control journal.fills) }
+        ensures says { IfOk result (λ journal. (journal.control ≡ control) × ((u : ℕ) → u < journal_of (P.shape self.pool) → fills_of journal.fills u ≡ (bit_at filling u == 1))) }
+        ensures faults { P.faults self.pool ≤ P.faults (pool_after result) }
+        ensures cause { IfErr result (λ stop. (stop.cause ≡ JournalFault.Pool) × Rose (P.faults self.pool) (P.faults stop.pool)) }
+    {
+        let Journal {
+            mut pool,
+            unit,
+            room,
+            control: open,
+            fills,
+            mut buffer,
+            mut spare,
+        } = self;
+        say(&mut spare, unit, control, filling);
+        let before = Status {
+            control: open,
+            fills,
+        };
+        let list = spare.as_slice();
+        let after = status_after(&pool, unit, list, before);
+        match apply(&mut pool, unit, &mut buffer, list) {
+            Ok(()) => {
+                let control = after.control;
+                let fills = after.fills;
+                Ok(Journal {
+                    pool,
+                    unit,
+                    room,
+                    control,
+                    fills,
+                    buffer,
+                    spare,
                 })
             }
             Err(_) => Err(JournalStop {

@@ -1,6 +1,6 @@
 //! What holds of journals, whatever opens or makes them.
 
-ghost use Rattle.redo_core.specs.Laws.{OnlyFaultsRefuse, OnlyFaultsRefuseMaking, AddedIsEntry};
+ghost use Rattle.redo_core.specs.Laws.{OnlyFaultsRefuse, OnlyFaultsRefuseMaking, LawfulIsControlBlock};
 
 /// A journal against which nothing stands is opened, unless the pool fails or memory runs out.
 pub fn opening_laws()
@@ -12,7 +12,7 @@ pub fn making_laws()
     ensures { OnlyFaultsRefuseMaking }
 {}
 
-/// What `Entries::push_control` adds is an entry such as a commit takes.
+/// What `Entries::push_control` adds for a lawful control may be committed.
 pub fn control_laws()
-    ensures { AddedIsEntry }
+    ensures { LawfulIsControlBlock }
 {}

@@ -205,20 +205,11 @@ fn find_all<P: Pool>(
     }
 }
 
-/// Whether a slide or a fill is open.
-fn is_busy(volumes: u32, control: Control, fills: &[bool; 64]) -> bool
-    requires { volumes ≤ 64 }
-    ensures { IsTrue result ↔ ((control ≢ Idle) ⊎ ((u : ℕ) × (u < volumes) × (fills_of fills.now u ≡ true))) }
+/// Whether a slide is open.
+fn is_busy(control: Control) -> bool
+    ensures { IsTrue result ↔ (control ≢ Idle) }
 {
-    if control != Control::Idle {
-        return true;
-    }
-    for unit in 0..volumes as usize {
-        if fills[unit] {
-            return true;
-        }
-    }
-    false
+    control != Control::Idle
 }
 
 /// Whether two serials are the same.
@@ -243,7 +234,7 @@ fn check_names(registered: &[Serial], names: &[Serial]) -> Result<(), JournalFau
     Ok(())
 }
 
-/// The findings, where nothing is under way and the journal is long enough.
+/// The findings, where no slide is open and the journal is long enough.
 fn find_idle<P: Pool>(
     alloc: Global,
     pool: &mut P,
@@ -265,7 +256,7 @@ fn find_idle<P: Pool>(
     ensures targets { P.tells → IfOk result (λ f. HasTargets (journal_of (P.shape pool.old)) (zeroed (P.shape pool.old) (P.disk pool.old).state.contents) f.targets.items) }
     ensures idle { P.tells → IfOk result (λ f. IsIdle (P.shape pool.old) (P.disk pool.old).state.contents
         (record { volumes = (P.disk pool.old).state.contents; names = f.names.items; room = f.room; control = f.control; fills = fills_of f.fills })) }
-    ensures quiet { IfOk result (λ f. (f.control ≡ Idle) × ((u : ℕ) → u < journal_of (P.shape pool.old) → fills_of f.fills u ≡ false)) }
+    ensures quiet { IfOk result (λ f. f.control ≡ Idle) }
     ensures refused { P.tells → IfErr result (λ fault. (names : List Serial) → IsOpenFault (P.shape pool.old) (P.disk pool.old).state.contents names fault) }
     ensures same { P.tells → (P.disk pool.new).state ≡ (P.disk pool.old).state }
     ensures runs { P.tells → Runs none (P.disk pool.old) (P.disk pool.new) }
@@ -276,7 +267,7 @@ fn find_idle<P: Pool>(
         Ok(found) => found,
         Err(fault) => return Err(fault),
     };
-    if is_busy(journal, found.control, &found.fills) {
+    if is_busy(found.control) {
         return Err(broken(JournalRule::Busy));
     }
     let need = 4 + found.room;
@@ -347,7 +338,7 @@ fn look<P: Pool>(
     ensures reads { P.tells → IfOk result (λ f. Reads (P.shape pool.old) (P.disk pool.old).state.contents
         (record { volumes = overlay (P.shape pool.old).block_size (journal_of (P.shape pool.old)) (P.disk pool.old).state.contents; names = names.now; room = f.room; control = f.control; fills = fills_of f.fills })) }
     ensures allowed { P.tells → OnOk result (MayOpen (P.shape pool.old) (P.disk pool.old).state.contents names.now) }
-    ensures quiet { IfOk result (λ f. (f.control ≡ Idle) × ((u : ℕ) → u < journal_of (P.shape pool.old) → fills_of f.fills u ≡ false)) }
+    ensures quiet { IfOk result (λ f. f.control ≡ Idle) }
     ensures refused { P.tells → IfErr result (IsOpenFault (P.shape pool.old) (P.disk pool.old).state.contents names.now) }
     ensures runs { P.tells → Runs none (P.disk pool.old) (P.disk pool.new) }
     ensures faults { P.faults pool.old ≤ P.faults pool.new }
@@ -382,7 +373,7 @@ pub fn open_on<P: Pool>(
     ensures rest { P.tells → IfOk result (λ f. IsAtRest (P.shape pool.old) (P.disk pool.new).state f.room f.control f.fills) }
     ensures opened { P.tells → IfOk result (λ f. IsOpened (P.shape pool.old) (P.disk pool.old).state names.now f.room f.control f.fills (P.disk pool.new).state) }
     ensures allowed { P.tells → OnOk result (MayOpen (P.shape pool.old) (P.disk pool.old).state.contents names.now) }
-    ensures quiet { IfOk result (λ f. (f.control ≡ Idle) × ((u : ℕ) → u < journal_of (P.shape pool.old) → fills_of f.fills u ≡ false)) }
+    ensures quiet { IfOk result (λ f. f.control ≡ Idle) }
     ensures refused { P.tells → IfErr result (IsOpenFault (P.shape pool.old) (P.disk pool.old).state.contents names.now) }
     ensures unwritten { P.tells → IfErr result (λ fault. (fault ≡ JournalFault.Pool → ⊥) → Runs none (P.disk pool.old) (P.disk pool.new)) }
     ensures careful { P.tells → IfErr result (λ fault. MayOpen (P.shape pool.old) (P.disk pool.old).state.contents names.now ⊎ Runs none (P.disk pool.old) (P.disk pool.new)) }

@@ -4,7 +4,7 @@ ghost use Rattle.std.specs.Prelude.{◌≡◌, ◌<◌, ◌≤◌, ◌+◌, ℕ,
 ghost use Rattle.dasd_pool.specs.Disk.{is_at};
 ghost use Rattle.redo_core.specs.Format.{wide, control_in, is_filling};
 ghost use Rattle.redo_core.specs.Reading.{fills_of};
-ghost use Rattle.redo_core.specs.Phases.{IsEntry, IsStatusAfter};
+ghost use Rattle.redo_core.specs.Phases.{MayGo, IsStatusAfter};
 
 use crate::control::Control;
 use crate::entries::Entry;
@@ -22,7 +22,7 @@ pub(crate) struct Status {
 fn status_with<P: Pool>(pool: &P, journal: u32, entry: &Entry, before: Status) -> Status
     requires last { journal + 1 ≡ (P.shape pool.now).units }
     requires width { (P.shape pool.now).block_size journal ≡ wide }
-    requires entry { IsEntry (P.shape pool.now) entry.now }
+    requires entry { MayGo (P.shape pool.now) entry.now }
     ensures control { result.control ≡ (if is_at journal 2 entry.now.unit entry.now.block then control_in entry.now.slot else before.control) }
     ensures fills { (u : ℕ) → u < 64 → fills_of result.fills u ≡ (if is_at journal 2 entry.now.unit entry.now.block then is_filling entry.now.slot else fills_of before.fills) u }
 {
@@ -49,7 +49,7 @@ pub(crate) fn status_after<P: Pool>(
     requires last { journal + 1 ≡ (P.shape pool.now).units }
     requires few { journal ≤ 64 }
     requires width { (P.shape pool.now).block_size journal ≡ wide }
-    requires entries { All (IsEntry (P.shape pool.now)) entries.now }
+    requires entries { All (MayGo (P.shape pool.now)) entries.now }
     ensures { IsStatusAfter (P.shape pool.now) entries.now before.control before.fills result.control result.fills }
 {
     let mut status = before;

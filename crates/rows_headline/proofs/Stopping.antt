@@ -14,7 +14,7 @@ use Rattle.dasd_pool.proofs.Tearing.{torn_left, torn_may_leave}
 use Rattle.volume_model.specs.Unit.{UnitModel}
 use Rattle.move_core.specs.declared.steps.Step.{Step}
 use Rattle.move_core.specs.Facts.{Facts}
-use Rattle.redo_core.specs.Faults.{IsAllClosed, MayOpen}
+use Rattle.redo_core.specs.Faults.{HasNoSlide, MayOpen}
 use Rattle.move_core.specs.Runs.{IsRun, KeepsUnits, moves_of, StandsAfter, StandsAfterMost}
 use Rattle.move_core.proofs.Running.{run_stops, run_closed}
 use Rattle.move_core.specs.Stands.{Stands, IsSettled}
@@ -86,9 +86,9 @@ module _ (old new : MemoryView) (ended : Type 0) (steps : List Step) (pending : 
         (may_there new.keep (now_of new) (kept_of new) (torn_image tear new.units new.calls) some_kept (torn_may_leave tear new.units new.calls)));
   }
 
-  -- no slide and no fill is open in what it leaves
-  pub stop_closed : (calls : ℕ) (tear : Tear) → length old.calls ≤ calls → IsAllClosed facts.shape (state_of old).contents
-      → IsAllClosed facts.shape (torn_image tear new.units (take calls new.calls))
+  -- no slide is open in what it leaves
+  pub stop_closed : (calls : ℕ) (tear : Tear) → length old.calls ≤ calls → HasNoSlide facts.shape (state_of old).contents
+      → HasNoSlide facts.shape (torn_image tear new.units (take calls new.calls))
   stop_closed calls tear from closed =
       let image : Image = torn_image tear new.units (take calls new.calls) in
       let within : (disk_of old).moment ≤ min calls (length new.calls) = omega (arith, old_moment, from, later) in
@@ -113,7 +113,7 @@ module _ (tear : Tear) (units : List UnitText) (calls : List Call) (left : Memor
       left_contents u b (subst (λ (s : Shape). u < s.units) same less) (subst (λ (s : Shape). b < s.blocks u) same within)
 
   pub left_opens : (facts : Facts) (found : List UnitModel) → facts.shape ≡ shape_of units → Stands facts (torn_image tear units calls) found
-      → IsAllClosed facts.shape (torn_image tear units calls) → MayOpen facts.shape (state_of left).contents facts.names
+      → HasNoSlide facts.shape (torn_image tear units calls) → MayOpen facts.shape (state_of left).contents facts.names
   left_opens facts found same stands closed =
       standing_may_open facts (state_of left).contents found
       (stands_there facts (torn_image tear units calls) (state_of left).contents found stands (left_same facts same))

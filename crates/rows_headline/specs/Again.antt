@@ -5,7 +5,7 @@ use Rattle.dasd_pool.specs.Calls.{shape_of}
 use Rattle.dasd_pool.specs.Memory.{MemoryView, disk_of, fresh, state_of}
 use Rattle.dasd_pool.specs.declared.calls.Tear.{Tear}
 use Rattle.dasd_pool.specs.Tears.{IsTornFrom}
-use Rattle.redo_core.specs.Faults.{IsAllClosed, MayOpen}
+use Rattle.redo_core.specs.Faults.{HasNoSlide, MayOpen}
 use Rattle.volume_model.specs.Unit.{UnitModel}
 use Rattle.move_core.specs.declared.steps.Step.{Step}
 use Rattle.move_core.specs.Facts.{Facts, Shown}
@@ -31,7 +31,7 @@ pub record IsReady (facts : Facts) (first : List UnitModel) (steps : List Step) 
   pub units : List UnitModel
   pub reached : Reaches facts first (take count (moves_of steps pending)) units
   pub settled : IsSettled facts (state_of pool) units
-  pub opens : IsAllClosed facts.shape before → MayOpen facts.shape (state_of pool).contents facts.names
+  pub opens : HasNoSlide facts.shape before → MayOpen facts.shape (state_of pool).contents facts.names
 
 -- so for each units for which a pool that keeps its calls was settled before a run, where it is stopped after one of the run's calls; the run
 -- had returned where none of its calls is missing

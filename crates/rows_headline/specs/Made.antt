@@ -51,7 +51,7 @@ pub record IsMade (shape : Shape) (old new : State) : Type 0 where
 
 -- a loader finds a volume on unit 0, by the blocks that the pool has
 abbrev pub HasLoaded : Shape → State → Type 0
-HasLoaded shape state = (loaded : LoadedVolume) × IsStateOf (shape.head 0) (shape.blocks 0) (state.contents 0) (states.Online loaded)
+HasLoaded shape state = (loaded : LoadedVolume) × IsStateOf false (shape.head 0) (shape.blocks 0) (state.contents 0) (states.Online loaded)
 
 -- unit 0 is a volume, as the pool's blocks read
 pub record HasVolume (shape : Shape) (state : State) : Type 0 where

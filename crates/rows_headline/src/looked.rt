@@ -13,7 +13,7 @@ use ckd_image::Word;
 use dasd_pool::Pool;
 use redo_core::Journal;
 use std::alloc::Global;
-use unit_load::{UnitState, load_unit};
+use unit_load::{UnderWay, UnitState, load_unit};
 use vol_label::{Serial, is_serial};
 
 /// The serial of the volume that the words of a text name, where it is one.
@@ -42,7 +42,7 @@ fn is_online<P: Pool>(alloc: Global, journal: &mut Journal<P>) -> bool
     ensures reads { OnlyReads P.Pool journal.old journal.new }
     ensures found { P.tells → IsTrue result → HasLoaded (P.shape journal.old.pool) (P.disk journal.old.pool).state }
 {
-    match load_unit(alloc, journal, 0) {
+    match load_unit(alloc, journal, 0, UnderWay::Nothing, None) {
         Ok(loaded) => has_volume(&loaded.state),
         Err(_) => false,
     }

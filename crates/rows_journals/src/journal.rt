@@ -1,9 +1,9 @@
 //! Tests: what the journal says of a slide, whose steps no run takes yet.
 
-ghost use Rattle.std.specs.Prelude.{[], IsTrue, IfOk};
+ghost use Rattle.std.specs.Prelude.{◌≡◌, [], Some, IsTrue, IfOk};
 ghost use Rattle.redo_core.specs.Opening.{AreNames};
 ghost use Rattle.redo_core.specs.Reading.{IsLawful};
-ghost use Rattle.redo_core.specs.Statuses.{IsSlideOf, AddsControl};
+ghost use Rattle.redo_core.specs.Statuses.{IsDown, HasFour, block_saying};
 
 use ckd_image::text::put_over;
 use ckd_image::{Bytes, NoMemory};
@@ -79,15 +79,6 @@ fn open<P: Pool + Drop>(alloc: Global, pool: P) -> Result<Journal<P>, JournalFau
     }
 }
 
-/// A slide of tracks 300 to 304 to track 20, three of which are done.
-const SLIDE: Control = Control::Slide {
-    unit: 1,
-    from: 300,
-    to: 20,
-    len: 5,
-    done: 3,
-};
-
 /// A slide of track 1 to track 0 that has just begun.
 const SHORT: Control = Control::Slide {
     unit: 1,
@@ -97,13 +88,14 @@ const SHORT: Control = Control::Slide {
     done: 0,
 };
 
-/// A control block for a slide of one of two volumes, with a fill of volume 1 open.
-fn slide_of_two(alloc: Global, slide: Control) -> Result<Entries, NoMemory>
-    requires { IsSlideOf 2 slide }
-    ensures { IfOk result (AddsControl 2 slide 2 []) }
+/// The entry for a control block that says a slide, with a fill of volume 1 open.
+fn slide_alone(alloc: Global, slide: Control) -> Result<Entries, NoMemory>
+    requires { IsDown slide }
+    ensures says { IfOk result (λ entries. entries ≡ record { blocks = []; control = Some (block_saying slide 2) }) }
+    ensures fits { IfOk result (λ entries. HasFour slide) }
 {
     let mut entries = Entries::new(alloc, 3)?;
-    entries.push_control(alloc, 2, slide, 2)?;
+    entries.push_control(alloc, slide, 2)?;
     Ok(entries)
 }
 
@@ -133,33 +125,38 @@ fn commit_slide<P: Pool + Drop>(alloc: Global, journal: Journal<P>) -> Option<Jo
     if journal.units() != 2 || journal.room() < 1 || !is_slide(&journal, SHORT) {
         return None;
     }
-    let Ok(entries) = slide_of_two(alloc, SHORT) else {
+    let Ok(entries) = slide_alone(alloc, SHORT) else {
         return None;
     };
     journal.commit(entries).ok()
 }
 
-// Bytes 0, 4 to 23 and 65 of block 2 of the journal, which is the third unit.
-#[test]
-fn an_entry_says_what_is_under_way(rt: HostRuntime) -> Result<(), Fail> {
-    let mut want = vec![in rt.alloc(); 0u8; 65_536]?;
-    let front = [
-        1, 0, 0, 0, 0, 0, 0, 1, 0, 0, 1, 44, 0, 0, 0, 20, 0, 0, 0, 5, 0, 0, 0, 3,
-    ];
-    put_over(&mut want, 0, &front);
-    put_over(&mut want, 65, &[1]);
-    let entries = slide_of_two(rt.alloc(), SLIDE)?;
-    for entry in entries.as_slice() {
-        assert_eq!(rt; (entry.unit, entry.block), (2, 2));
-        assert!(rt; entry.slot.as_slice() == want.as_slice());
+/// Commits that no slide is open, and the fills that are.
+fn commit_idle<P: Pool + Drop>(journal: Journal<P>) -> Option<Journal<P>> {
+    let fills = journal.fills();
+    journal.commit_control(Control::Idle, fills).ok()
+}
+
+/// The control block of the journal of two volumes.
+fn control_block(alloc: Global, mut pool: MemoryPool) -> Result<Vec<u8>, Fail> {
+    let mut block = vec![in alloc; 0u8; 65_536]?;
+    if pool.units() == 3 && pool.block_size(2) == 65_536 && 2 < pool.blocks(2) {
+        pool.read(2, 2, &mut block)?;
     }
-    assert_eq!(rt; entries.as_slice().len(), 1);
-    Ok(())
+    Ok(block)
 }
 
 /// Whether the short slide is under way, and a fill of the second of two volumes alone.
 fn is_under_way<P: Pool>(journal: &Journal<P>) -> bool {
-    if journal.units() != 2 || journal.control() != SHORT {
+    if journal.units() != 2 || journal.control() != SHORT || journal.fills() != 2 {
+        return false;
+    }
+    !journal.filling(0) && journal.filling(1)
+}
+
+/// Whether no slide is open, and a fill of the second of two volumes alone.
+fn has_one_fill<P: Pool>(journal: &Journal<P>) -> bool {
+    if journal.units() != 2 || journal.control() != Control::Idle {
         return false;
     }
     !journal.filling(0) && journal.filling(1)
@@ -206,5 +203,44 @@ fn a_slide_is_open_once_its_entry_is_in_place(rt: HostRuntime) -> Result<(), Fai
     assert_stops(&rt, rt.alloc(), &pool)?;
     let whole = refusal(rt.alloc(), &pool, 13, Tear::Old)?;
     assert_eq!(rt; whole, Some(JournalFault::BadJournal(7)));
+    Ok(())
+}
+
+// Bytes 0, 4 to 23 and 65 of block 2 of the journal, which is the third unit.
+#[test]
+fn the_control_block_says_a_slide_and_a_fill(rt: HostRuntime) -> Result<(), Fail> {
+    let mut want = vec![in rt.alloc(); 0u8; 65_536]?;
+    let front = [
+        1, 0, 0, 0, 0, 0, 0, 1, 0, 0, 0, 1, 0, 0, 0, 0, 0, 0, 0, 1, 0, 0, 0, 0,
+    ];
+    put_over(&mut want, 0, &front);
+    put_over(&mut want, 65, &[1]);
+    let pool = slid(&rt)?.expect(&rt, "the commit fails");
+    assert!(rt; control_block(rt.alloc(), pool)?.as_slice() == want.as_slice());
+    Ok(())
+}
+
+/// The pool once the slide is closed and the fill is open still.
+fn filled(rt: &HostRuntime) -> Result<Option<MemoryPool>, Fail> {
+    let Ok(journal) = open(rt.alloc(), pool(rt)?) else {
+        return Ok(None);
+    };
+    let slid = commit_slide(rt.alloc(), journal);
+    match slid.and_then(commit_idle) {
+        Some(journal) if has_one_fill(&journal) => Ok(Some(journal.into_pool())),
+        _ => Ok(None),
+    }
+}
+
+#[test]
+fn a_journal_is_opened_over_an_open_fill(rt: HostRuntime) -> Result<(), Fail> {
+    let mut want = vec![in rt.alloc(); 0u8; 65_536]?;
+    put_over(&mut want, 65, &[1]);
+    let pool = filled(&rt)?.expect(&rt, "a commit fails");
+    let Ok(journal) = open(rt.alloc(), pool) else {
+        return Err(Fail::new("it isn't opened"));
+    };
+    assert!(rt; has_one_fill(&journal));
+    assert!(rt; control_block(rt.alloc(), journal.into_pool())?.as_slice() == want.as_slice());
     Ok(())
 }

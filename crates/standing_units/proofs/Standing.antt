@@ -5,7 +5,7 @@ use Rattle.dasd_pool.specs.Disk.{Image, Shape, State}
 use Rattle.vol_label.specs.declared.serial.Serial.{Serial}
 use Rattle.redo_core.specs.declared.control.Control.{Control}
 use Rattle.redo_core.specs.declared.control.Control.TheVariants.{Idle, Slide}
-use Rattle.redo_core.specs.Faults.{zeroed, HasSerial, LabelsAre, IsAllClosed, MayOpen}
+use Rattle.redo_core.specs.Faults.{zeroed, HasSerial, LabelsAre, HasNoSlide, MayOpen}
 use Rattle.redo_core.specs.Format.{is_open, directory_in}
 use Rattle.redo_core.specs.Opening.{IsOpened}
 use Rattle.redo_core.specs.Reading.{journal_of, overlay, fills_of, Reading, Reads}
@@ -98,7 +98,7 @@ module _ (shape : Shape) (image : Image) (names : List Serial) (may : MayOpen sh
   r = may.reading
 
   idle_is : r.control ≡ Idle
-  idle_is = by r.control (λ busy. may.idle.idle (inl busy))
+  idle_is = by r.control (λ busy. may.idle.idle busy)
     where
       by : (control : Control) → ¬ ¬ (control ≡ Idle) → control ≡ Idle
       by Idle never = refl
@@ -136,11 +136,11 @@ module _ (shape : Shape) (image : Image) (names : List Serial) (may : MayOpen sh
       before.obeys.control_is ∙ sym there.obeys.control_is ∙ idle_is
 
 -- an image that stands for units may be opened
-opens : (shape : Shape) (image : Image) (names : List Serial) → IsFor shape names image → IsAllClosed shape image → MayOpen shape image names
+opens : (shape : Shape) (image : Image) (names : List Serial) → IsFor shape names image → HasNoSlide shape image → MayOpen shape image names
 opens shape image names is closed =
     subst (λ (s : Shape). MayOpen s image names) is.shape_is
     (subst (λ (n : List Serial). MayOpen is.facts.shape image n) is.names_are
-    (standing_may_open is.facts image is.units is.stands (subst (λ (s : Shape). IsAllClosed s image) (sym is.shape_is) closed)))
+    (standing_may_open is.facts image is.units is.stands (subst (λ (s : Shape). HasNoSlide s image) (sym is.shape_is) closed)))
 
 pub opening_stands : OpeningStands
 opening_stands shape image names = (

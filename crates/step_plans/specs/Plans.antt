@@ -27,7 +27,7 @@ use Rattle.step_plans.specs.declared.copies.SetCopy.{SetCopy}
 
 -- a volume that was loaded from the slots of its VTOC, on some unit
 abbrev pub IsSound : Volume → Type 0
-IsSound volume = (head : List ℕ) × (blocks : ℕ) × (slots : List ℕ) × IsFromSlots head blocks volume slots
+IsSound volume = (head : List ℕ) × (blocks : ℕ) × (slots : List ℕ) × IsFromSlots false head blocks volume slots
 
 -- a plan of this step, whichever units have the volume at this place
 pub record IsPlanFor (volume : Volume) (unit : ℕ) (step : Step) (plan : Plan) : Type 0 where

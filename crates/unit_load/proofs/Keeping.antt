@@ -1,5 +1,5 @@
 -- The slots from which a volume was loaded are those of its VTOC.
-use Rattle.std.proofs.Common.{◌≡◌, ℕ, ◌+◌, ◌*◌, ◌<◌, ◌≤◌, List, length, false, refl, sym, ap, subst, ◌∙◌, arith}
+use Rattle.std.proofs.Common.{◌≡◌, ℕ, ◌+◌, ◌*◌, ◌<◌, ◌≤◌, List, length, Bool, refl, sym, ap, subst, ◌∙◌, arith}
 use Rattle.ckd_image.specs.declared.device.Device.{Device}
 use Rattle.ckd_image.specs.declared.device.Device.TheVariants.{D3390, D3380}
 use Rattle.ckd_image.specs.declared.head.Head.{Head}
@@ -49,10 +49,10 @@ run_stands image pointer run size track read slots slot hand stands home long sa
     ap (λ (l : List ℕ). slot_in run (slot_of image.device) l track) same ∙ (ap (λ (n : ℕ). slot_in run n read track) (sym long) ∙ (at_hand holds ∙ told)) in
     stands (slot_in run (slot_of image.device) slots) (ap (slot_in run (slot_of image.device) slots) home ∙ there)
 
-module _ (head : List ℕ) (blocks : ℕ) (image : Head) (label : Label) (run : Run) (slots : List ℕ) (volume : Volume) (has : HasImage head blocks image)
+module _ (sliding : Bool) (head : List ℕ) (blocks : ℕ) (image : Head) (label : Label) (run : Run) (slots : List ℕ) (volume : Volume) (has : HasImage head blocks image)
     (inside : IsInside image label.vtoc) (is : IsVtocRun image (slot_in run (slot_of image.device) slots) label.vtoc run)
-    (loads : (unit : Slots) → AreSlotsOf run (slot_of image.device) slots unit → IsLoadedVtoc image label unit false volume) where
-  loaded : IsLoadedVtoc image label (slot_in run (slot_of image.device) slots) false volume
+    (loads : (unit : Slots) → AreSlotsOf run (slot_of image.device) slots unit → IsLoadedVtoc image label unit sliding volume) where
+  loaded : IsLoadedVtoc image label (slot_in run (slot_of image.device) slots) sliding volume
   loaded = loads (slot_in run (slot_of image.device) slots) (λ k less. refl)
 
   run_is : volume.vtoc ≡ run
@@ -72,7 +72,7 @@ module _ (head : List ℕ) (blocks : ℕ) (image : Head) (label : Label) (run : 
   slots_of_vtoc unit are =
       subst (λ (r : Run). AreSlotsOf r (slot_of volume.device) slots unit) (sym run_is) (subst (λ (n : ℕ). AreSlotsOf run n slots unit) (sym size_is) are)
 
-  pub from_slots : length slots ≡ run.len * slot_of image.device → IsFromSlots head blocks volume slots
+  pub from_slots : length slots ≡ run.len * slot_of image.device → IsFromSlots sliding head blocks volume slots
   from_slots long = record {
     image = image;
     label = label;

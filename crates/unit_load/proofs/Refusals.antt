@@ -1,5 +1,5 @@
 -- Refusals of the VTOC's check as they make a unit offline.
-use Rattle.std.proofs.Common.{inl, false}
+use Rattle.std.proofs.Common.{inl, Bool}
 use Rattle.ckd_image.specs.declared.head.Head.{Head}
 use Rattle.vol_label.specs.declared.label.Label.{Label}
 use Rattle.volume_model.specs.declared.place.Breach.{Breach}
@@ -16,14 +16,14 @@ of_check is Indexed told = told
 of_check is (VtocFull need free) told = told
 of_check is NoMemory told = tt
 
-pub check_stop : (head : Head) (slots : Slots) (label : Label) (fault : VtocFault) → IsToldFault (IsCheckFault head slots label.vtoc false) fault → IsVtocStop head slots label (stop_for fault)
-check_stop head slots label (BadVtoc track number why) told = told
-check_stop head slots label Indexed told = tt
-check_stop head slots label (VtocFull need free) told = tt
-check_stop head slots label NoMemory told = tt
+pub check_stop : (sliding : Bool) (head : Head) (slots : Slots) (label : Label) (fault : VtocFault) → IsToldFault (IsCheckFault head slots label.vtoc sliding) fault → IsVtocStop sliding head slots label (stop_for fault)
+check_stop sliding head slots label (BadVtoc track number why) told = told
+check_stop sliding head slots label Indexed told = tt
+check_stop sliding head slots label (VtocFull need free) told = tt
+check_stop sliding head slots label NoMemory told = tt
 
-pub front_stop : (head : Head) (slots : Slots) (label : Label) (fault : VtocFault) → IsToldFault (IsFrontBreach head slots label.vtoc) fault → IsVtocStop head slots label (stop_for fault)
-front_stop head slots label (BadVtoc track number why) told = (told.0, inl told.1, told.2, told.3, told.4)
-front_stop head slots label Indexed told = tt
-front_stop head slots label (VtocFull need free) told = tt
-front_stop head slots label NoMemory told = tt
+pub front_stop : (sliding : Bool) (head : Head) (slots : Slots) (label : Label) (fault : VtocFault) → IsToldFault (IsFrontBreach head slots label.vtoc) fault → IsVtocStop sliding head slots label (stop_for fault)
+front_stop sliding head slots label (BadVtoc track number why) told = (told.0, inl told.1, told.2, told.3, told.4)
+front_stop sliding head slots label Indexed told = tt
+front_stop sliding head slots label (VtocFull need free) told = tt
+front_stop sliding head slots label NoMemory told = tt

@@ -1,3 +1,4 @@
+pub mod Hand
 pub mod Reads
 pub mod Kept
 pub mod State

@@ -26,9 +26,9 @@ abbrev pub IsReadStop : ℕ → ℕ → Stop → Type 0
 IsReadStop before after (stops.Fault fault) = IsUnitFault before after fault
 IsReadStop before after (stops.Offline why) = ⊥
 
--- one more slot stands behind others: that of the track at hand, or any of the right length
-pub record AddsSlot (track : ℕ) (hand : ℕ) (at_hand_slot : List ℕ) (size : ℕ) (old new : List ℕ) : Type 0 where
+-- one more slot stands behind others: that of the track that was taken before, or any of the right length
+pub record AddsSlot (track : ℕ) (taken : ℕ) (taken_slot : List ℕ) (size : ℕ) (old new : List ℕ) : Type 0 where
   pub slot : List ℕ
   pub new_is : new ≡ old ++ slot
   pub long : length slot ≡ size
-  pub at_hand : track ≡ hand → slot ≡ at_hand_slot
+  pub as_taken : track ≡ taken → slot ≡ taken_slot

@@ -1,5 +1,5 @@
 -- Why no volume is found on a unit, step by step.
-use Rattle.std.specs.Prelude.{◌≡◌, ◌⊎◌, ℕ, false, List}
+use Rattle.std.specs.Prelude.{◌≡◌, ◌⊎◌, ℕ, Bool, List}
 use Rattle.ckd_image.specs.declared.fault.CkdFault.TheVariants.{BadHead}
 use Rattle.ckd_image.specs.declared.head.Head.{Head}
 use Rattle.ckd_image.specs.declared.track.Track.{Track}
@@ -40,12 +40,12 @@ IsLabelStop image slot (stops.Offline (whys.Label why)) =
 IsLabelStop image slot (stops.Offline _) = ⊥
 IsLabelStop image slot (stops.Fault fault) = Unit {0}
 
--- the VTOC of a label is refused
-abbrev pub IsVtocStop : Head → Slots → Label → Stop → Type 0
-IsVtocStop image slots label (stops.Offline (whys.Vtoc track number why)) =
-    (told : Breach) × IsCheckFault image slots label.vtoc false told × (track ≡ told.place.track) × (number ≡ told.place.record_number) × (why ≡ number_of told.rule)
-IsVtocStop image slots label (stops.Offline _) = ⊥
-IsVtocStop image slots label (stops.Fault fault) = Unit {0}
+-- the VTOC of a label is refused, with a slide open on its volume or not
+abbrev pub IsVtocStop : Bool → Head → Slots → Label → Stop → Type 0
+IsVtocStop sliding image slots label (stops.Offline (whys.Vtoc track number why)) =
+    (told : Breach) × IsCheckFault image slots label.vtoc sliding told × (track ≡ told.place.track) × (number ≡ told.place.record_number) × (why ≡ number_of told.rule)
+IsVtocStop sliding image slots label (stops.Offline _) = ⊥
+IsVtocStop sliding image slots label (stops.Fault fault) = Unit {0}
 
 -- ---- refusals of the VTOC's check
 

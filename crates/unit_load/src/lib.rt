@@ -8,5 +8,6 @@ mod state;
 mod stop;
 
 pub use load::load_unit;
-pub use state::{LoadedUnit, UnitState};
+pub use slots::Hand;
+pub use state::{LoadedUnit, UnderWay, UnitState};
 pub use stop::UnitFault;

@@ -13,15 +13,15 @@ use Rattle.unit_steps.specs.vtoc_render.declared.change.Rendered.{Rendered}
 use Rattle.unit_steps.specs.unit_change.Described.{AreShort}
 use Rattle.unit_load.specs.declared.state.UnitState.{UnitState}
 use Rattle.volume_model.specs.Unit.{UnitModel}
-use Rattle.move_core.specs.Facts.{Facts}
+use Rattle.move_core.specs.Facts.{Facts, HasInputs}
 use Rattle.move_core.specs.Stands.{AreUnused, IsSettled}
-use Rattle.move_core.specs.Taking.{IsIdle, TakeUnits}
+use Rattle.move_core.specs.Taking.{IsQuiet}
 use Rattle.move_core.proofs.Running.{at_shape}
 use Rattle.unit_steps.specs.declared.plan.Plan.{Plan}
 use Rattle.unit_steps.specs.declared.plan.Tracks.{Tracks}
 use Rattle.unit_steps.specs.declared.plan.Tracks.TheVariants as texts
 use Rattle.unit_steps.specs.Copied.{AreHeld, AreShortOn, DifferOnFree}
-use Rattle.unit_steps.specs.Loaded.{AreLoaded, AreVtocsOf, HaveStates, KeepVtocs}
+use Rattle.unit_steps.specs.Loaded.{AreLoaded, AreVtocsOf, HaveFills, HaveStates, KeepVtocs, TakeLoaded}
 use Rattle.unit_steps.specs.Plans.{IsPlan}
 use Rattle.unit_steps.specs.Rendering.{AreReady, WereRendered, entries_of}
 use Rattle.unit_steps.proofs.Copying.{copied_load}
@@ -79,7 +79,7 @@ module _ {shape : Shape} (units : List UnitState) (vtocs : List (List ℕ)) (pla
     copied_volumes = copied_load shape old new units vtocs have loaded vtocs_are differ_on_free (still_short loaded short)
 
     copied_takes : (room : ℕ) (rendered : List Rendered) → WereRendered units vtocs plan.changes rendered → OnCopies (HaveTexts old) copies → CopiesLeave old new copies
-        → TakeUnits shape room new plan.step (entries_of plan.changes rendered)
+        → TakeLoaded (HasInputs None) shape room units new plan.step (entries_of plan.changes rendered)
     copied_takes room rendered were texts leave =
         plans_take shape room old new units vtocs plan rendered have loaded keep vtocs_are is were differ_on_free (still_short loaded short) (held texts leave)
 
@@ -111,18 +111,19 @@ module _ {P : Type 0} (pools : Ghosts P) (old new : JournalView P) (units : List
   pub takes_copied : pools.tells → AreLoaded (pools.shape old.pool) (contents_of pools old) units → AreVtocsOf (contents_of pools old) units vtocs
       → OnCopies (IsShortFor (pools.shape old.pool) (contents_of pools new)) copies → (rendered : List Rendered) → WereRendered units vtocs plan.changes rendered
       → OnCopies (HaveTexts (contents_of pools old)) copies → CopiesLeave (contents_of pools old) (contents_of pools new) copies
-      → (entries : List Entry) → entries ≡ entries_of plan.changes rendered → TakeUnits (pools.shape new.pool) new.room (contents_of pools new) plan.step entries
+      → (entries : List Entry) → entries ≡ entries_of plan.changes rendered → TakeLoaded (HasInputs None) (pools.shape new.pool) new.room units (contents_of pools new) plan.step entries
   takes_copied told loaded vtocs_are short rendered were texts leave entries entries_are =
-      subst (λ (s : Shape). TakeUnits s new.room after plan.step entries) (sym writes.shape)
-      (subst (λ (l : List Entry). TakeUnits (pools.shape old.pool) new.room after plan.step l) (sym entries_are)
+      subst (λ (s : Shape). TakeLoaded (HasInputs None) s new.room units after plan.step entries) (sym writes.shape)
+      (subst (λ (l : List Entry). TakeLoaded (HasInputs None) (pools.shape old.pool) new.room units after plan.step l) (sym entries_are)
       (copied_takes units vtocs plan copies have keep is are before after (kept_blocks told) loaded vtocs_are short new.room rendered were texts leave))
 
 -- ---- no meaning rests on what is written
 
-pub writes_unused : {tells : Type 0} {room : ℕ} (shape : Shape) (state : State) (units : List UnitState) (vtocs : List (List ℕ)) (plan : Plan) (copies : Option Copies) → HaveStates shape units
-    → KeepVtocs shape units vtocs → IsPlan units plan → AreCopiesOf units plan.tracks plan.changes copies → (tells → AreLoaded shape state.contents units) → (tells → IsIdle shape state room)
+pub writes_unused : {tells : Type 0} {room : ℕ} {fills : List Bool} (shape : Shape) (state : State) (units : List UnitState) (vtocs : List (List ℕ)) (plan : Plan) (copies : Option Copies) → HaveStates shape units
+    → KeepVtocs shape units vtocs → IsPlan units plan → AreCopiesOf units plan.tracks plan.changes copies → (tells → AreLoaded shape state.contents units) → HaveFills fills units
+    → (tells → IsQuiet shape state room fills)
     → tells → (facts : Facts) (models : List UnitModel) → facts.shape ≡ shape → (settled : IsSettled facts state models)
     → AreUnused (may_write_for copies) facts.shape settled.stands.reading settled.stands.means.found
-writes_unused {room = room} shape state units vtocs plan copies have keep is are loaded idle told facts models same settled =
-    may_be_written facts state models units room (may_write_for copies) (at_shape (λ s. AreLoaded s state.contents units) same (loaded told)) (at_shape (λ s. IsIdle s state room) same (idle told))
-    settled (targets_free units vtocs plan have keep is copies are)
+writes_unused {room = room} {fills = fills} shape state units vtocs plan copies have keep is are loaded fit quiet told facts models same settled =
+    may_be_written facts state models units room fills (may_write_for copies) (at_shape (λ s. AreLoaded s state.contents units) same (loaded told)) fit
+    (at_shape (λ s. IsQuiet s state room fills) same (quiet told)) settled (targets_free units vtocs plan have keep is copies are)

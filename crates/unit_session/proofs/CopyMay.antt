@@ -106,10 +106,10 @@ module _ {shape : Shape} (units : List UnitState) (vtocs : List (List ℕ)) (hav
   abbrev target_tracks : List ℕ
   target_tracks = tracks_in to.volume to.row
 
-  source_from : IsFromSlots (shape.head copies.from) (shape.blocks copies.from) to.source (kept_of units vtocs have keep copies.from to.source to.source_loaded).0
+  source_from : IsFromSlots false (shape.head copies.from) (shape.blocks copies.from) to.source (kept_of units vtocs have keep copies.from to.source to.source_loaded).0
   source_from = (kept_of units vtocs have keep copies.from to.source to.source_loaded).2
 
-  target_from : IsFromSlots (shape.head copies.unit) (shape.blocks copies.unit) to.volume (kept_of units vtocs have keep copies.unit to.volume to.loaded).0
+  target_from : IsFromSlots false (shape.head copies.unit) (shape.blocks copies.unit) to.volume (kept_of units vtocs have keep copies.unit to.volume to.loaded).0
   target_from = (kept_of units vtocs have keep copies.unit to.volume to.loaded).2
 
   -- a track that is written was free
@@ -135,7 +135,7 @@ module _ {shape : Shape} (units : List UnitState) (vtocs : List (List ℕ)) (hav
   unit_there : (unit : ℕ) (volume : Volume) → IsLoadedAt units unit volume → unit < journal_of shape
   unit_there unit volume loaded = omega (arith, slice_get_within units unit (Online volume) loaded, have)
 
-  size_of : AreSized shape → (unit : ℕ) (volume : Volume) (slots : List ℕ) → IsLoadedAt units unit volume → IsFromSlots (shape.head unit) (shape.blocks unit) volume slots
+  size_of : AreSized shape → (unit : ℕ) (volume : Volume) (slots : List ℕ) → IsLoadedAt units unit volume → IsFromSlots false (shape.head unit) (shape.blocks unit) volume slots
       → shape.block_size unit ≡ slot_of volume.device
   size_of sized unit volume slots loaded from =
       sized unit (unit_there unit volume loaded) ∙ said_slot (shape.head unit) from.image.device from.image_is.stands.slot ∙ ap slot_of (sym from.loaded.volume.device_is)

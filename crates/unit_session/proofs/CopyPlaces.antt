@@ -73,7 +73,7 @@ put_distinct volume gone row may = subst (λ (l : List ℕ). AreDistinct l) (sym
 
 -- ---- a loaded volume
 
-module _ {head : List ℕ} {blocks : ℕ} {volume : Volume} {slots : List ℕ} (from : IsFromSlots head blocks volume slots) where
+module _ {head : List ℕ} {blocks : ℕ} {volume : Volume} {slots : List ℕ} (from : IsFromSlots false head blocks volume slots) where
   was : WasLoaded from.image from.label from.unit false slots volume from.loaded.vtoc (four from.loaded (few from) (home_short from))
   was = from_slots from
 
@@ -134,7 +134,7 @@ module _ {head : List ℕ} {blocks : ℕ} {volume : Volume} {slots : List ℕ} (
 
 -- the slots that are kept of a loaded volume
 pub kept_of : {shape : Shape} (units : List UnitState) (vtocs : List (List ℕ)) → HaveStates shape units → KeepVtocs shape units vtocs → (unit : ℕ) (volume : Volume) → IsLoadedAt units unit volume
-    → (slots : List ℕ) × (slice_get vtocs unit ≡ Some slots) × IsFromSlots (shape.head unit) (shape.blocks unit) volume slots
+    → (slots : List ℕ) × (slice_get vtocs unit ≡ Some slots) × IsFromSlots false (shape.head unit) (shape.blocks unit) volume slots
 kept_of units vtocs have keep unit volume loaded =
     let found = get_there vtocs unit (omega (arith, slice_get_within units unit (Online volume) loaded, have, keep.count)) in
     (found.0, found.1, keep.each unit (Online volume) found.0 loaded found.1)

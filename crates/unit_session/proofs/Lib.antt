@@ -2,6 +2,7 @@ mod Loading
 mod Modelling
 mod Beginning
 mod Searching
+mod Room
 mod Rendered
 mod Switched
 mod Patched

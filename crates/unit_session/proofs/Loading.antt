@@ -1,9 +1,10 @@
 -- One unit more that is loaded, and the slots that are kept of it.
-use Rattle.std.proofs.Common.{◌≡◌, ℕ, ◌<◌, Bool, zero, suc, List, [], ◌∷◌, ◌++◌, length, Option, Some, sym, ap, subst, ◌∙◌, arith}
+use Rattle.std.proofs.Common.{◌≡◌, ℕ, ◌<◌, Bool, zero, suc, List, [], ◌∷◌, ◌++◌, length, Option, Some, sym, ap, subst, ◌∙◌, arith, false}
 use Rattle.std.specs.Prelude.{slice_get, All}
-use Rattle.std.proofs.lemmas.Option.{same_Some, none-some}
+use Rattle.std.proofs.lemmas.Option.{same_Some, none-some, slice_get_within}
 use Rattle.dasd_pool.specs.Disk.{Image, Shape, State}
 use Rattle.redo_core.specs.declared.control.Control.{Control}
+use Rattle.redo_core.specs.declared.control.Control.TheVariants.{Idle}
 use Rattle.redo_core.specs.declared.entries.Entry.{Entry}
 use Rattle.redo_core.specs.Phases.{IsAtRest, IsStatusAfter}
 use Rattle.redo_core.specs.Reading.{journal_of, fills_of}
@@ -11,10 +12,10 @@ use Rattle.redo_core.proofs.Controls.{no_control}
 use Rattle.unit_steps.specs.unit_change.Described.{AreShort}
 use Rattle.unit_load.specs.declared.state.UnitState.{UnitState}
 use Rattle.unit_load.specs.Kept.{IsKept, AreKeptOf}
-use Rattle.unit_load.specs.State.{IsStateOf}
-use Rattle.unit_steps.specs.Loaded.{AreLoaded, KeepVtocs, AreVtocsOf}
+use Rattle.unit_load.specs.State.{IsStateOf, FitsFill}
+use Rattle.unit_steps.specs.Loaded.{AreLoaded, HaveFills, HaveStates, KeepVtocs, AreVtocsOf}
 use Rattle.unit_session.specs.declared.copies.Source.{Source}
-use Rattle.unit_session.specs.Sessions.{HasNothingOpen}
+use Rattle.unit_session.specs.Sessions.{HasOnlyFills}
 use Rattle.unit_session.specs.Texts.{AreSeen}
 
 module _ {X : Type 0} where
@@ -46,20 +47,31 @@ loaded_none shape contents units is u state at =
 
 -- it was read on a pool that is as it was
 pub loaded_more : (shape now : Shape) (old new : State) (units later : List UnitState) (unit : ℕ) (state : UnitState) → now ≡ shape → new ≡ old → length units ≡ unit → later ≡ units ++ (state ∷ [])
-    → AreLoaded shape old.contents units → IsStateOf (now.head unit) (now.blocks unit) (new.contents unit) state → AreShort (now.blocks unit) (new.contents unit)
+    → AreLoaded shape old.contents units → IsStateOf false (now.head unit) (now.blocks unit) (new.contents unit) state → AreShort (now.blocks unit) (new.contents unit)
     → AreLoaded shape old.contents later
 loaded_more shape now old new units later unit state same still long is loaded stands short =
-    let P : ℕ → UnitState → Type 0 = λ u s. IsStateOf (shape.head u) (shape.blocks u) (old.contents u) s × AreShort (shape.blocks u) (old.contents u) in
-    let Q : Shape → State → Type 0 = λ s t. IsStateOf (s.head unit) (s.blocks unit) (t.contents unit) state × AreShort (s.blocks unit) (t.contents unit) in
+    let P : ℕ → UnitState → Type 0 = λ u s. IsStateOf false (shape.head u) (shape.blocks u) (old.contents u) s × AreShort (shape.blocks u) (old.contents u) in
+    let Q : Shape → State → Type 0 = λ s t. IsStateOf false (s.head unit) (s.blocks unit) (t.contents unit) state × AreShort (s.blocks unit) (t.contents unit) in
     let here : P unit state = subst (λ (t : State). Q shape t) still (subst (λ (s : Shape). Q s new) same (stands, short)) in
     subst (AreLoaded shape old.contents) (sym is) (get_more units state P loaded (subst (λ (u : ℕ). P u state) (sym long) here))
+
+-- whether a fill is open on it fits
+pub fills_none : (fills : List Bool) (units : List UnitState) → units ≡ [] → HaveFills fills units
+fills_none fills units is u state at = absurd (none-some state (subst (λ (l : List UnitState). slice_get l u ≡ Some state) is at))
+
+pub fills_more : (fills now : List Bool) (units later : List UnitState) (unit : ℕ) (state : UnitState) → now ≡ fills → length units ≡ unit → later ≡ units ++ (state ∷ [])
+    → HaveFills fills units → FitsFill (fills_of now unit) state → HaveFills fills later
+fills_more fills now units later unit state same long is fit stands =
+    let P : ℕ → UnitState → Type 0 = λ u s. FitsFill (fills_of fills u) s in
+    let here : P unit state = subst (λ (l : List Bool). FitsFill (fills_of l unit) state) same stands in
+    subst (HaveFills fills) (sym is) (get_more units state P fit (subst (λ (u : ℕ). P u state) (sym long) here))
 
 -- ---- the kept slots
 
 -- each unit's slots are kept
 abbrev pub KeepEach : Shape → List UnitState → List (List ℕ) → Type 0
 KeepEach shape units vtocs =
-    (u : ℕ) (state : UnitState) (slots : List ℕ) → slice_get units u ≡ Some state → slice_get vtocs u ≡ Some slots → IsKept (shape.head u) (shape.blocks u) state slots
+    (u : ℕ) (state : UnitState) (slots : List ℕ) → slice_get units u ≡ Some state → slice_get vtocs u ≡ Some slots → IsKept false (shape.head u) (shape.blocks u) state slots
 
 pub kept_none : (shape : Shape) (units : List UnitState) (vtocs : List (List ℕ)) → units ≡ [] → KeepEach shape units vtocs
 kept_none shape units vtocs is u state slots at there = absurd (none-some state (subst (λ (l : List UnitState). slice_get l u ≡ Some state) is at))
@@ -75,9 +87,9 @@ module _ (units later : List UnitState) (vtocs after : List (List ℕ)) (unit : 
       get_both units vtocs state slots P (long ∙ sym whole) each (subst (λ (v : ℕ). P v state slots) (sym long) last) u s l
       (subst (λ (list : List UnitState). slice_get list u ≡ Some s) is at) (subst (λ (list : List (List ℕ)). slice_get list u ≡ Some l) are there)
 
-  pub kept_more : (shape now : Shape) → now ≡ shape → KeepEach shape units vtocs → IsKept (now.head unit) (now.blocks unit) state slots → KeepEach shape later after
+  pub kept_more : (shape now : Shape) → now ≡ shape → KeepEach shape units vtocs → IsKept false (now.head unit) (now.blocks unit) state slots → KeepEach shape later after
   kept_more shape now same kept stands =
-      both_more (λ u s l. IsKept (shape.head u) (shape.blocks u) s l) kept (subst (λ (s : Shape). IsKept (s.head unit) (s.blocks unit) state slots) same stands)
+      both_more (λ u s l. IsKept false (shape.head u) (shape.blocks u) s l) kept (subst (λ (s : Shape). IsKept false (s.head unit) (s.blocks unit) state slots) same stands)
 
   pub vtocs_more : (old new : State) → new ≡ old → AreVtocsOf old.contents units vtocs → AreKeptOf (new.contents unit) state slots → AreVtocsOf old.contents later after
   vtocs_more old new still have stands =
@@ -85,24 +97,22 @@ module _ (units later : List UnitState) (vtocs after : List (List ℕ)) (unit : 
 
 -- ---- a pool that is as it was
 
-pub still_free : {shape now : Shape} {control later : Control} {fills others : List Bool} → now ≡ shape → later ≡ control → others ≡ fills
-    → HasNothingOpen shape control fills → HasNothingOpen now later others
-still_free {shape} {now} {control} {later} {fills} {others} same still alike free = record {
-  idle = still ∙ free.idle;
-  closed = λ u less.
-      ap (λ (l : List Bool). fills_of l u) alike ∙ free.closed u (subst (λ (s : Shape). u < journal_of s) same less);
-}
+pub still_free : {control later : Control} {fills others : List Bool} {units : List UnitState} → later ≡ control → others ≡ fills
+    → HasOnlyFills control fills units → HasOnlyFills later others units
+still_free {units = units} still alike free = record { idle = still ∙ free.idle; fit = subst (λ (l : List Bool). HaveFills l units) (sym alike) free.fit }
 
--- what is under way stays behind a commit of entries of volumes alone
-pub free_after : {shape now : Shape} {entries : List Entry} {control later : Control} {fills others : List Bool} → now ≡ shape → All (λ entry. entry.unit < journal_of shape) entries
-    → IsStatusAfter shape entries control fills later others → HasNothingOpen shape control fills → HasNothingOpen now later others
-free_after {shape} {now} {entries} {control} {later} {fills} {others} same below status free =
+-- no slide is open behind a commit of entries of volumes alone, and the fills fit the units after it
+pub free_after : {shape now : Shape} {entries : List Entry} {control later : Control} {fills others : List Bool} {after : List UnitState} → now ≡ shape
+    → All (λ entry. entry.unit < journal_of shape) entries → IsStatusAfter shape entries control fills later others → HaveStates now after
+    → control ≡ Idle → HaveFills fills after → HasOnlyFills later others after
+free_after {shape} {now} {entries} {control} {later} {fills} {others} {after} same below status have idle fit =
     let kept = no_control shape entries below control (fills_of fills) in
     record {
-      idle = status.control_is ∙ kept.0 ∙ free.idle;
-      closed = λ u less.
-          let within : u < journal_of shape = subst (λ (s : Shape). u < journal_of s) same less in
-          status.fills_are u within ∙ ap (λ (f : ℕ → Bool). f u) kept.1 ∙ free.closed u within;
+      idle = status.control_is ∙ kept.0 ∙ idle;
+      fit = λ u state at.
+          let within : u < journal_of shape =
+          subst (λ (s : Shape). u < journal_of s) same (omega (arith, slice_get_within after u state at, have)) in
+          subst (λ (filling : Bool). FitsFill filling state) (sym (status.fills_are u within ∙ ap (λ (f : ℕ → Bool). f u) kept.1)) (fit u state at);
     }
 
 pub still_rest : {shape now : Shape} {old new : State} {room : ℕ} {control : Control} {fills : List Bool} → now ≡ shape → new ≡ old

@@ -23,7 +23,7 @@ use Rattle.unit_steps.proofs.Blocks.{few, from_slots, home_short}
 use Rattle.unit_session.specs.Planned.{HaveVolumes}
 use Rattle.unit_session.proofs.CopyPlaces.{kept_of}
 
-loads_from : {head : List ℕ} {blocks : ℕ} {volume : Volume} {slots : List ℕ} → IsFromSlots head blocks volume slots → LoadsFrom volume slots
+loads_from : {head : List ℕ} {blocks : ℕ} {volume : Volume} {slots : List ℕ} → IsFromSlots false head blocks volume slots → LoadsFrom volume slots
 loads_from from = record {
   head = from.image;
   label = from.label;

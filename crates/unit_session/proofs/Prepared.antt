@@ -1,5 +1,5 @@
 -- What is read for a plan, and when all that it needs is ready.
-use Rattle.std.proofs.Common.{◌≡◌, inl, inr, get_or, ℕ, ◌-◌, ◌/◌, ◌≤◌, List, length, All, Option, Some, sym, ap, subst, ◌∙◌, arith}
+use Rattle.std.proofs.Common.{◌≡◌, inl, inr, get_or, ℕ, ◌-◌, ◌/◌, ◌≤◌, List, length, All, Option, Some, None, sym, ap, subst, ◌∙◌, arith}
 use Rattle.std.proofs.lemmas.List.{get_or_default}
 use Rattle.std.proofs.lemmas.Bool.{cases_lt}
 use Rattle.ckd_image.specs.Device.{slot_of}
@@ -30,7 +30,7 @@ use Rattle.unit_session.specs.declared.fault.PlanFault.{PlanFault}
 use Rattle.unit_session.specs.declared.fault.PlanFault.TheVariants as faults
 use Rattle.unit_session.specs.Copies.{AreCopiesOf, HaveTexts, IsLookFault, MayCopy, OnCopies, contents_of}
 use Rattle.unit_session.specs.Planned.{AreRenderFault, HaveAllTexts, IsBar, IsLong, IsPlanFault, IsReady, MayBegin}
-use Rattle.unit_session.specs.Sessions.{HasNothingOpen, SessionView}
+use Rattle.unit_session.specs.Sessions.{HasOnlyFills, SessionView}
 use Rattle.unit_session.specs.Texts.{AreSeen}
 use Rattle.unit_session.proofs.CopyMay.{may_copy}
 use Rattle.unit_session.proofs.CopyPlaces.{kept_of}
@@ -75,7 +75,7 @@ module _ {P : Type 0} (pools : Ghosts P) (session : SessionView P) (plan : Plan)
 module _ {P : Type 0} (pools : Ghosts P) (old new : JournalView P) (names : List Serial) (units : List UnitState) (vtocs : List (List ℕ)) (reads : OnlyReads pools old new) where
   abbrev Stands : JournalView P → Option Source → Type 0
   Stands j seen =
-      HasNothingOpen (pools.shape j.pool) j.control j.fills × (length names ≡ journal_of (pools.shape j.pool)) × HaveStates (pools.shape j.pool) units × KeepVtocs (pools.shape j.pool) units vtocs
+      HasOnlyFills j.control j.fills units × (length names ≡ journal_of (pools.shape j.pool)) × HaveStates (pools.shape j.pool) units × KeepVtocs (pools.shape j.pool) units vtocs
       × (pools.tells → AreLoaded (pools.shape j.pool) (pools.disk j.pool).state.contents units) × (pools.tells → AreVtocsOf (pools.disk j.pool).state.contents units vtocs)
       × (pools.tells → AreSeen units (pools.disk j.pool).state.contents seen)
 
@@ -83,7 +83,7 @@ module _ {P : Type 0} (pools : Ghosts P) (old new : JournalView P) (names : List
   pub session_saw : (before seen : Option Source) → (pools.tells → AreSeen units (contents_of pools old) seen) → Stands old before → Stands new seen
   session_saw before seen saw was =
       let volumes = ap (λ (s : Shape). journal_of s) (sym reads.shape) in (
-        still_free reads.shape reads.status.control reads.status.fills was.0,
+        still_free reads.status.control reads.status.fills was.0,
         was.1 ∙ volumes,
         was.2 ∙ volumes,
         still_kept units vtocs reads.shape was.3,
@@ -105,12 +105,12 @@ few_long room units changes none k change less volume loaded = elim (cases_lt ((
 ]
 
 module _ {P : Type 0} (pools : Ghosts P) (old new : JournalView P) (names : List Serial) (units : List UnitState) (vtocs : List (List ℕ)) (reads : OnlyReads pools old new)
-    (plan : Plan) (copies : Option Copies) (rendered : List Rendered) (entries : List Entry) (slot : List ℕ) where
+    (plan : Plan) (copies : Option Copies) (rendered : List Rendered) (entries : List Entry) (slot : List ℕ) (control : Option (List ℕ)) where
   pub all_ready : HaveStates (pools.shape old.pool) units → KeepVtocs (pools.shape old.pool) units vtocs → IsPlan units plan → AreSized (pools.shape old.pool)
       → MayBegin old.room units plan.changes → AreCopiesOf units plan.tracks plan.changes copies → OnCopies (λ some. length slot ≡ slot_of some.device) copies
-      → (pools.tells → OnCopies (HaveTexts (contents_of pools old)) copies) → WereRendered units vtocs plan.changes rendered → entries ≡ entries_of plan.changes rendered
-      → IsReady pools (record { session = record { pool = new.pool; room = new.room; names = names; units = units; vtocs = vtocs }; plan = plan; copies = copies; rendered = rendered; entries = entries }) slot
-  all_ready have keep is sized may are size texts were entries_are =
+      → (pools.tells → OnCopies (HaveTexts (contents_of pools old)) copies) → WereRendered units vtocs plan.changes rendered → entries ≡ entries_of plan.changes rendered → control ≡ None
+      → IsReady pools (record { session = record { pool = new.pool; room = new.room; names = names; units = units; vtocs = vtocs }; plan = plan; copies = copies; rendered = rendered; entries = entries }) slot control
+  all_ready have keep is sized may are size texts were entries_are alone =
       let small = plans_small units plan is in
       let shape = pools.shape old.pool in
       let ready : AreReady shape old.room entries =
@@ -125,4 +125,5 @@ module _ {P : Type 0} (pools : Ghosts P) (old new : JournalView P) (names : List
         rendered = were;
         entries_are = entries_are;
         entries = subst (λ (s : Shape). AreReady s new.room entries) (sym reads.shape) (subst (λ (room : ℕ). AreReady shape room entries) (sym reads.status.room) ready);
+        alone = alone;
       }

@@ -1,30 +1,36 @@
 -- Changes that are rendered one after another, and their entries.
-use Rattle.std.proofs.Common.{◌≡◌, ◌⊎◌, inl, inr, ℕ, zero, suc, ◌+◌, ◌<◌, ◌≤◌, List, [], ◌∷◌, ◌++◌, length, map, min, take, get_or, Some, refl, sym, ap, subst, ◌∙◌, arith, append_assoc}
+use Rattle.std.proofs.Common.{◌≡◌, ◌⊎◌, inl, inr, ℕ, zero, suc, ◌+◌, ◌<◌, ◌≤◌, List, [], ◌∷◌, ◌++◌, length, map, min, All, take, get_or, Some, refl, sym, ap, subst, ◌∙◌, arith, append_assoc}
 use Rattle.std.specs.Prelude.{slice_get}
 use Rattle.std.proofs.lemmas.Bool.{cases_lt}
 use Rattle.std.proofs.lemmas.List.{append-nil, length-take, take_more}
-use Rattle.std.proofs.lemmas.List.Elements.{All-nil, All-cons}
+use Rattle.std.proofs.lemmas.List.Elements.{All-nil, All-cons, All-head, All-tail, All-take}
 use Rattle.redo_core.specs.declared.entries.Entry.{Entry}
 use Rattle.vtoc_core.specs.declared.volume.Volume.{Volume}
 use Rattle.volume_change.specs.declared.change.Change.{Change}
 use Rattle.unit_steps.specs.vtoc_render.declared.change.Rendered.{Rendered}
 use Rattle.unit_steps.specs.vtoc_render.Loads.{LoadsFrom}
-use Rattle.unit_steps.specs.vtoc_render.Next.{MayChange}
+use Rattle.unit_steps.specs.vtoc_render.Next.{IsNext, MayChange}
 use Rattle.unit_load.specs.declared.state.UnitState.{UnitState}
 use Rattle.unit_steps.specs.Plans.{IsLoadedAt}
 use Rattle.unit_steps.specs.Rendering.{WasRendered, WereRendered, entry_for, entries_of}
 use Rattle.unit_session.specs.declared.fault.PlanFault.{PlanFault}
 use Rattle.unit_session.specs.declared.fault.PlanFault.TheVariants as faults
-use Rattle.unit_session.specs.Planned.{HaveVolumes, IsRenderFault, AreRenderFault}
+use Rattle.unit_steps.proofs.OneChange.{same_volume}
+use Rattle.unit_session.specs.Planned.{HasRoom, HaveVolumes, IsRenderFault, AreRenderFault}
+use Rattle.unit_session.proofs.Room.{next_has_room}
 
 -- ---- volumes
+
+-- a change may be made on a volume that was loaded from its kept slots
+abbrev HasVolume : List UnitState → List (List ℕ) → ℕ × Change → Type 0
+HasVolume units vtocs change =
+    (volume : Volume) × (slots : List ℕ) × IsLoadedAt units change.0 volume × (slice_get vtocs change.0 ≡ Some slots) × LoadsFrom volume slots × MayChange volume change.1
 
 pub have_one : (units : List UnitState) (vtocs : List (List ℕ)) (changes : List (ℕ × Change)) (i : ℕ) (change : ℕ × Change) → i < length changes → change ≡ get_or changes i change
     → HaveVolumes units vtocs changes → HaveVolumes units vtocs ((change.0, change.1) ∷ [])
 have_one units vtocs changes i change less is have =
     let P : ℕ × Change → Type 0 = λ c. HaveVolumes units vtocs (c ∷ []) in
-    let Q : ℕ × Change → Type 0 =
-    λ c. (volume : Volume) × (slots : List ℕ) × IsLoadedAt units c.0 volume × (slice_get vtocs c.0 ≡ Some slots) × LoadsFrom volume slots × MayChange volume c.1 in
+    let Q : ℕ × Change → Type 0 = HasVolume units vtocs in
     subst P (sym is) (All-cons Q (get_or changes i change) [] (have i change less) (All-nil Q))
 
 -- ---- rendered changes
@@ -46,21 +52,47 @@ were_more units vtocs changes i change rendered more one less is added were was 
 
 -- ---- a change that was not rendered
 
-parts_at : {X : Type 0} (xs : List X) (i : ℕ) (x : X) → i < length xs → x ≡ get_or xs i x → (front : List X) × (back : List X) × (xs ≡ front ++ (x ∷ back))
+parts_at : {X : Type 0} (xs : List X) (i : ℕ) (x : X) → i < length xs → x ≡ get_or xs i x → (back : List X) × (xs ≡ take i xs ++ (x ∷ back))
 parts_at [] i x less is = absurd (omega (arith, less))
-parts_at (y ∷ xs) zero x less is = ([], xs, ap (λ z. z ∷ xs) (sym is))
-parts_at (y ∷ xs) (suc i) x less is = let rest = parts_at xs i x (omega (arith, less)) is in (y ∷ rest.0, rest.1, ap (λ l. y ∷ l) rest.2)
+parts_at (y ∷ xs) zero x less is = (xs, ap (λ z. z ∷ xs) (sym is))
+parts_at (y ∷ xs) (suc i) x less is = let rest = parts_at xs i x (omega (arith, less)) is in (rest.0, ap (λ l. y ∷ l) rest.1)
 
-pub fault_at : (units : List UnitState) (changes : List (ℕ × Change)) (i : ℕ) (change : ℕ × Change) (fault : PlanFault) → i < length changes → change ≡ get_or changes i change
+one_has_room : (units : List UnitState) (vtocs : List (List ℕ)) (change : ℕ × Change) (one : Rendered) → HasVolume units vtocs change
+    → WasRendered units vtocs change.0 change.1 one → HasRoom units change
+one_has_room units vtocs change one (at, slots, here, kept, loads, may) was volume loaded =
+    next_has_room volume one.next slots change.1 (subst (λ (v : Volume). LoadsFrom v slots) (same_volume units change.0 at volume here loaded) loads)
+    (subst (λ (v : Volume). IsNext v change.1 one.next) (same_volume units change.0 was.volume volume was.loaded loaded) was.next)
+
+-- there was room for each change that was rendered
+have_room : (units : List UnitState) (vtocs : List (List ℕ)) (changes : List (ℕ × Change)) (rendered : List Rendered) → HaveVolumes units vtocs changes
+    → WereRendered units vtocs changes rendered → All (HasRoom units) changes
+have_room units vtocs [] rendered have were = All-nil (HasRoom units)
+have_room units vtocs (change ∷ changes) [] have were = absurd were
+have_room units vtocs (change ∷ changes) (one ∷ rendered) have were =
+    All-cons (HasRoom units) change changes (one_has_room units vtocs change one (All-head (HasVolume units vtocs) change changes have) were.0)
+    (have_room units vtocs changes rendered (All-tail (HasVolume units vtocs) change changes have) were.1)
+
+pub fault_at : (units : List UnitState) (vtocs : List (List ℕ)) (changes : List (ℕ × Change)) (i : ℕ) (change : ℕ × Change) (rendered : List Rendered) (fault : PlanFault)
+    → i < length changes → change ≡ get_or changes i change → HaveVolumes units vtocs changes → WereRendered units vtocs (take i changes) rendered
     → IsRenderFault units change.0 change.1 fault → AreRenderFault units changes fault
-fault_at units changes i change (faults.Full need free) less is fault =
+fault_at units vtocs changes i change rendered (faults.Full need free) less is have were fault =
     let parts = parts_at changes i change less is in
-    record { front = parts.0; unit = change.0; change = change.1; back = parts.1; changes_are = parts.2; volume = fault.0; loaded = fault.1; full = fault.2 }
-fault_at units changes i change faults.Indexed less is fault = (i, change, less, sym is, fault)
-fault_at units changes i change faults.NoMemory less is fault = tt
-fault_at units changes i change faults.Pool less is fault = fault
-fault_at units changes i change (faults.Bad unit track) less is fault = fault
-fault_at units changes i change faults.Long less is fault = fault
+    record {
+      front = take i changes;
+      unit = change.0;
+      change = change.1;
+      back = parts.0;
+      changes_are = parts.1;
+      earlier = have_room units vtocs (take i changes) rendered (All-take (HasVolume units vtocs) i changes have) were;
+      volume = fault.0;
+      loaded = fault.1;
+      full = fault.2;
+    }
+fault_at units vtocs changes i change rendered faults.Indexed less is have were fault = (i, change, less, sym is, fault)
+fault_at units vtocs changes i change rendered faults.NoMemory less is have were fault = tt
+fault_at units vtocs changes i change rendered faults.Pool less is have were fault = fault
+fault_at units vtocs changes i change rendered (faults.Bad unit track) less is have were fault = fault
+fault_at units vtocs changes i change rendered faults.Long less is have were fault = fault
 
 -- ---- entries
 

@@ -18,7 +18,7 @@ use Rattle.redo_core.specs.declared.control.Control.{Control}
 use Rattle.redo_core.specs.Phases.{IsAtRest}
 use Rattle.redo_core.specs.Reading.{journal_of}
 use Rattle.volume_model.specs.Pinned.{IsNameOf}
-use Rattle.volume_model.specs.Reads.{IsTextAt, AreTexts}
+use Rattle.volume_model.specs.Reads.{IsTextAt, IsUnit, AreTexts}
 use Rattle.volume_model.specs.Sound.{Slots}
 use Rattle.volume_model.specs.Unit.{Text, good, bad, DataSet, OnlineVolume, UnitModel, online}
 use Rattle.volume_model.proofs.Units.{same_online}
@@ -34,7 +34,7 @@ use Rattle.unit_steps.specs.Loaded.{HaveStates, AreLoaded, KeepVtocs}
 use Rattle.unit_steps.specs.Plans.{HasRow, tracks_in}
 use Rattle.unit_steps.proofs.Rows.{set_of, gone_set}
 use Rattle.unit_steps.proofs.Units.{IsOnlineUnit, online_unit}
-use Rattle.unit_session.specs.Sessions.{HasNothingOpen}
+use Rattle.unit_session.specs.Sessions.{HasOnlyFills}
 use Rattle.unit_session.specs.Texts.{HasTextOn, AreTracksAt}
 use Rattle.unit_session.proofs.CopyPlaces.{few_blocks, kept_of, row_below}
 use Rattle.unit_session.proofs.Modelling.{unit_at}
@@ -106,13 +106,15 @@ module _ {head : List ℕ} {blocks : ℕ} {slots : Slots} {volume : Volume} {mod
 -- what the tracks of a data set say is said of its texts
 pub texts_told : {facts : Facts} {shape : Shape} {state : State} {room : ℕ} {control : Control} {fills : List Bool} {models : List UnitModel}
     → facts.shape ≡ shape → IsSettled facts state models → (units : List UnitState) (unit : ℕ) (name : Dsn) (device : Device) (tracks : List ℕ)
-    → IsAtRest shape state room control fills → HasNothingOpen shape control fills → HaveStates shape units → AreLoaded shape state.contents units → AreTracksAt units unit name device tracks
+    → IsAtRest shape state room control fills → HasOnlyFills control fills units → HaveStates shape units → AreLoaded shape state.contents units → AreTracksAt units unit name device tracks
     → (volume : OnlineVolume) (set : DataSet) → slice_get models unit ≡ Some (online volume) → Contains volume.sets set → IsNameOf name set.name
     → (told : Bool) → (IsTrue told ↔ All (HasTextOn (heads_of device) (state.contents unit)) tracks) → (IsTrue told ↔ All IsGood set.texts)
 texts_told {shape = shape} {state = state} same settled units unit name device tracks rest free have loaded at volume set there held named told says =
     let own = loaded unit (Online at.volume) at.loaded in
     let less : unit < journal_of shape = omega (arith, slice_get_within units unit (Online at.volume) at.loaded, have) in
-    let is = online_unit (shape.head unit) (shape.blocks unit) (state.contents unit) at.volume (online volume) own.0 own.1 (unit_at same settled unit (online volume) rest free less there) in
+    let stands = subst (λ (filling : Bool). IsUnit filling false own_place (shape.head unit) (shape.blocks unit) (state.contents unit) (online volume)) (free.fit unit (Online at.volume) at.loaded)
+    (unit_at same settled unit (online volume) rest free.idle less there) in
+    let is = online_unit (shape.head unit) (shape.blocks unit) (state.contents unit) at.volume (online volume) own.0 own.1 stands in
     let heads : heads_of device ≡ heads_of at.volume.device = ap heads_of at.device_is in
     let slots = state.contents unit in
     let sets : Contains is.before.sets set = subst (λ (v : OnlineVolume). Contains v.sets set) (same_online volume is.before is.model_is) held in

@@ -1,14 +1,15 @@
 -- What a session is after its commit.
-use Rattle.std.proofs.Common.{◌≡◌, ◌≢◌, ℕ, ◌<◌, List, [], ◌∷◌, length, All, Bool, refl, sym, subst, ◌∙◌, arith}
+use Rattle.std.proofs.Common.{◌≡◌, ◌≢◌, ℕ, ◌<◌, List, [], ◌∷◌, length, All, Bool, refl, sym, subst, ◌∙◌, arith, false, Option, None, Some, ap}
 use Rattle.std.specs.Prelude.{slice_set}
 use Rattle.std.proofs.lemmas.List.{length-set}
 use Rattle.std.proofs.lemmas.List.Elements.{All-nil, All-cons}
-use Rattle.std.proofs.lemmas.Option.{slice_get_within}
+use Rattle.std.proofs.lemmas.Option.{none-some, slice_get_within}
 use Rattle.ckd_image.specs.Device.{slot_of}
 use Rattle.dasd_pool.specs.Disk.{Image, Shape, State}
 use Rattle.redo_core.specs.declared.control.Control.{Control}
 use Rattle.redo_core.specs.declared.entries.Entry.{Entry}
-use Rattle.redo_core.specs.Phases.{IsAtRest, IsCommitted}
+use Rattle.redo_core.specs.Phases.{AreEntries, IsAtRest, IsCommitted, IsEntry}
+use Rattle.redo_core.specs.Statuses.{EntriesView, entries_at, with_control}
 use Rattle.redo_core.specs.Reading.{journal_of, placed}
 use Rattle.volume_change.specs.declared.change.Change.{Change}
 use Rattle.volume_change.specs.declared.change.Change.TheVariants.{Mark}
@@ -39,6 +40,15 @@ are_there units vtocs [] rendered were = All-nil (λ change. change.0 < length u
 are_there units vtocs (change ∷ changes) [] were = absurd were
 are_there units vtocs (change ∷ changes) (one ∷ more) were =
     All-cons (λ change. change.0 < length units) change changes (slice_get_within units change.0 (Online were.0.volume) were.0.loaded) (are_there units vtocs changes more were.1)
+
+-- ---- entries of volumes alone
+
+module _ (journal : ℕ) (entries : EntriesView) (alone : entries.control ≡ None) where
+  pub only_blocks : entries_at journal entries ≡ entries.blocks
+  only_blocks = ap (λ (control : Option (List ℕ)). with_control journal control entries.blocks) alone
+
+pub are_entries : (shape : Shape) (entries : EntriesView) → entries.control ≡ None → All (IsEntry shape) entries.blocks → AreEntries shape entries
+are_entries shape entries alone each = record { blocks = each; control = λ slot is. absurd (none-some slot (sym alone ∙ is)) }
 
 -- ---- the rendered tracks are those of the VTOCs
 
@@ -77,7 +87,7 @@ same_slots shape one other u same less = λ i b. same u b less i
 pub loaded_same : (shape : Shape) (one other : Image) (units : List UnitState) → AreSame shape one other → HaveStates shape units → AreLoaded shape other units → AreLoaded shape one units
 loaded_same shape one other units same have loaded u state at =
     let less : u < journal_of shape = omega (arith, slice_get_within units u state at, have) in
-    subst (λ (slots : ℕ → List ℕ). IsStateOf (shape.head u) (shape.blocks u) slots state × AreShort (shape.blocks u) slots) (sym (same_slots shape one other u same less)) (loaded u state at)
+    subst (λ (slots : ℕ → List ℕ). IsStateOf false (shape.head u) (shape.blocks u) slots state × AreShort (shape.blocks u) slots) (sym (same_slots shape one other u same less)) (loaded u state at)
 
 pub vtocs_same : (shape : Shape) (one other : Image) (units : List UnitState) (vtocs : List (List ℕ)) → AreSame shape one other → HaveStates shape units → AreVtocsOf other units vtocs
     → AreVtocsOf one units vtocs

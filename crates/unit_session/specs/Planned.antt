@@ -17,7 +17,8 @@ use Rattle.unit_steps.specs.vtoc_render.Loads.{LoadsFrom}
 use Rattle.unit_steps.specs.vtoc_render.Next.{HasNoRoom, MayChange}
 use Rattle.unit_load.specs.declared.state.UnitState.{UnitState}
 use Rattle.move_core.specs.declared.steps.Step.{Step}
-use Rattle.move_core.specs.Taking.{TakeUnits}
+use Rattle.move_core.specs.Facts.{HasInputs}
+use Rattle.unit_steps.specs.Loaded.{TakeLoaded}
 use Rattle.unit_steps.specs.declared.plan.Plan.{Plan}
 use Rattle.unit_steps.specs.Plans.{IsLoadedAt, IsPlan}
 use Rattle.unit_steps.specs.Rendering.{WereRendered, entries_of, AreReady}
@@ -86,13 +87,18 @@ IsIndexed units changes = Any (λ change. (volume : Volume) × IsLoadedAt units 
 abbrev pub IsLong : ℕ → List UnitState → List (ℕ × Change) → Type 0
 IsLong room units changes = Any (λ change. (volume : Volume) × IsLoadedAt units change.0 volume × ((room - 1) / 2 < volume.vtoc.len)) changes
 
--- for one of the changes the VTOC has no room: it needs so many records more, and so many are free
+-- the VTOC of the volume that is loaded on a change's unit has room for it
+abbrev pub HasRoom : List UnitState → ℕ × Change → Type 0
+HasRoom units change = (volume : Volume) → IsLoadedAt units change.0 volume → (need free : ℕ) → ¬ HasNoRoom volume change.1 need free
+
+-- for the first of the changes whose VTOC has no room: it needs so many records more, and so many are free
 pub record LacksRecordsFor (units : List UnitState) (changes : List (ℕ × Change)) (need free : ℕ) : Type 0 where
   pub front : List (ℕ × Change)
   pub unit : ℕ
   pub change : Change
   pub back : List (ℕ × Change)
   pub changes_are : changes ≡ front ++ ((unit, change) ∷ back)
+  pub earlier : All (HasRoom units) front
   pub volume : Volume
   pub loaded : IsLoadedAt units unit volume
   pub full : HasNoRoom volume change need free
@@ -174,8 +180,8 @@ abbrev pub MayPatch : List UnitState → List (List ℕ) → List (ℕ × Change
 MayPatch units vtocs (change ∷ changes) (one ∷ more) = MayPatchUnit units vtocs change.0 one × MayPatch units vtocs changes more
 MayPatch units vtocs _ _ = Unit {0}
 
--- all that a plan needs is there
-pub record IsReady {P : Type 0} (pools : Ghosts P) (planned : PlannedView P) (slot : List ℕ) : Type 0 where
+-- all that a plan needs is there, and nothing is to go to the control block
+pub record IsReady {P : Type 0} (pools : Ghosts P) (planned : PlannedView P) (slot : List ℕ) (control : Option (List ℕ)) : Type 0 where
   pub plan : IsPlan planned.session.units planned.plan
   pub copies : AreCopiesOf planned.session.units planned.plan.tracks planned.plan.changes planned.copies
   pub may : OnCopies (MayCopy (pools.shape planned.session.pool)) planned.copies
@@ -184,12 +190,15 @@ pub record IsReady {P : Type 0} (pools : Ghosts P) (planned : PlannedView P) (sl
   pub rendered : WereRendered planned.session.units planned.session.vtocs planned.plan.changes planned.rendered
   pub entries_are : planned.entries ≡ entries_of planned.plan.changes planned.rendered
   pub entries : AreReady (pools.shape planned.session.pool) planned.session.room planned.entries
+  pub alone : control ≡ None
 
--- one commit makes the step
-pub record MaySwitch {P : Type 0} (pools : Ghosts P) (copied : CopiedView P) : Type 0 where
+-- one commit makes the step, of these entries alone
+pub record MaySwitch {P : Type 0} (pools : Ghosts P) (copied : CopiedView P) (control : Option (List ℕ)) : Type 0 where
   pub plan : IsPlan copied.session.units copied.plan
   pub rendered : WereRendered copied.session.units copied.session.vtocs copied.plan.changes copied.rendered
   pub entries_are : copied.entries ≡ entries_of copied.plan.changes copied.rendered
   pub entries : AreReady (pools.shape copied.session.pool) copied.session.room copied.entries
+  pub alone : control ≡ None
   pub synced : pools.tells → IsSynced (pools.disk copied.session.pool).state
-  pub takes : pools.tells → TakeUnits (pools.shape copied.session.pool) copied.session.room (pools.disk copied.session.pool).state.contents copied.plan.step copied.entries
+  pub takes : pools.tells → TakeLoaded (HasInputs None) (pools.shape copied.session.pool) copied.session.room copied.session.units
+      (pools.disk copied.session.pool).state.contents copied.plan.step copied.entries

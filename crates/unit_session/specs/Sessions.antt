@@ -1,6 +1,5 @@
 -- What callers see of a session, and what its calls hand on.
-use Rattle.std.specs.Prelude.{◌≡◌, ℕ, ◌<◌, List, Bool, false, Option, Result, Ok, Err}
-use Rattle.dasd_pool.specs.Disk.{Shape}
+use Rattle.std.specs.Prelude.{◌≡◌, ℕ, List, Bool, Option, Result, Ok, Err}
 use Rattle.dasd_pool.specs.declared.pool.Pool.{Ghosts}
 use Rattle.vol_label.specs.declared.serial.Serial.{Serial}
 use Rattle.redo_core.specs.declared.control.Control.{Control}
@@ -8,8 +7,8 @@ use Rattle.redo_core.specs.declared.control.Control.TheVariants.{Idle}
 use Rattle.redo_core.specs.declared.fault.JournalFault.{JournalFault}
 use Rattle.redo_core.specs.declared.fault.JournalFault.TheVariants.{Pool, NoMemory}
 use Rattle.redo_core.specs.declared.journal.JournalStop.{JournalStop}
-use Rattle.redo_core.specs.Reading.{journal_of, fills_of}
 use Rattle.unit_load.specs.declared.state.UnitState.{UnitState}
+use Rattle.unit_steps.specs.Loaded.{HaveFills}
 use Rattle.move_core.specs.declared.steps.Step.{Step}
 
 -- the pool, how many blocks a commit may have, the registered serials, the units as they were loaded, and the slots of their VTOCs
@@ -25,10 +24,10 @@ pub record BrokenView (P : Type 0) : Type 0 where
   pub pool : P
   pub pending : Option Step
 
--- nothing is under way
-pub record HasNothingOpen (shape : Shape) (control : Control) (fills : List Bool) : Type 0 where
+-- no slide is open, and a fill just on each unit that was loaded so
+pub record HasOnlyFills (control : Control) (fills : List Bool) (units : List UnitState) : Type 0 where
   pub idle : control ≡ Idle
-  pub closed : (u : ℕ) → u < journal_of shape → fills_of fills u ≡ false
+  pub fit : HaveFills fills units
 
 -- all but the pool's clock and count is the same
 pub record IsSameSession {P : Type 0} (pools : Ghosts P) (old new : SessionView P) : Type 0 where

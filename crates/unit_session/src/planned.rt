@@ -62,9 +62,10 @@ impl<P: Pool> Model for Planned<P> {
 
     ghost Value = { PlannedView P };
 
-    ghost view = { λ p. record { session = p.session; plan = p.plan; copies = p.work.copies; rendered = p.work.rendered.items; entries = p.work.entries } };
+    ghost view = { λ p. record { session = p.session; plan = p.plan; copies = p.work.copies; rendered = p.work.rendered.items; entries = p.work.entries.blocks } };
 
-    ghost invariant = { λ p. IsReady P.Pool (record { session = p.session; plan = p.plan; copies = p.work.copies; rendered = p.work.rendered.items; entries = p.work.entries }) p.work.slot.items };
+    ghost invariant = { λ p. IsReady P.Pool (record { session = p.session; plan = p.plan; copies = p.work.copies; rendered = p.work.rendered.items; entries = p.work.entries.blocks })
+        p.work.slot.items p.work.entries.control };
 }
 
 impl<P: Pool> Model for Copied<P> {
@@ -72,9 +73,9 @@ impl<P: Pool> Model for Copied<P> {
 
     ghost Value = { CopiedView P };
 
-    ghost view = { λ c. record { session = c.session; plan = c.plan; rendered = c.rendered.items; entries = c.entries } };
+    ghost view = { λ c. record { session = c.session; plan = c.plan; rendered = c.rendered.items; entries = c.entries.blocks } };
 
-    ghost invariant = { λ c. MaySwitch P.Pool (record { session = c.session; plan = c.plan; rendered = c.rendered.items; entries = c.entries }) };
+    ghost invariant = { λ c. MaySwitch P.Pool (record { session = c.session; plan = c.plan; rendered = c.rendered.items; entries = c.entries.blocks }) c.entries.control };
 }
 
 /// Room for a slot that is copied.
@@ -188,7 +189,8 @@ impl<P: Pool> Session<P> {
         ensures run { IsRun P.tells (shown P.Pool self.old.pool) (shown P.Pool self.new.pool) (Unit {0}) [] None }
         ensures writes { P.tells → Runs none (P.disk self.old.pool) (P.disk self.new.pool) }
         ensures session { IsSameSession P.Pool self.old self.new }
-        ensures ready { IfOk result (λ work. IsReady P.Pool (record { session = self.new; plan = plan.now; copies = work.copies; rendered = work.rendered.items; entries = work.entries }) work.slot.items) }
+        ensures ready { IfOk result (λ work. IsReady P.Pool (record { session = self.new; plan = plan.now; copies = work.copies; rendered = work.rendered.items; entries = work.entries.blocks })
+            work.slot.items work.entries.control) }
         ensures allowed { OnOk result (MayBegin self.old.room self.old.units plan.now.changes) }
         ensures fault { IfErr result (IsPlanFault P.Pool self.old plan.now self.new.pool) }
     {
@@ -300,7 +302,7 @@ impl<P: Pool> Planned<P> {
         let mut slot = work.slot;
         // What was seen is forgotten with the first write.
         let seen = None;
-        let _control = journal.control();
+        journal.rests();
         match make_copies(alloc, &mut journal, &work.copies, &mut slot) {
             Ok(()) => Ok(Copied {
                 session: Session {
@@ -364,7 +366,7 @@ impl<P: Pool> Copied<P> {
             ..
         } = session;
         let Plan { step, changes, .. } = plan;
-        let _control = journal.control();
+        journal.rests();
         match journal.commit(entries) {
             Ok(journal) => {
                 let vtocs = patched(&units, changes.as_slice(), &rendered, vtocs);

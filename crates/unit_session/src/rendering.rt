@@ -1,6 +1,6 @@
 //! The rendered changes of a plan, and their entries.
 
-ghost use Rattle.std.specs.Prelude.{◌≡◌, ◌<◌, ◌-◌, ◌/◌, true, ◌∷◌, [], ◌++◌, map, IsTrue, ◌↔◌, IfOk, IfErr, IfSome, IfNone, OnOk};
+ghost use Rattle.std.specs.Prelude.{◌≡◌, ◌<◌, ◌-◌, ◌/◌, true, ◌∷◌, [], ◌++◌, map, IsTrue, ◌↔◌, IfOk, IfErr, IfSome, IfNone, None, OnOk};
 ghost use Rattle.vtoc_core.specs.declared.volume.Volume.{Volume as VolumeOf};
 ghost use Rattle.unit_steps.specs.Plans.{IsLoadedAt};
 ghost use Rattle.unit_steps.specs.Rendering.{WasRendered, WereRendered, entry_for, entries_of};
@@ -127,7 +127,7 @@ fn add_entries(
     blocks: &[Block],
     entries: &mut Entries,
 ) -> Result<(), NoMemory>
-    ensures { OnOk result (entries.new ≡ entries.old ++ map (entry_for unit) blocks.now) }
+    ensures { OnOk result (entries.new ≡ record { blocks = entries.old.blocks ++ map (entry_for unit) blocks.now; control = entries.old.control }) }
 {
     for block in blocks {
         entries.push(alloc, unit, block.track, block.slot.as_slice())?;
@@ -141,7 +141,7 @@ pub(crate) fn entries_for(
     changes: &[(u32, Change)],
     rendered: &[Rendered],
 ) -> Result<Entries, NoMemory>
-    ensures { IfOk result (λ entries. entries ≡ entries_of changes.now rendered.now) }
+    ensures { IfOk result (λ entries. entries ≡ record { blocks = entries_of changes.now rendered.now; control = None }) }
 {
     let mut entries = Entries::new(alloc, 0)?;
     for place in 0..changes.len().min(rendered.len()) {

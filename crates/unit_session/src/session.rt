@@ -11,10 +11,10 @@ ghost use Rattle.redo_core.specs.Reading.{journal_of};
 ghost use Rattle.volume_model.specs.Unit.{UnitModel};
 ghost use Rattle.move_core.specs.Facts.{Facts, shown};
 ghost use Rattle.move_core.specs.Runs.{IsFinished, IsRun};
-ghost use Rattle.move_core.specs.Stands.{IsSettled};
+ghost use Rattle.move_core.specs.Stands.{Stands, IsSettled};
 ghost use Rattle.unit_load.specs.Kept.{IsKept};
 ghost use Rattle.unit_load.specs.Reads.{OnlyReads};
-ghost use Rattle.unit_steps.specs.Loaded.{AreLoaded, HaveStates, KeepVtocs, AreVtocsOf, AreModels, IsModel};
+ghost use Rattle.unit_steps.specs.Loaded.{AreLoaded, HaveFills, HaveStates, KeepVtocs, AreVtocsOf, AreModels, IsModel};
 ghost use Rattle.standing_units.specs.Standing.{IsSettledFor};
 ghost use Rattle.unit_session.specs.Sessions.{begun, HasBegun, IsRefusal, IsSameSession};
 
@@ -28,7 +28,7 @@ use std::marker::Model;
 use unit_load::{UnitFault, UnitState};
 use vol_label::Serial;
 
-/// The volumes of a pool between two steps: its open journal, in which nothing is under way, the registered serials, and each unit as it was loaded, with
+/// The volumes of a pool between two steps: its open journal, in which no slide is open, the registered serials, and each unit as it was loaded, with
 /// the slots of its VTOC; and the data set of which each track was last seen to have a text, while nothing was written since.
 #[derive(Drop)]
 pub struct Session<P: Pool> {
@@ -44,14 +44,14 @@ impl<P: Pool> Model for Session<P> {
     ghost use Rattle.std.specs.Prelude.{◌≡◌, length};
     ghost use Rattle.redo_core.specs.Reading.{journal_of};
     ghost use Rattle.unit_steps.specs.Loaded.{AreLoaded, HaveStates, KeepVtocs, AreVtocsOf};
-    ghost use Rattle.unit_session.specs.Sessions.{SessionView, HasNothingOpen};
+    ghost use Rattle.unit_session.specs.Sessions.{SessionView, HasOnlyFills};
     ghost use Rattle.unit_session.specs.Texts.{AreSeen};
 
     ghost Value = { SessionView P };
 
     ghost view = { λ s. record { pool = s.journal.pool; room = s.journal.room; names = s.names.items; units = s.units.items; vtocs = s.vtocs.items } };
 
-    ghost invariant = { λ s. HasNothingOpen (P.shape s.journal.pool) s.journal.control s.journal.fills
+    ghost invariant = { λ s. HasOnlyFills s.journal.control s.journal.fills s.units.items
         × (length s.names.items ≡ journal_of (P.shape s.journal.pool))
         × HaveStates (P.shape s.journal.pool) s.units.items
         × KeepVtocs (P.shape s.journal.pool) s.units.items s.vtocs.items
@@ -93,6 +93,7 @@ fn loaded<P: Pool>(
     ensures kept { IfOk result (λ found. KeepVtocs (P.shape journal.old.pool) found.1.units.items found.1.vtocs.items) }
     ensures loaded { P.tells → IfOk result (λ found. AreLoaded (P.shape journal.old.pool) (P.disk journal.old.pool).state.contents found.1.units.items) }
     ensures slots { P.tells → IfOk result (λ found. AreVtocsOf (P.disk journal.old.pool).state.contents found.1.units.items found.1.vtocs.items) }
+    ensures fills { IfOk result (λ found. HaveFills journal.old.fills found.1.units.items) }
     ensures cause { IfErr result (λ cause. cause ≡ JournalFault.Pool → Rose (P.faults journal.old.pool) (P.faults journal.new.pool)) }
     ensures no_refusal { IfErr result (λ cause. ¬ IsRefusal cause) }
 {
@@ -121,6 +122,10 @@ impl<P: Pool> Session<P> {
 
         // There are units for which it is settled, whatever the blocks of its volumes are.
         ensures settled { P.tells → IfOk result (λ session. IsSettledFor (P.shape session.pool) names.now (P.disk session.pool).state) }
+
+        // The units for which a pool stood are those for which it is settled then, since the opening syncs all of it.
+        ensures stands { P.tells → IfOk result (λ session. (facts : Facts) (models : List UnitModel) → facts.shape ≡ P.shape pool
+            → Stands facts (P.disk pool).state.contents models → IsSettled facts (P.disk session.pool).state models) }
 
         // What never changes of the pool is what its registration says.
         ensures facts { P.tells → IfOk result (λ session. (facts : Facts) (models : List UnitModel) → facts.shape ≡ P.shape session.pool
@@ -166,7 +171,7 @@ impl<P: Pool> Session<P> {
             → IsSettled facts (P.disk self.now.pool).state models → AreModels self.now.units models }
         ensures vtocs { P.tells → AreVtocsOf (P.disk self.now.pool).state.contents self.now.units self.now.vtocs }
     {
-        let _control = self.journal.control();
+        self.journal.rests();
         self.journal.units()
     }
 
@@ -218,11 +223,11 @@ impl<P: Pool> Session<P> {
     pub fn unit(&self, unit: u32) -> &UnitState
         requires { unit < journal_of (P.shape self.now.pool) }
         ensures value { slice_get self.now.units unit ≡ Some result.now }
-        ensures kept { (slots : List ℕ) × IsKept ((P.shape self.now.pool).head unit) ((P.shape self.now.pool).blocks unit) result.now slots }
+        ensures kept { (slots : List ℕ) × IsKept false ((P.shape self.now.pool).head unit) ((P.shape self.now.pool).blocks unit) result.now slots }
         ensures model { P.tells → (facts : Facts) (models : List UnitModel) (model : UnitModel) → facts.shape ≡ P.shape self.now.pool
             → IsSettled facts (P.disk self.now.pool).state models → slice_get models unit ≡ Some model → IsModel result.now model }
     {
-        let _control = self.journal.control();
+        self.journal.rests();
         &self.units[unit as usize]
     }
 

@@ -130,7 +130,7 @@ impl<P: Pool> Session<P> {
         let Ok(mut slot) = slot_of_size(self.alloc, self.journal.block_size(unit)) else {
             return Err(UnitFault::NoMemory);
         };
-        let _control = self.journal.control();
+        self.journal.rests();
         match have_texts(&mut self.journal, unit, &set, &mut slot) {
             Ok(true) => {
                 self.seen = Some(Source { unit, name: *name });

@@ -101,7 +101,7 @@ slot_anew edits heads track old new short is same =
 
 -- ---- the slots of a VTOC
 
-module _ {head : List ℕ} {blocks : ℕ} {volume : Volume} {slots : List ℕ} (from : IsFromSlots head blocks volume slots) where
+module _ {head : List ℕ} {blocks : ℕ} {volume : Volume} {slots : List ℕ} (from : IsFromSlots false head blocks volume slots) where
   abbrev is : IsLoadedVtoc from.image from.label from.unit false volume
   is = from.loaded
 
@@ -212,7 +212,7 @@ module _ {head : Head} {unit : Slots} {sliding : Bool} {label : _} {slots : List
   }
 
 -- its edits, on the slots that it was rendered on
-wrote_from : {head : List ℕ} {blocks : ℕ} {volume : Volume} {slots : List ℕ} (from : IsFromSlots head blocks volume slots) (change : Change) (rendered : Rendered)
+wrote_from : {head : List ℕ} {blocks : ℕ} {volume : Volume} {slots : List ℕ} (from : IsFromSlots false head blocks volume slots) (change : Change) (rendered : Rendered)
     → OfEachVtoc volume slots (IsChangeWritten volume slots change rendered)
     → (edits : List Placed) × AreRewritten edits from.image.device from.loaded.vtoc.run slots rendered.blocks
 wrote_from {volume} {slots} from change rendered each =
@@ -225,7 +225,7 @@ wrote_from {volume} {slots} from change rendered each =
           (subst (λ (r : Run). AreRewritten wrote.0 volume.device r slots rendered.blocks) run wrote.1),
     )
 
-pub rendered_blocks : {head : List ℕ} {blocks : ℕ} {volume : Volume} {slots : List ℕ} (from : IsFromSlots head blocks volume slots) (change : Change) (rendered : Rendered)
+pub rendered_blocks : {head : List ℕ} {blocks : ℕ} {volume : Volume} {slots : List ℕ} (from : IsFromSlots false head blocks volume slots) (change : Change) (rendered : Rendered)
     → OfEachVtoc volume slots (IsChangeWritten volume slots change rendered) → AreBlocksOf volume.vtoc (slot_of volume.device) rendered.blocks
 rendered_blocks {volume} {slots} from change rendered each =
     let wrote = wrote_from from change rendered each in
@@ -234,7 +234,7 @@ rendered_blocks {volume} {slots} from change rendered each =
     (found_blocks (from_slots from) wrote.0 rendered.blocks wrote.1))
 
 -- each is another slot than its track holds
-pub rendered_anew : {head : List ℕ} {blocks : ℕ} {volume : Volume} {slots : List ℕ} (from : IsFromSlots head blocks volume slots) (change : Change) (rendered : Rendered)
+pub rendered_anew : {head : List ℕ} {blocks : ℕ} {volume : Volume} {slots : List ℕ} (from : IsFromSlots false head blocks volume slots) (change : Change) (rendered : Rendered)
     → OfEachVtoc volume slots (IsChangeWritten volume slots change rendered) → All (λ block. block.slot ≢ from.unit block.track) rendered.blocks
 rendered_anew {volume} {slots} from change rendered each =
     let was = from_slots from in

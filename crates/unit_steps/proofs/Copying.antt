@@ -58,7 +58,7 @@ vtoc_kept image pointer old new sliding vtoc is home same = record {
 
 -- ---- an online unit
 
-module _ (head : List ℕ) (blocks : ℕ) (old new : Slots) (volume : Volume) (is : IsStateOf head blocks old (states.Online volume)) (short : AreShort blocks old)
+module _ (head : List ℕ) (blocks : ℕ) (old new : Slots) (volume : Volume) (is : IsStateOf false head blocks old (states.Online volume)) (short : AreShort blocks old)
     (same : (track : ℕ) → ¬ IsFree volume.free track → new track ≡ old track) where
   abbrev image : Head
   image = is.0
@@ -109,7 +109,7 @@ module _ (head : List ℕ) (blocks : ℕ) (old new : Slots) (volume : Volume) (i
     volume = loaded.volume;
   }
 
-  online_kept : IsStateOf head blocks new (states.Online volume)
+  online_kept : IsStateOf false head blocks new (states.Online volume)
   online_kept = (image, label, labelled, loads)
 
   slots_kept : (slots : List ℕ) → AreSlotsOf volume.vtoc (slot_of volume.device) slots old → AreSlotsOf volume.vtoc (slot_of volume.device) slots new
@@ -134,13 +134,13 @@ module _ (units : List UnitState) (old new : Image) (differ : DifferOnFree units
   same_offline : (why : Why) → slice_get units u ≡ Some (states.Offline why) → old u ≡ new u
   same_offline why at = λ i b. sym (differ u b (none_offline units u b why at)) i
 
-  state_kept : (head : List ℕ) (blocks : ℕ) (state : UnitState) → slice_get units u ≡ Some state → AreShort blocks (old u) → IsStateOf head blocks (old u) state
-      → IsStateOf head blocks (new u) state
+  state_kept : (head : List ℕ) (blocks : ℕ) (state : UnitState) → slice_get units u ≡ Some state → AreShort blocks (old u) → IsStateOf false head blocks (old u) state
+      → IsStateOf false head blocks (new u) state
   state_kept head blocks (states.Online volume) at short is =
       online_kept head blocks (old u) (new u) volume is short (λ track taken. differ u track (λ free. taken (free_of units u track volume at free)))
-  state_kept head blocks (states.Offline why) at short is = subst (λ (slots : Slots). IsStateOf head blocks slots (states.Offline why)) (same_offline why at) is
+  state_kept head blocks (states.Offline why) at short is = subst (λ (slots : Slots). IsStateOf false head blocks slots (states.Offline why)) (same_offline why at) is
 
-  kept_kept : (head : List ℕ) (blocks : ℕ) (state : UnitState) (slots : List ℕ) → slice_get units u ≡ Some state → AreShort blocks (old u) → IsStateOf head blocks (old u) state
+  kept_kept : (head : List ℕ) (blocks : ℕ) (state : UnitState) (slots : List ℕ) → slice_get units u ≡ Some state → AreShort blocks (old u) → IsStateOf false head blocks (old u) state
       → AreKeptOf (old u) state slots → AreKeptOf (new u) state slots
   kept_kept head blocks (states.Online volume) slots at short is are =
       slots_kept head blocks (old u) (new u) volume is short (λ track taken. differ u track (λ free. taken (free_of units u track volume at free))) slots are

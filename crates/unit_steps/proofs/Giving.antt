@@ -22,7 +22,7 @@ use Rattle.move_core.specs.declared.steps.Step.{Step}
 use Rattle.move_core.specs.declared.steps.Step.TheVariants as steps
 use Rattle.move_core.specs.Facts.{Facts, Original}
 use Rattle.move_core.specs.Steps.{MayTake, LieOnCylinders, fields_at, empty_text, tracks_for, IsCopy, Gives, Puts, IsStep}
-use Rattle.unit_steps.specs.Loaded.{HaveStates, AreLoaded, KeepVtocs, AreVtocsOf}
+use Rattle.unit_steps.specs.Loaded.{HaveStates, AreLoaded, HaveFills, KeepVtocs, AreVtocsOf}
 use Rattle.unit_steps.specs.Parts.{HoldsPart, GivesPart, PlansPart}
 use Rattle.unit_steps.specs.Plans.{putting}
 use Rattle.unit_steps.specs.Rendering.{WereRendered, entries_of}
@@ -87,7 +87,8 @@ module _ {replaced : Bool} {units : List UnitState} {original : Original} {unit 
   puts_it = ap (λ (c : Change). sets_put heads c given_texts) plan.change_is ∙ put_sets heads replaced name plan.row given_texts
 
   -- the step, where the input holds the part
-  pub puts_part : (facts : Facts) (input : DdName) (number : ℕ) → HoldsPart input number original facts → {later : Image} (t : IsTaken shape later unit plan.volume plan.change given_texts here.is.before models)
+  pub puts_part : (facts : Facts) (input : DdName) (number : ℕ) → HoldsPart input number original facts
+      → {fills : List Bool} {later : Image} (t : IsTaken shape fills later unit plan.volume plan.change given_texts here.is.before models)
       → Puts facts replaced (origins.Part input number) unit name to models t.models_after
   puts_part facts input number holds t = record {
     original = original;
@@ -108,17 +109,17 @@ module _ {replaced : Bool} {units : List UnitState} {original : Original} {unit 
 
 -- ---- the step of a plan
 
-module _ (shape : Shape) (units : List UnitState) (vtocs : List (List ℕ)) (new : Image) (have : HaveStates shape units) (are : AreLoaded shape new units)
-    (keep : KeepVtocs shape units vtocs) (vtocs_are : AreVtocsOf new units vtocs) (changes : List (ℕ × Change)) (rendered : List Rendered)
+module _ (shape : Shape) (units : List UnitState) (fills : List Bool) (fit : HaveFills fills units) (vtocs : List (List ℕ)) (new : Image) (have : HaveStates shape units)
+    (are : AreLoaded shape new units) (keep : KeepVtocs shape units vtocs) (vtocs_are : AreVtocsOf new units vtocs) (changes : List (ℕ × Change)) (rendered : List Rendered)
     (were : WereRendered units vtocs changes rendered) where
   pub part_taken : (replaced : Bool) (original : Original) (input : DdName) (number : ℕ) (unit : ℕ) (name : Dsn) (to : List Run) (step : Step)
       → (plan : PlansPart replaced units original unit name to changes) → GivesPart plan new
       → ((facts : Facts) (before after : List UnitModel) → Puts facts replaced (origins.Part input number) unit name to before after → IsStep facts step before after)
-      → TakesModelsFor (HoldsPart input number original) shape new step (entries_of changes rendered)
+      → TakesModelsFor (HoldsPart input number original) shape fills new step (entries_of changes rendered)
   part_taken replaced original input number unit name to step plan gives is_step =
-      from_one shape units vtocs new have are keep vtocs_are step unit plan.change changes rendered plan.changes_are were
+      from_one shape units fills fit vtocs new have are keep vtocs_are step unit plan.change changes rendered plan.changes_are were
       (λ one was.
-      take_one shape units vtocs new have are keep vtocs_are unit plan.volume plan.loaded plan.change plan.may
+      take_one shape units fills fit vtocs new have are keep vtocs_are unit plan.volume plan.loaded plan.change plan.may
       (put_small replaced name plan.row plan.change plan.change_is) one was step
       (λ facts allowed models alone here. (
         given_texts plan here,

@@ -1,5 +1,5 @@
 pub mod Lists
-pub mod Idle
+pub mod Quiet
 pub mod Freeing
 pub mod Copying
 pub mod Small
@@ -7,6 +7,7 @@ pub mod Blocks
 pub mod Placing
 pub mod Readying
 pub mod Switching
+pub mod Fitting
 pub mod Anew
 pub mod Cutting
 pub mod Units

@@ -1,5 +1,5 @@
 -- Plans that move a data set on its unit.
-use Rattle.std.proofs.Common.{◌≡◌, ◌⊎◌, inl, inr, ℕ, ◌-◌, List, [], ◌∷◌, ◌++◌, length, map, replicate, Contains, refl, sym, ap, subst, ◌∙◌, arith}
+use Rattle.std.proofs.Common.{◌≡◌, ◌⊎◌, inl, inr, ℕ, ◌-◌, Bool, List, [], ◌∷◌, ◌++◌, length, map, replicate, Contains, refl, sym, ap, subst, ◌∙◌, arith}
 use Rattle.std.proofs.lemmas.List.{append-nil}
 use Rattle.ckd_image.specs.declared.device.Device.{Device}
 use Rattle.ckd_image.specs.Device.{heads_of}
@@ -27,7 +27,7 @@ use Rattle.move_core.specs.declared.steps.Step.TheVariants as steps
 use Rattle.move_core.specs.Steps.{MayTake, KeepsExtents, JoinsExtents, moved, empty_text}
 use Rattle.unit_steps.specs.declared.plan.Tracks.TheVariants as texts
 use Rattle.unit_steps.specs.Copied.{DifferOnFree, AreHeld}
-use Rattle.unit_steps.specs.Loaded.{HaveStates, AreLoaded, KeepVtocs, AreVtocsOf}
+use Rattle.unit_steps.specs.Loaded.{HaveStates, AreLoaded, HaveFills, KeepVtocs, AreVtocsOf}
 use Rattle.unit_steps.specs.Plans.{IsLoadedAt, PlansMove}
 use Rattle.unit_steps.specs.Rendering.{WereRendered, entries_of}
 use Rattle.unit_steps.proofs.Copying.{free_of}
@@ -110,9 +110,9 @@ module _ {units : List UnitState} {unit : ℕ} {name : Dsn} {to : List Run} {cha
 
 -- ---- the step
 
-module _ (shape : Shape) (units : List UnitState) (vtocs : List (List ℕ)) (old new : Image) (have : HaveStates shape units) (are : AreLoaded shape new units)
-    (keep : KeepVtocs shape units vtocs) (vtocs_are : AreVtocsOf new units vtocs) (differ : DifferOnFree units old new) (changes : List (ℕ × Change)) (rendered : List Rendered)
-    (were : WereRendered units vtocs changes rendered) where
+module _ (shape : Shape) (units : List UnitState) (fills : List Bool) (fit : HaveFills fills units) (vtocs : List (List ℕ)) (old new : Image) (have : HaveStates shape units)
+    (are : AreLoaded shape new units) (keep : KeepVtocs shape units vtocs) (vtocs_are : AreVtocsOf new units vtocs) (differ : DifferOnFree units old new)
+    (changes : List (ℕ × Change)) (rendered : List Rendered) (were : WereRendered units vtocs changes rendered) where
   -- its texts, on the tracks of the new place
   module _ {unit : ℕ} {name : Dsn} {to : List Run} (plan : PlansMove units unit name to changes) (held : AreHeld units (texts.Rows unit name) changes old new) {models : List UnitModel}
       (here : IsHere shape new unit plan.swap.volume models) where
@@ -133,13 +133,14 @@ module _ (shape : Shape) (units : List UnitState) (vtocs : List (List ℕ)) (old
         subst (λ (list : List Text). AreTexts heads own_place (new unit) target list) (ap (λ (n : ℕ). set.texts ++ replicate n empty_text) none ∙ append-nil set.texts) stand
 
   pub move_taken : (unit : ℕ) (name : Dsn) (to : List Run) → PlansMove units unit name to changes → AreHeld units (texts.Rows unit name) changes old new
-      → TakesModels shape new (steps.Move unit name to) (entries_of changes rendered)
+      → TakesModels shape fills new (steps.Move unit name to) (entries_of changes rendered)
   move_taken unit name to plan held =
       let swap = plan.swap in
       let heads = heads_of swap.volume.device in
-      from_one shape units vtocs new have are keep vtocs_are (steps.Move unit name to) unit (Swap name swap.row) changes rendered swap.changes_are were
+      from_one shape units fills fit vtocs new have are keep vtocs_are (steps.Move unit name to) unit (Swap name swap.row) changes rendered swap.changes_are were
       (λ one was.
-      take_one shape units vtocs new have are keep vtocs_are unit swap.volume swap.loaded (Swap name swap.row) swap.may (swap_no_mark name swap.row) one was (steps.Move unit name to)
+      take_one shape units fills fit vtocs new have are keep vtocs_are unit swap.volume swap.loaded (Swap name swap.row) swap.may
+      (swap_no_mark name swap.row) one was (steps.Move unit name to)
       (λ facts allowed models alone here.
       let set = (swapped swap here).0 in
       let is = (swapped swap here).1 in (

@@ -27,7 +27,7 @@ use Rattle.move_core.specs.Facts.{Facts, Original}
 use Rattle.move_core.specs.Steps.{MayTake, IsNewKind, LieOnCylinders, IsRow, original_of, IsOriginal, fields_at, empty_text, tracks_for, IsCopy, Gives, Copies, Puts, IsStep}
 use Rattle.unit_steps.specs.declared.plan.Tracks.TheVariants as texts
 use Rattle.unit_steps.specs.Copied.{DifferOnFree, IsPutBy, AreHeld}
-use Rattle.unit_steps.specs.Loaded.{HaveStates, AreLoaded, KeepVtocs, AreVtocsOf}
+use Rattle.unit_steps.specs.Loaded.{HaveStates, AreLoaded, HaveFills, KeepVtocs, AreVtocsOf}
 use Rattle.unit_steps.specs.Plans.{putting, PlansCopy, PlansPut}
 use Rattle.unit_steps.specs.Rendering.{WereRendered, entries_of}
 use Rattle.unit_steps.proofs.Cutting.{texts_long}
@@ -136,7 +136,8 @@ module _ {replaced : Bool} {units : List UnitState} {from : ℕ} {origin : Dsn} 
   puts_it = ap (λ (c : Change). sets_put heads c copy_texts) plan.change_is ∙ put_sets heads replaced name plan.row copy_texts
 
   -- the step
-  abbrev pub copies : {later : Image} (t : IsTaken shape later unit plan.volume change copy_texts here.is.before models) → Copies replaced original unit name to models t.models_after
+  abbrev pub copies : {fills : List Bool} {later : Image} (t : IsTaken shape fills later unit plan.volume change copy_texts here.is.before models)
+      → Copies replaced original unit name to models t.models_after
   copies t = record {
     gone = t.gone;
     copy = copy;
@@ -146,7 +147,7 @@ module _ {replaced : Bool} {units : List UnitState} {from : ℕ} {origin : Dsn} 
     place = copy_place;
   }
 
-  abbrev pub puts : (facts : Facts) {later : Image} (t : IsTaken shape later unit plan.volume change copy_texts here.is.before models)
+  abbrev pub puts : (facts : Facts) {fills : List Bool} {later : Image} (t : IsTaken shape fills later unit plan.volume change copy_texts here.is.before models)
       → Puts facts replaced (origins.Row from origin) unit name to models t.models_after
   puts facts t = record { original = original; origin_is = (source.is.before, copied.0, is_row, is_original); copies = copies t }
 
@@ -167,34 +168,34 @@ module _ {replaced : Bool} {units : List UnitState} {from : ℕ} {origin : Dsn} 
 
 -- ---- the step of a plan
 
-module _ (shape : Shape) (units : List UnitState) (vtocs : List (List ℕ)) (old new : Image) (have : HaveStates shape units) (are : AreLoaded shape new units)
-    (keep : KeepVtocs shape units vtocs) (vtocs_are : AreVtocsOf new units vtocs) (differ : DifferOnFree units old new) (changes : List (ℕ × Change)) (rendered : List Rendered)
-    (were : WereRendered units vtocs changes rendered) where
+module _ (shape : Shape) (units : List UnitState) (fills : List Bool) (fit : HaveFills fills units) (vtocs : List (List ℕ)) (old new : Image) (have : HaveStates shape units)
+    (are : AreLoaded shape new units) (keep : KeepVtocs shape units vtocs) (vtocs_are : AreVtocsOf new units vtocs) (differ : DifferOnFree units old new)
+    (changes : List (ℕ × Change)) (rendered : List Rendered) (were : WereRendered units vtocs changes rendered) where
   put_taken : (replaced : Bool) (from : ℕ) (origin : Dsn) (unit : ℕ) (name : Dsn) (to : List Run) (step : Step) → PlansPut replaced units from origin unit name to changes
       → AreHeld units (texts.Rows from origin) changes old new
       → ((facts : Facts) (before after : List UnitModel) → Puts facts replaced (origins.Row from origin) unit name to before after → IsStep facts step before after)
-      → TakesModels shape new step (entries_of changes rendered)
+      → TakesModels shape fills new step (entries_of changes rendered)
   put_taken replaced from origin unit name to step plan held is_step =
       let copy = plan.copy in
       let one_held : AreHeld units (texts.Rows from origin) ((unit, plan.change) ∷ []) old new =
       subst (λ (list : List (ℕ × Change)). AreHeld units (texts.Rows from origin) list old new) plan.changes_are held in
-      from_one shape units vtocs new have are keep vtocs_are step unit plan.change changes rendered plan.changes_are were
+      from_one shape units fills fit vtocs new have are keep vtocs_are step unit plan.change changes rendered plan.changes_are were
       (λ one was.
-      take_one shape units vtocs new have are keep vtocs_are unit copy.volume copy.loaded plan.change copy.may
+      take_one shape units fills fit vtocs new have are keep vtocs_are unit copy.volume copy.loaded plan.change copy.may
       (put_small replaced name copy.row plan.change copy.change_is) one was step
       (λ facts allowed models alone here.
-      let source = here_loaded shape units vtocs new have are keep vtocs_are from copy.source models copy.source_loaded alone in (
+      let source = here_loaded shape units fills fit vtocs new have are keep vtocs_are from copy.source models copy.source_loaded alone in (
         copy_texts copy source here,
         copy_stands copy source here old [] differ one_held,
         λ t. is_step facts models t.models_after (puts copy source here facts t),
       )))
 
   pub add_taken : (from : ℕ) (origin : Dsn) (unit : ℕ) (name : Dsn) (to : List Run) → PlansPut false units from origin unit name to changes → AreHeld units (texts.Rows from origin) changes old new
-      → TakesModels shape new (steps.Add unit name to (origins.Row from origin)) (entries_of changes rendered)
+      → TakesModels shape fills new (steps.Add unit name to (origins.Row from origin)) (entries_of changes rendered)
   add_taken from origin unit name to plan held =
       put_taken false from origin unit name to (steps.Add unit name to (origins.Row from origin)) plan held (λ facts before after is. is)
 
   pub replace_taken : (from : ℕ) (origin : Dsn) (unit : ℕ) (name : Dsn) (to : List Run) → PlansPut true units from origin unit name to changes
-      → AreHeld units (texts.Rows from origin) changes old new → TakesModels shape new (steps.Replace unit name to (origins.Row from origin)) (entries_of changes rendered)
+      → AreHeld units (texts.Rows from origin) changes old new → TakesModels shape fills new (steps.Replace unit name to (origins.Row from origin)) (entries_of changes rendered)
   replace_taken from origin unit name to plan held =
       put_taken true from origin unit name to (steps.Replace unit name to (origins.Row from origin)) plan held (λ facts before after is. is)

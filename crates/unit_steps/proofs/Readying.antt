@@ -85,7 +85,7 @@ of_others unit (change ∷ changes) (one ∷ more) apart =
 
 module _ (shape : Shape) (sized : AreSized shape) (units : List UnitState) (vtocs : List (List ℕ)) (have : HaveStates shape units) (keep : KeepVtocs shape units vtocs) where
   module _ (unit : ℕ) (change : Change) (rendered : Rendered) (was : WasRendered units vtocs unit change rendered) where
-    from : IsFromSlots (shape.head unit) (shape.blocks unit) was.volume was.slots
+    from : IsFromSlots false (shape.head unit) (shape.blocks unit) was.volume was.slots
     from = keep.each unit (Online was.volume) was.slots was.loaded was.kept
 
     blocks_are : AreBlocksOf was.volume.vtoc (slot_of was.volume.device) rendered.blocks

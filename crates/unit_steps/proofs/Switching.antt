@@ -44,7 +44,7 @@ use Rattle.ckd_image.proofs.Devices.{short_slot}
 -- ---- one unit
 
 module _ {head : List ℕ} {blocks : ℕ} {units : List UnitState} {vtocs : List (List ℕ)} {unit : ℕ} {change : Change} {rendered : Rendered} (was : WasRendered units vtocs unit change rendered)
-    (from : IsFromSlots head blocks was.volume was.slots) (no_mark : change ≢ Mark) where
+    (from : IsFromSlots false head blocks was.volume was.slots) (no_mark : change ≢ Mark) where
   changed : IsChanged was.volume change rendered.next
   changed = is_changed was.volume rendered.next change no_mark was.next
 
@@ -72,7 +72,7 @@ module _ {head : List ℕ} {blocks : ℕ} {units : List UnitState} {vtocs : List
           let track = was.volume.vtoc.first + k in
           ap (λ (slot : List ℕ). slot_with slot (block_of rendered.blocks track)) (are k less) ∙ sym (patched.each k less)
 
-  patched_kept : (slots : List ℕ) → ArePatched was.volume.vtoc (slot_of was.volume.device) rendered.blocks was.slots slots → IsFromSlots head blocks rendered.next slots
+  patched_kept : (slots : List ℕ) → ArePatched was.volume.vtoc (slot_of was.volume.device) rendered.blocks was.slots slots → IsFromSlots false head blocks rendered.next slots
   patched_kept slots patched = record {
     image = from.image;
     label = from.label;
@@ -95,14 +95,15 @@ short_slots (block ∷ blocks) size track slot small short whole =
     by false later = later
 
 -- the slots of an online unit are ones from which its volume was loaded
-abbrev pub from_state : {head : List ℕ} {blocks : ℕ} (old : Slots) {volume : Volume} {slots : List ℕ} → IsStateOf head blocks old (Online volume)
-    → AreSlotsOf volume.vtoc (slot_of volume.device) slots old → length slots ≡ volume.vtoc.len * slot_of volume.device → IsFromSlots head blocks volume slots
+abbrev pub from_state : {head : List ℕ} {blocks : ℕ} (old : Slots) {volume : Volume} {slots : List ℕ} → IsStateOf false head blocks old (Online volume)
+    → AreSlotsOf volume.vtoc (slot_of volume.device) slots old → length slots ≡ volume.vtoc.len * slot_of volume.device → IsFromSlots false head blocks volume slots
 from_state old is are whole = record { image = is.0; label = is.1; unit = old; image_is = is.2.head_stands; loaded = is.3; slots_are = are; whole = whole }
 
 module _ {head : List ℕ} {blocks : ℕ} {units : List UnitState} {vtocs : List (List ℕ)} {unit : ℕ} {change : Change} {rendered : Rendered} (was : WasRendered units vtocs unit change rendered)
-    (from : IsFromSlots head blocks was.volume was.slots) (no_mark : change ≢ Mark) (old : Slots) (is : IsStateOf head blocks old (Online was.volume)) (short : AreShort blocks old)
+    (from : IsFromSlots false head blocks was.volume was.slots) (no_mark : change ≢ Mark) (old : Slots) (is : IsStateOf false head blocks old (Online was.volume))
+    (short : AreShort blocks old)
     (slots_are : AreSlotsOf was.volume.vtoc (slot_of was.volume.device) was.slots old) where
-  abbrev own : IsFromSlots head blocks was.volume was.slots
+  abbrev own : IsFromSlots false head blocks was.volume was.slots
   own = from_state old is slots_are from.whole
 
   first_same : slots_with rendered.blocks old 0 ≡ old 0
@@ -125,7 +126,7 @@ module _ {head : List ℕ} {blocks : ℕ} {units : List UnitState} {vtocs : List
     stands = is.2.stands;
   }
 
-  state_after : IsStateOf head blocks (slots_with rendered.blocks old) (Online rendered.next)
+  state_after : IsStateOf false head blocks (slots_with rendered.blocks old) (Online rendered.next)
   state_after = (is.0, is.1, labelled, later_loads was own no_mark)
 
   pub short_after : AreShort blocks (slots_with rendered.blocks old)
@@ -191,7 +192,7 @@ module _ (shape : Shape) (units : List UnitState) (old : List (List ℕ)) (have 
   abbrev vtocs_then : List (List ℕ)
   vtocs_then = slice_set old unit after
 
-  from : IsFromSlots (shape.head unit) (shape.blocks unit) was.volume was.slots
+  from : IsFromSlots false (shape.head unit) (shape.blocks unit) was.volume was.slots
   from = keep.each unit (Online was.volume) was.slots was.loaded was.kept
 
   own_patched : ArePatched was.volume.vtoc (slot_of was.volume.device) rendered.blocks was.slots after
@@ -209,7 +210,7 @@ module _ (shape : Shape) (units : List UnitState) (old : List (List ℕ)) (have 
   keep_then = record {
     count = length-set old unit after ∙ keep.count;
     each =
-        both_set units old unit (Online rendered.next) (Online was.volume) after was.slots (λ u state slots. IsKept (shape.head u) (shape.blocks u) state slots) was.loaded was.kept
+        both_set units old unit (Online rendered.next) (Online was.volume) after was.slots (λ u state slots. IsKept false (shape.head u) (shape.blocks u) state slots) was.loaded was.kept
         (patched_kept was from no_mark after own_patched) (λ u state slots apart got got'. keep.each u state slots got got');
   }
 
@@ -223,7 +224,7 @@ module _ (shape : Shape) (units : List UnitState) (old : List (List ℕ)) (have 
     there : (u : ℕ) → u ≢ unit → then u ≡ contents u
     there u apart = placed_there unit rendered.blocks contents u apart
 
-    own_state : IsStateOf (shape.head unit) (shape.blocks unit) (contents unit) (Online was.volume)
+    own_state : IsStateOf false (shape.head unit) (shape.blocks unit) (contents unit) (Online was.volume)
     own_state = (are unit (Online was.volume) was.loaded).0
 
     own_short : AreShort (shape.blocks unit) (contents unit)
@@ -233,7 +234,7 @@ module _ (shape : Shape) (units : List UnitState) (old : List (List ℕ)) (have 
     own_slots = vtocs_are unit (Online was.volume) was.slots was.loaded was.kept
 
     abbrev IsLoadedUnit : ℕ → UnitState → Slots → Type 0
-    IsLoadedUnit u state slots = IsStateOf (shape.head u) (shape.blocks u) slots state × AreShort (shape.blocks u) slots
+    IsLoadedUnit u state slots = IsStateOf false (shape.head u) (shape.blocks u) slots state × AreShort (shape.blocks u) slots
 
     loaded_then : AreLoaded shape (placed contents (map (entry_for change.0) rendered.blocks)) (slice_set units change.0 (Online rendered.next))
     loaded_then =

@@ -8,7 +8,7 @@ use Rattle.free_map.specs.declared.run.Run.{Run}
 use Rattle.redo_core.specs.declared.control.Control.{Control}
 use Rattle.redo_core.specs.declared.entries.Entry.{Entry}
 use Rattle.redo_core.specs.Faults.{HasSerial, IsBusy}
-use Rattle.redo_core.specs.Reading.{journal_of, placed, with_entries, set_block, Reading}
+use Rattle.redo_core.specs.Reading.{journal_of, placed, with_entries, set_block, fills_of, Reading}
 use Rattle.redo_core.proofs.Controls.{with_volumes}
 use Rattle.redo_core.proofs.Crash.{other_block, placed_agree}
 use Rattle.volume_model.specs.Reads.{IsUnit}
@@ -26,22 +26,22 @@ use Rattle.move_core.specs.declared.steps.Origin.TheVariants as origins
 use Rattle.move_core.specs.declared.steps.Step.{Step}
 use Rattle.move_core.specs.declared.steps.Step.TheVariants as steps
 use Rattle.move_core.specs.Facts.{Facts}
-use Rattle.move_core.specs.Laws.{WillStand, OpensNone}
+use Rattle.move_core.specs.Laws.{WillStand, OpensNoSlide}
 use Rattle.move_core.specs.Stands.{is_sliding, place_in, IsAfterSlide, Means, IsSettled}
-use Rattle.move_core.specs.Taking.{IsIdle, AreSame, TakeUnitsFor}
+use Rattle.move_core.specs.Taking.{IsQuiet, AreSame, TakeUnitsFor}
 use Rattle.unit_steps.specs.declared.plan.Tracks.{Tracks}
 use Rattle.unit_steps.specs.declared.plan.Tracks.TheVariants as texts
 use Rattle.unit_steps.specs.Copied.{DifferOnFree, AreHeld}
 use Rattle.unit_steps.specs.Laws.{PlansTakeUnits}
 use Rattle.unit_steps.specs.Parts.{PartsTakeUnits}
 use Rattle.unit_steps.proofs.Giving.{part_taken}
-use Rattle.unit_steps.specs.Loaded.{HaveStates, AreLoaded, KeepVtocs, AreVtocsOf}
+use Rattle.unit_steps.specs.Loaded.{HaveStates, AreLoaded, HaveFills, KeepVtocs, AreVtocsOf}
 use Rattle.unit_steps.specs.Plans.{Plans}
 use Rattle.unit_steps.specs.Rendering.{WasRendered, WereRendered, entry_for, entries_of}
 use Rattle.unit_steps.proofs.Blocks.{rendered_blocks}
 use Rattle.unit_steps.proofs.Carrying.{carry_taken}
 use Rattle.unit_steps.proofs.Copying.{copied_load}
-use Rattle.unit_steps.proofs.Idle.{own_slots, control_idle, quiet, units_found, unit_stands}
+use Rattle.unit_steps.proofs.Quiet.{own_slots, control_idle, same_fills, units_found, unit_stands}
 use Rattle.unit_steps.proofs.Moving.{move_taken}
 use Rattle.unit_steps.proofs.OneChange.{TakesModelsFor, TakesModels}
 use Rattle.unit_steps.proofs.Placing.{placed_both}
@@ -55,7 +55,7 @@ use Rattle.unit_steps.proofs.Units.{AreAlone}
 module _ (shape : Shape) (units : List UnitState) (vtocs : List (List ℕ)) (keep : KeepVtocs shape units vtocs) where
   first_track : (unit : ℕ) (change : Change) (rendered : Rendered) → WasRendered units vtocs unit change rendered → All (λ block. 1 ≤ block.track) rendered.blocks
   first_track unit change rendered was =
-      let from : IsFromSlots (shape.head unit) (shape.blocks unit) was.volume was.slots = keep.each unit (Online was.volume) was.slots was.loaded was.kept in
+      let from : IsFromSlots false (shape.head unit) (shape.blocks unit) was.volume was.slots = keep.each unit (Online was.volume) was.slots was.loaded was.kept in
       let is = from.loaded in
       let some : 1 ≤ was.volume.vtoc.first =
       omega (arith, (run_inside from.image from.unit from.label.vtoc false is.vtoc is.stands.stands).0, ap (λ (run : Run). run.first) is.volume.vtoc_is) in
@@ -101,39 +101,41 @@ entries_below shape units vtocs have (change ∷ changes) (one ∷ more) were =
     (All-map (IsBelow (journal_of shape)) (entry_for change.0) one.blocks (blocks_below (journal_of shape) change.0 below one.blocks))
     (entries_below shape units vtocs have changes more were.1)
 
--- ---- an idle pool
+-- ---- a quiet pool
 
-module _ (facts : Facts) (state : State) (units : List UnitModel) (room : ℕ) (idle : IsIdle facts.shape state room) (settled : IsSettled facts state units) where
+module _ (facts : Facts) (state : State) (units : List UnitModel) (room : ℕ) (fills : List Bool) (quiet : IsQuiet facts.shape state room fills)
+    (settled : IsSettled facts state units) where
   abbrev reading : Reading
   reading = settled.stands.reading
 
-  models_alone : (contents : Image) → AreSame facts.shape state.contents contents → AreAlone facts.shape contents units
+  models_alone : (contents : Image) → AreSame facts.shape state.contents contents → AreAlone facts.shape fills contents units
   models_alone contents same =
-      subst (λ (models : List UnitModel). AreAlone facts.shape contents models) (sym (units_found facts state units room idle settled)) (record {
+      subst (λ (models : List UnitModel). AreAlone facts.shape fills contents models) (sym (units_found facts state units room fills quiet settled)) (record {
         count = settled.stands.means.found_are.count;
         each = λ u model at.
             let less : u < journal_of facts.shape = omega (arith, slice_get_within settled.stands.means.found u model at, settled.stands.means.found_are.count) in
-            subst (λ (slots : Slots). IsUnit false false own_place (facts.shape.head u) (facts.shape.blocks u) slots model) (λ i b. same u b less i)
-            (unit_stands facts state units room idle settled u model less at);
+            subst (λ (slots : Slots). IsUnit (fills_of fills u) false own_place (facts.shape.head u) (facts.shape.blocks u) slots model) (λ i b. same u b less i)
+            (unit_stands facts state units room fills quiet settled u model less at);
       })
 
-  module _ (contents : Image) (same : AreSame facts.shape state.contents contents) (entries : List Entry) (after : List UnitModel) (alone : AreAlone facts.shape (placed contents entries) after)
+  module _ (contents : Image) (same : AreSame facts.shape state.contents contents) (entries : List Entry) (after : List UnitModel)
+      (alone : AreAlone facts.shape fills (placed contents entries) after)
       (below : All (IsBelow (journal_of facts.shape)) entries) (firsts : (u : ℕ) → placed settled.stands.reading.volumes entries u 0 ≡ settled.stands.reading.volumes u 0) where
     abbrev later : Image
     later = placed reading.volumes entries
 
     reads_same : (u : ℕ) → u < journal_of facts.shape → placed contents entries u ≡ later u
     reads_same u less = λ i b.
-        placed_agree entries contents reading.volumes u b (λ none. sym (same u b less) ∙ (λ j. sym (own_slots facts state units room idle settled u less) j b)) i
+        placed_agree entries contents reading.volumes u b (λ none. sym (same u b less) ∙ (λ j. sym (own_slots facts state units room fills quiet settled u less) j b)) i
 
-    -- a unit with nothing under way is a unit of the reading
-    reads_alone : (u : ℕ) (model : UnitModel) → u < journal_of facts.shape → IsUnit false false own_place (facts.shape.head u) (facts.shape.blocks u) (later u) model
+    -- a unit on which no slide is open is a unit of the reading
+    reads_alone : (u : ℕ) (model : UnitModel) → u < journal_of facts.shape → IsUnit (fills_of fills u) false own_place (facts.shape.head u) (facts.shape.blocks u) (later u) model
         → IsUnit (reading.fills u) (is_sliding reading.control u) (place_in reading.control u) (facts.shape.head u) (facts.shape.blocks u) (later u) model
     reads_alone u model less is =
-        subst (λ (fills : Bool). IsUnit fills (is_sliding reading.control u) (place_in reading.control u) (facts.shape.head u) (facts.shape.blocks u) (later u) model)
-        (sym (quiet facts state units room idle settled u less))
-        (subst (λ (control : Control). IsUnit false (is_sliding control u) (place_in control u) (facts.shape.head u) (facts.shape.blocks u) (later u) model)
-        (sym (control_idle facts state units room idle settled)) is)
+        subst (λ (filling : Bool). IsUnit filling (is_sliding reading.control u) (place_in reading.control u) (facts.shape.head u) (facts.shape.blocks u) (later u) model)
+        (sym (same_fills facts state units room fills quiet settled u less))
+        (subst (λ (control : Control). IsUnit (fills_of fills u) (is_sliding control u) (place_in control u) (facts.shape.head u) (facts.shape.blocks u) (later u) model)
+        (sym (control_idle facts state units room fills quiet settled)) is)
 
     means : Means facts.shape (record reading { volumes = later }) after
     means = record {
@@ -144,9 +146,9 @@ module _ (facts : Facts) (state : State) (units : List UnitModel) (room : ℕ) (
             each = λ u model at.
                 let less : u < journal_of facts.shape = omega (arith, slice_get_within after u model at, alone.count) in
                 reads_alone u model less
-                (subst (λ (slots : Slots). IsUnit false false own_place (facts.shape.head u) (facts.shape.blocks u) slots model) (reads_same u less) (alone.each u model at));
+                (subst (λ (slots : Slots). IsUnit (fills_of fills u) false own_place (facts.shape.head u) (facts.shape.blocks u) slots model) (reads_same u less) (alone.each u model at));
           };
-      after = subst (λ (control : Control). IsAfterSlide reading.room control after after) (sym (control_idle facts state units room idle settled)) refl;
+      after = subst (λ (control : Control). IsAfterSlide reading.room control after after) (sym (control_idle facts state units room fills quiet settled)) refl;
     }
 
     -- they leave the control as it is
@@ -164,64 +166,65 @@ module _ (facts : Facts) (state : State) (units : List UnitModel) (room : ℕ) (
       means = subst (λ (r : Reading). Means facts.shape r after) (sym only_volumes) means;
     }
 
-    -- so they open no slide and no fill
-    opens_none : OpensNone facts.shape reading entries
-    opens_none closed = subst (λ (r : Reading). ¬ IsBusy facts.shape r) (sym only_volumes) closed
+    -- so they open no slide
+    opens_none : OpensNoSlide facts.shape reading entries
+    opens_none closed = subst (λ (r : Reading). ¬ IsBusy r) (sym only_volumes) closed
 
 -- models that are taken are units that are taken
-pub take_units : {allows : Facts → Type 0} (shape : Shape) (room : ℕ) (contents : Image) (step : Step) (entries : List Entry) → TakesModelsFor allows shape contents step entries
-    → All (IsBelow (journal_of shape)) entries → ((image : Image) (u : ℕ) → placed image entries u 0 ≡ image u 0) → TakeUnitsFor allows shape room [] contents step entries
-take_units {allows} shape room contents step entries takes below firsts facts state units same_shape allowed same idle settled =
-    let own_takes : TakesModelsFor allows facts.shape contents step entries = subst (λ (s : Shape). TakesModelsFor allows s contents step entries) (sym same_shape) takes in
+pub take_units : {allows : Facts → Type 0} (shape : Shape) (room : ℕ) (fills : List Bool) (contents : Image) (step : Step) (entries : List Entry)
+    → TakesModelsFor allows shape fills contents step entries
+    → All (IsBelow (journal_of shape)) entries → ((image : Image) (u : ℕ) → placed image entries u 0 ≡ image u 0) → TakeUnitsFor allows shape room fills contents step entries
+take_units {allows} shape room fills contents step entries takes below firsts facts state units same_shape allowed same quiet settled =
+    let own_takes : TakesModelsFor allows facts.shape fills contents step entries = subst (λ (s : Shape). TakesModelsFor allows s fills contents step entries) (sym same_shape) takes in
     let own_same : AreSame facts.shape state.contents contents = subst (λ (s : Shape). AreSame s state.contents contents) (sym same_shape) same in
     let own_below : All (IsBelow (journal_of facts.shape)) entries = subst (λ (s : Shape). All (IsBelow (journal_of s)) entries) (sym same_shape) below in
-    let own_idle : IsIdle facts.shape state room = subst (λ (s : Shape). IsIdle s state room) (sym same_shape) idle in
-    let made = own_takes facts allowed units (models_alone facts state units room own_idle settled contents own_same) in (
+    let own_quiet : IsQuiet facts.shape state room fills = subst (λ (s : Shape). IsQuiet s state room fills) (sym same_shape) quiet in
+    let made = own_takes facts allowed units (models_alone facts state units room fills own_quiet settled contents own_same) in (
       made.0,
       made.1,
-      will_stand facts state units room own_idle settled contents own_same entries made.0 made.2 own_below (firsts settled.stands.reading.volumes),
-      opens_none facts state units room own_idle settled contents own_same entries made.0 made.2 own_below (firsts settled.stands.reading.volumes),
+      will_stand facts state units room fills own_quiet settled contents own_same entries made.0 made.2 own_below (firsts settled.stands.reading.volumes),
+      opens_none facts state units room fills own_quiet settled contents own_same entries made.0 made.2 own_below (firsts settled.stands.reading.volumes),
     )
 
 -- ---- plans
 
-module _ (shape : Shape) (units : List UnitState) (vtocs : List (List ℕ)) (old new : Image) (have : HaveStates shape units) (are : AreLoaded shape new units)
-    (keep : KeepVtocs shape units vtocs) (vtocs_are : AreVtocsOf new units vtocs) (differ : DifferOnFree units old new) (changes : List (ℕ × Change)) (rendered : List Rendered)
-    (were : WereRendered units vtocs changes rendered) where
+module _ (shape : Shape) (units : List UnitState) (fills : List Bool) (fit : HaveFills fills units) (vtocs : List (List ℕ)) (old new : Image) (have : HaveStates shape units)
+    (are : AreLoaded shape new units) (keep : KeepVtocs shape units vtocs) (vtocs_are : AreVtocsOf new units vtocs) (differ : DifferOnFree units old new)
+    (changes : List (ℕ × Change)) (rendered : List Rendered) (were : WereRendered units vtocs changes rendered) where
   rows_held : (from : ℕ) (name : _) (tracks : Tracks) → tracks ≡ texts.Rows from name → AreHeld units tracks changes old new → AreHeld units (texts.Rows from name) changes old new
   rows_held from name tracks is held = subst (λ (t : Tracks). AreHeld units t changes old new) is held
 
-  planned_taken : (step : Step) (tracks : Tracks) → Plans units step tracks changes → AreHeld units tracks changes old new → TakesModels shape new step (entries_of changes rendered)
+  planned_taken : (step : Step) (tracks : Tracks) → Plans units step tracks changes → AreHeld units tracks changes old new → TakesModels shape fills new step (entries_of changes rendered)
   planned_taken (steps.Move unit name to) tracks is held =
-      move_taken shape units vtocs old new have are keep vtocs_are differ changes rendered were unit name to is.1 (rows_held unit name tracks is.0 held)
-  planned_taken (steps.Shrink unit name kept) tracks is held = shrink_taken shape units vtocs new have are keep vtocs_are changes rendered were unit name kept is.1
+      move_taken shape units fills fit vtocs old new have are keep vtocs_are differ changes rendered were unit name to is.1 (rows_held unit name tracks is.0 held)
+  planned_taken (steps.Shrink unit name kept) tracks is held = shrink_taken shape units fills fit vtocs new have are keep vtocs_are changes rendered were unit name kept is.1
   planned_taken (steps.Add unit name to (origins.Row from origin)) tracks is held =
-      add_taken shape units vtocs old new have are keep vtocs_are differ changes rendered were from origin unit name to is.1 (rows_held from origin tracks is.0 held)
+      add_taken shape units fills fit vtocs old new have are keep vtocs_are differ changes rendered were from origin unit name to is.1 (rows_held from origin tracks is.0 held)
   planned_taken (steps.Add unit name to (origins.Part input number)) tracks is held = absurd is
   planned_taken (steps.Replace unit name to (origins.Row from origin)) tracks is held =
-      replace_taken shape units vtocs old new have are keep vtocs_are differ changes rendered were from origin unit name to is.1 (rows_held from origin tracks is.0 held)
+      replace_taken shape units fills fit vtocs old new have are keep vtocs_are differ changes rendered were from origin unit name to is.1 (rows_held from origin tracks is.0 held)
   planned_taken (steps.Replace unit name to (origins.Part input number)) tracks is held = absurd is
-  planned_taken (steps.Delete unit name) tracks is held = delete_taken shape units vtocs new have are keep vtocs_are changes rendered were unit name is.1
+  planned_taken (steps.Delete unit name) tracks is held = delete_taken shape units fills fit vtocs new have are keep vtocs_are changes rendered were unit name is.1
   planned_taken (steps.Carry from origin unit name to replaced) tracks is held =
-      carry_taken shape units vtocs old new have are keep vtocs_are differ from origin unit name to replaced changes rendered were is.1 (rows_held from origin tracks is.0 held)
-  planned_taken (steps.ResetFlag unit name) tracks is held = reset_taken shape units vtocs new have are keep vtocs_are changes rendered were unit name is.1
-  planned_taken (steps.Repair unit) tracks is held = repair_taken shape units vtocs new have are keep vtocs_are changes rendered were unit is.1
+      carry_taken shape units fills fit vtocs old new have are keep vtocs_are differ from origin unit name to replaced changes rendered were is.1 (rows_held from origin tracks is.0 held)
+  planned_taken (steps.ResetFlag unit name) tracks is held = reset_taken shape units fills fit vtocs new have are keep vtocs_are changes rendered were unit name is.1
+  planned_taken (steps.Repair unit) tracks is held = repair_taken shape units fills fit vtocs new have are keep vtocs_are changes rendered were unit is.1
   planned_taken (steps.FillStart unit input) tracks is held = absurd is
   planned_taken (steps.FillEnd unit input) tracks is held = absurd is
 
 pub plans_take : PlansTakeUnits
-plans_take shape room old new units vtocs plan rendered have are keep kept is were differ short held =
+plans_take shape room old new units vtocs plan rendered have are keep kept is were differ short held fills fit =
     let now = copied_load shape old new units vtocs have are kept differ short in
-    take_units shape room new plan.step (entries_of plan.changes rendered)
-    (planned_taken shape units vtocs old new have now.0 keep now.1 differ plan.changes rendered were plan.step plan.tracks is held)
+    take_units shape room fills new plan.step (entries_of plan.changes rendered)
+    (planned_taken shape units fills fit vtocs old new have now.0 keep now.1 differ plan.changes rendered were plan.step plan.tracks is held)
     (entries_below shape units vtocs have plan.changes rendered were)
     (λ image u. firsts_stay shape units vtocs keep plan.changes rendered image u were)
 
 pub parts_take : PartsTakeUnits
-parts_take shape room old new units vtocs original input number unit name to changes rendered have are keep kept plan were differ short gives =
+parts_take shape room old new units vtocs original input number unit name to changes rendered have are keep kept plan were differ short gives fills fit =
     let now = copied_load shape old new units vtocs have are kept differ short in
-    take_units shape room new (steps.Add unit name to (origins.Part input number)) (entries_of changes rendered)
-    (part_taken shape units vtocs new have now.0 keep now.1 changes rendered were false original input number unit name to (steps.Add unit name to (origins.Part input number)) plan gives
-    (λ facts before after is. is))
+    take_units shape room fills new (steps.Add unit name to (origins.Part input number)) (entries_of changes rendered)
+    (part_taken shape units fills fit vtocs new have now.0 keep now.1 changes rendered were false original input number unit name to
+    (steps.Add unit name to (origins.Part input number)) plan gives (λ facts before after is. is))
     (entries_below shape units vtocs have changes rendered were)
     (λ image u. firsts_stay shape units vtocs keep changes rendered image u were)

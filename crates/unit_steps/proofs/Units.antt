@@ -1,12 +1,12 @@
 -- A loaded unit of a pool, and what it is before and after a rendered change is written.
-use Rattle.std.proofs.Common.{◌≡◌, ◌≢◌, ℕ, ◌*◌, ◌≤◌, List, length, map, Contains, false, Some, refl, sym, ap, subst, ◌∙◌}
+use Rattle.std.proofs.Common.{◌≡◌, ◌≢◌, ℕ, ◌*◌, ◌≤◌, Bool, List, length, map, Contains, false, Some, sym, ap, subst, ◌∙◌}
 use Rattle.std.specs.Prelude.{slice_get, slice_set}
 use Rattle.std.proofs.lemmas.List.{length-set, set_at}
 use Rattle.std.proofs.lemmas.List.Sorted.{IsPermutation-map}
 use Rattle.ckd_image.specs.declared.head.Head.{Head}
 use Rattle.ckd_image.specs.Device.{heads_of, slot_of}
 use Rattle.dasd_pool.specs.Disk.{Image, Shape}
-use Rattle.redo_core.specs.Reading.{journal_of, placed}
+use Rattle.redo_core.specs.Reading.{journal_of, placed, fills_of}
 use Rattle.vol_label.specs.declared.label.Label.{Label}
 use Rattle.volume_model.specs.Changed.{ChangesSets}
 use Rattle.volume_model.specs.Check.{records_of}
@@ -46,12 +46,13 @@ use Rattle.unit_steps.proofs.Placing.{slots_with, after_blocks, placed_here, pla
 use Rattle.unit_steps.proofs.Switching.{blocks_are, short_after}
 use Rattle.unit_load.proofs.Keeping.{few_tracks}
 
--- ---- the units of a pool on which nothing is under way
+-- ---- the units of a pool on which no slide is open
 
--- each is what its blocks say
-pub record AreAlone (shape : Shape) (contents : Image) (models : List UnitModel) : Type 0 where
+-- each is what its blocks say, and whether a fill is open on it
+pub record AreAlone (shape : Shape) (fills : List Bool) (contents : Image) (models : List UnitModel) : Type 0 where
   pub count : length models ≡ journal_of shape
-  pub each : (u : ℕ) (model : UnitModel) → slice_get models u ≡ Some model → IsUnit false false own_place (shape.head u) (shape.blocks u) (contents u) model
+  pub each : (u : ℕ) (model : UnitModel) → slice_get models u ≡ Some model
+      → IsUnit (fills_of fills u) false own_place (shape.head u) (shape.blocks u) (contents u) model
 
 -- ---- a loaded unit
 
@@ -71,7 +72,7 @@ pub record IsOnlineUnit (head : List ℕ) (blocks : ℕ) (slots : Slots) (volume
   pub sets_are : AreDataSets (heads_of volume.device) own_place slots (map row_in volume.rows) before.sets
   pub distinct : AreDistinct (map name_in (map row_in volume.rows))
 
-pub online_unit : (head : List ℕ) (blocks : ℕ) (slots : Slots) (volume : Volume) (model : UnitModel) → IsStateOf head blocks slots (Online volume) → AreShort blocks slots
+pub online_unit : (head : List ℕ) (blocks : ℕ) (slots : Slots) (volume : Volume) (model : UnitModel) → IsStateOf false head blocks slots (Online volume) → AreShort blocks slots
     → IsUnit false false own_place head blocks slots model → IsOnlineUnit head blocks slots volume model
 online_unit head blocks slots volume model (image, label, labelled, is) short stands =
     let few = few_tracks head blocks image labelled.head_stands in
@@ -124,15 +125,16 @@ unit_of is vtoc_slots are whole = record {
 }
 
 -- another online volume on one unit of the pool
-pub record IsReplaced (shape : Shape) (unit : ℕ) (before after : OnlineVolume) (contents : Image) (models : List UnitModel) : Type 0 where
+pub record IsReplaced (shape : Shape) (fills : List Bool) (unit : ℕ) (before after : OnlineVolume) (contents : Image) (models : List UnitModel) : Type 0 where
   pub models_after : List UnitModel
   pub replaces : Replaces unit (online before) (online after) models models_after
   pub others : (u : ℕ) → u ≢ unit → slice_get models_after u ≡ slice_get models u
-  pub alone : AreAlone shape contents models_after
+  pub alone : AreAlone shape fills contents models_after
 
-pub replaced : (shape : Shape) (old new : Image) (models : List UnitModel) (unit : ℕ) (before after : OnlineVolume) → AreAlone shape old models → slice_get models unit ≡ Some (online before)
-    → IsOnline false own_place (shape.head unit) (shape.blocks unit) (new unit) after → ((u : ℕ) → u ≢ unit → new u ≡ old u) → IsReplaced shape unit before after new models
-replaced shape old new models unit before after alone at is same =
+pub replaced : (shape : Shape) (fills : List Bool) (old new : Image) (models : List UnitModel) (unit : ℕ) (before after : OnlineVolume) → AreAlone shape fills old models
+    → fills_of fills unit ≡ false → slice_get models unit ≡ Some (online before) → IsOnline false own_place (shape.head unit) (shape.blocks unit) (new unit) after
+    → ((u : ℕ) → u ≢ unit → new u ≡ old u) → IsReplaced shape fills unit before after new models
+replaced shape fills old new models unit before after alone closed at is same =
     let split = split_at models unit (online before) at in
     record {
       models_after = slice_set models unit (online after);
@@ -150,14 +152,15 @@ replaced shape old new models unit before after alone at is same =
           record {
             count = length-set models unit (online after) ∙ alone.count;
             each =
-                each_set models unit (online after) (online before) (λ u model. IsUnit false false own_place (shape.head u) (shape.blocks u) (new u) model) at (refl, is)
+                each_set models unit (online after) (online before) (λ u model. IsUnit (fills_of fills u) false own_place (shape.head u) (shape.blocks u) (new u) model) at (closed, is)
                 (λ u model apart got.
-                subst (λ (slots : Slots). IsUnit false false own_place (shape.head u) (shape.blocks u) slots model) (sym (same u apart)) (alone.each u model got));
+                subst (λ (slots : Slots). IsUnit (fills_of fills u) false own_place (shape.head u) (shape.blocks u) slots model) (sym (same u apart)) (alone.each u model got));
           };
     }
 
 -- What a change makes of a unit, where these texts stand on the tracks of what it puts.
-pub record IsTaken (shape : Shape) (contents : Image) (unit : ℕ) (volume : Volume) (change : Change) (texts : List Text) (before : OnlineVolume) (models : List UnitModel) : Type 0 where
+pub record IsTaken (shape : Shape) (fills : List Bool) (contents : Image) (unit : ℕ) (volume : Volume) (change : Change) (texts : List Text) (before : OnlineVolume)
+    (models : List UnitModel) : Type 0 where
   pub after : OnlineVolume
   pub gone : List DataSet
   pub changes : ChangesSets before after gone (sets_put (heads_of volume.device) change texts)
@@ -166,14 +169,15 @@ pub record IsTaken (shape : Shape) (contents : Image) (unit : ℕ) (volume : Vol
   pub models_after : List UnitModel
   pub replaces : Replaces unit (online before) (online after) models models_after
   pub others : (u : ℕ) → u ≢ unit → slice_get models_after u ≡ slice_get models u
-  pub alone : AreAlone shape contents models_after
+  pub alone : AreAlone shape fills contents models_after
 
-module _ (shape : Shape) (units : List UnitState) (vtocs : List (List ℕ)) (contents : Image) (models : List UnitModel) (alone : AreAlone shape contents models) (unit : ℕ) (change : Change)
-    (rendered : Rendered) (was : WasRendered units vtocs unit change rendered) (from : IsFromSlots (shape.head unit) (shape.blocks unit) was.volume was.slots)
-    (slots_are : AreSlotsOf was.volume.vtoc (slot_of was.volume.device) was.slots (contents unit)) (state : IsStateOf (shape.head unit) (shape.blocks unit) (contents unit) (Online was.volume))
-    (short : AreShort (shape.blocks unit) (contents unit)) (model : UnitModel) (at : slice_get models unit ≡ Some model)
-    (is : IsOnlineUnit (shape.head unit) (shape.blocks unit) (contents unit) was.volume model) (may : MayChange was.volume change) (no_mark : change ≢ Mark) (texts : List Text)
-    (put : AreTextsPut (heads_of was.volume.device) (contents unit) change texts) where
+module _ (shape : Shape) (units : List UnitState) (fills : List Bool) (vtocs : List (List ℕ)) (contents : Image) (models : List UnitModel) (alone : AreAlone shape fills contents models)
+    (unit : ℕ) (closed : fills_of fills unit ≡ false) (change : Change) (rendered : Rendered) (was : WasRendered units vtocs unit change rendered)
+    (from : IsFromSlots false (shape.head unit) (shape.blocks unit) was.volume was.slots)
+    (slots_are : AreSlotsOf was.volume.vtoc (slot_of was.volume.device) was.slots (contents unit))
+    (state : IsStateOf false (shape.head unit) (shape.blocks unit) (contents unit) (Online was.volume)) (short : AreShort (shape.blocks unit) (contents unit))
+    (model : UnitModel) (at : slice_get models unit ≡ Some model) (is : IsOnlineUnit (shape.head unit) (shape.blocks unit) (contents unit) was.volume model)
+    (may : MayChange was.volume change) (no_mark : change ≢ Mark) (texts : List Text) (put : AreTextsPut (heads_of was.volume.device) (contents unit) change texts) where
   abbrev then : Image
   then = placed contents (map (entry_for unit) rendered.blocks)
 
@@ -190,13 +194,13 @@ module _ (shape : Shape) (units : List UnitState) (vtocs : List (List ℕ)) (con
       (unit_of is was.slots slots_are from.whole) may no_mark was.next was.loads was.written
       (after_blocks was.volume.vtoc (slot_of was.volume.device) rendered.blocks (contents unit) are_blocks) (short_after was from no_mark (contents unit) state short slots_are) put
 
-  in_place : IsReplaced shape unit is.before stood.0 then models
+  in_place : IsReplaced shape fills unit is.before stood.0 then models
   in_place =
-      replaced shape contents then models unit is.before stood.0 alone (at ∙ ap Some is.model_is)
+      replaced shape fills contents then models unit is.before stood.0 alone closed (at ∙ ap Some is.model_is)
       (subst (λ (slots : Slots). IsOnline false own_place (shape.head unit) (shape.blocks unit) slots stood.0) here stood.2)
       (placed_there unit rendered.blocks contents)
 
-  pub taken : IsTaken shape (placed contents (map (entry_for unit) rendered.blocks)) unit was.volume change texts is.before models
+  pub taken : IsTaken shape fills (placed contents (map (entry_for unit) rendered.blocks)) unit was.volume change texts is.before models
   taken = record {
     after = stood.0;
     gone = stood.1;

@@ -1,5 +1,5 @@
 -- What holds of plans, whatever carries them out.
-use Rattle.std.specs.Prelude.{◌≡◌, ◌≢◌, ℕ, ◌-◌, ◌/◌, ◌<◌, ◌≤◌, Bool, true, false, List, length, All}
+use Rattle.std.specs.Prelude.{◌≡◌, ◌≢◌, ℕ, ◌-◌, ◌/◌, ◌<◌, ◌≤◌, Bool, None, true, false, List, length, All}
 use Rattle.dasd_pool.specs.Calls.{size_in}
 use Rattle.dasd_pool.specs.Disk.{Image, Shape, State}
 use Rattle.redo_core.specs.Phases.{targets}
@@ -10,20 +10,20 @@ use Rattle.volume_change.specs.declared.change.Change.{Change}
 use Rattle.volume_change.specs.declared.change.Change.TheVariants.{Mark}
 use Rattle.unit_change.specs.vtoc_render.declared.change.Rendered.{Rendered}
 use Rattle.unit_load.specs.declared.state.UnitState.{UnitState}
-use Rattle.move_core.specs.Facts.{Facts}
+use Rattle.move_core.specs.Facts.{Facts, HasInputs}
 use Rattle.move_core.specs.Stands.{AreUnused, IsSettled}
-use Rattle.move_core.specs.Taking.{IsIdle, TakeUnits}
+use Rattle.move_core.specs.Taking.{IsQuiet}
 use Rattle.unit_steps.specs.declared.plan.Plan.{Plan}
-use Rattle.unit_steps.specs.Loaded.{HaveStates, AreLoaded, KeepVtocs, AreVtocsOf}
+use Rattle.unit_steps.specs.Loaded.{HaveStates, AreLoaded, HaveFills, TakeLoaded, KeepVtocs, AreVtocsOf}
 use Rattle.unit_steps.specs.Plans.{IsLoadedAt, IsPlan}
 use Rattle.unit_steps.specs.Rendering.{WereRendered, entries_of, AreReady, AreOfUnits, units_after, VtocsAfter}
 use Rattle.unit_steps.specs.Copied.{IsFreeAt, DifferOnFree, AreShortOn, AreHeld}
 
--- Of an idle pool whose volumes were loaded no meaning rests on a free track.
+-- Of a quiet pool whose volumes were loaded no meaning rests on a free track.
 abbrev pub FreeTracksMayBeWritten : Type 0
 FreeTracksMayBeWritten =
-    (facts : Facts) (state : State) (models : List UnitModel) (units : List UnitState) (room : ℕ) (may : ℕ → ℕ → Bool)
-    → AreLoaded facts.shape state.contents units → IsIdle facts.shape state room → (settled : IsSettled facts state models)
+    (facts : Facts) (state : State) (models : List UnitModel) (units : List UnitState) (room : ℕ) (fills : List Bool) (may : ℕ → ℕ → Bool)
+    → AreLoaded facts.shape state.contents units → HaveFills fills units → IsQuiet facts.shape state room fills → (settled : IsSettled facts state models)
     → ((u b : ℕ) → may u b ≡ true → IsFreeAt units u b) → AreUnused may facts.shape settled.stands.reading settled.stands.means.found
 
 -- Where only free tracks are written, each unit loads as it did, and the kept slots are those of the volumes.
@@ -60,6 +60,12 @@ SwitchedUnitsLoad =
     → AreLoaded shape (placed contents (entries_of changes rendered)) (units_after units changes rendered)
     × AreVtocsOf (placed contents (entries_of changes rendered)) (units_after units changes rendered) new
 
+-- With the rendered changes in place the units fit the same fills: one that is changed is online, before and after.
+abbrev pub SwitchedUnitsKeepFills : Type 0
+SwitchedUnitsKeepFills =
+    (fills : List Bool) (units : List UnitState) (vtocs : List (List ℕ)) (changes : List (ℕ × Change)) (rendered : List Rendered)
+    → HaveFills fills units → WereRendered units vtocs changes rendered → HaveFills fills (units_after units changes rendered)
+
 -- The entries of rendered changes are other slots than their blocks hold: a block that holds the same with them in place has none.
 abbrev pub UnchangedHaveNoEntry : Type 0
 UnchangedHaveNoEntry =
@@ -75,10 +81,10 @@ PlansAreSmall =
     → AreOfUnits plan.changes × (length plan.changes ≤ 2) × All (λ change. change.1 ≢ Mark) plan.changes
 
 -- A plan was made on the volumes as they were loaded, and its changes rendered; then free tracks were written, and hold the texts that the plan puts
--- there. Now the entries of its changes take the units by its step.
+-- there. Now the entries of its changes take the units by its step, whatever the inputs hold.
 abbrev pub PlansTakeUnits : Type 0
 PlansTakeUnits =
     (shape : Shape) (room : ℕ) (old new : Image) (units : List UnitState) (vtocs : List (List ℕ)) (plan : Plan) (rendered : List Rendered)
     → HaveStates shape units → AreLoaded shape old units → KeepVtocs shape units vtocs → AreVtocsOf old units vtocs → IsPlan units plan
     → WereRendered units vtocs plan.changes rendered → DifferOnFree units old new → AreShortOn shape new → AreHeld units plan.tracks plan.changes old new
-    → TakeUnits shape room new plan.step (entries_of plan.changes rendered)
+    → TakeLoaded (HasInputs None) shape room units new plan.step (entries_of plan.changes rendered)

@@ -22,9 +22,8 @@ use Rattle.move_core.specs.declared.steps.Origin.TheVariants as origins
 use Rattle.move_core.specs.declared.steps.Step.TheVariants as steps
 use Rattle.move_core.specs.Facts.{Facts, Original}
 use Rattle.move_core.specs.Steps.{LieOnCylinders, extents_on, fields_at, tracks_for, empty_text}
-use Rattle.move_core.specs.Taking.{TakeUnitsFor}
 use Rattle.unit_steps.specs.Copied.{DifferOnFree, AreShortOn}
-use Rattle.unit_steps.specs.Loaded.{HaveStates, AreLoaded, KeepVtocs, AreVtocsOf}
+use Rattle.unit_steps.specs.Loaded.{HaveStates, AreLoaded, TakeLoaded, KeepVtocs, AreVtocsOf}
 use Rattle.unit_steps.specs.Plans.{IsLoadedAt, IsRowWith, putting, tracks_in}
 use Rattle.unit_steps.specs.Rendering.{WereRendered, entries_of}
 
@@ -64,4 +63,4 @@ PartsTakeUnits =
     (changes : List (ℕ × Change)) (rendered : List Rendered)
     → HaveStates shape units → AreLoaded shape old units → KeepVtocs shape units vtocs → AreVtocsOf old units vtocs
     → (plan : PlansPart false units original unit name to changes) → WereRendered units vtocs changes rendered → DifferOnFree units old new → AreShortOn shape new → GivesPart plan new
-    → TakeUnitsFor (HoldsPart input number original) shape room [] new (steps.Add unit name to (origins.Part input number)) (entries_of changes rendered)
+    → TakeLoaded (HoldsPart input number original) shape room units new (steps.Add unit name to (origins.Part input number)) (entries_of changes rendered)

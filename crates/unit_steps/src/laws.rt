@@ -1,7 +1,7 @@
 //! What holds of plans, of the tracks that are copied for one, and of the commit that makes its step.
 
 ghost use Rattle.unit_steps.specs.Parts.{PartsTakeUnits};
-ghost use Rattle.unit_steps.specs.Laws.{FreeTracksMayBeWritten, CopiedUnitsLoad, PlansAreSmall, EntriesAreReady, UnchangedHaveNoEntry, PatchedVtocsAreKept, SwitchedUnitsLoad, PlansTakeUnits};
+ghost use Rattle.unit_steps.specs.Laws.{FreeTracksMayBeWritten, CopiedUnitsLoad, PlansAreSmall, EntriesAreReady, UnchangedHaveNoEntry, PatchedVtocsAreKept, SwitchedUnitsLoad, SwitchedUnitsKeepFills, PlansTakeUnits};
 
 /// Free tracks may be written: no meaning rests on one, and each unit loads as it did.
 pub fn copying_laws()
@@ -10,7 +10,7 @@ pub fn copying_laws()
 {}
 
 /// The rendered tracks of a plan's changes fit one commit, which writes no block that stays the same and takes the units by the plan's step; then each
-/// unit loads as it was rendered.
+/// unit loads as it was rendered, and fits whether a fill is open on it.
 pub fn switching_laws()
     ensures small { PlansAreSmall }
     ensures ready { EntriesAreReady }
@@ -19,4 +19,5 @@ pub fn switching_laws()
     ensures takes { PlansTakeUnits }
     ensures parts { PartsTakeUnits }
     ensures loads { SwitchedUnitsLoad }
+    ensures fills { SwitchedUnitsKeepFills }
 {}

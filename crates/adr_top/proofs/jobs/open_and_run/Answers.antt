@@ -14,9 +14,10 @@ returns-in-Ok-clause-ends g c =
     let out = sink_seen g.O.Sink c.args.out.now c.run_script.new.out in
     let left = after_of c.run_script.result in
     record {
-      run = opens_run g.P.Pool c.args.pool session plan held c.args.today _ out left does.run (λ told facts units same settled. does.facts told facts units same settled) c.run_script.ensures.ends;
+      run = opens_run g.P.Pool c.args.pool session plan held c.args.today _ out left does.run (λ told facts units same settled. does.facts told facts units same settled)
+          (λ told facts units same stands. does.stands told facts units same stands) c.run_script.ensures.ends;
       how = inr (runs_text g.P.Pool c.args.pool session plan held c.args.today _ out left does.run (λ told facts units same settled. does.facts told facts units same settled)
-          c.run_script.ensures.ends c.args.serials.now (λ told. does.allowed told) (λ told. does.runs told) (λ told. does.closed told));
+          (λ told facts units same stands. does.stands told facts units same stands) c.run_script.ensures.ends c.args.serials.now (λ told. does.allowed told) (λ told. does.runs told) (λ told. does.closed told));
     }
 
 pub returns-in-Err-clause-ends : goal.returns-in-Err-clause-ends

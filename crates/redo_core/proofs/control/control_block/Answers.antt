@@ -1,15 +1,7 @@
-use Rattle.std.proofs.Common.{arith}
-use Rattle.redo_core.proofs.ControlTexts.{first_put, is_text, says_control}
+use Rattle.std.proofs.Common.{ℕ, zero, List, drop, ap, ◌∙◌}
+use Rattle.std.proofs.lemmas.List.{drop-replicate}
+use Rattle.redo_core.specs.Format.{wide}
 use Rattle.redo_core.proofs.control.control_block.Goals as goal
 
-pub returns-clause-text : goal.returns-clause-text
-returns-clause-text c =
-    is_text c.args.control c.args.filling c.put_over.new.self c.put_over-2.new.self c.bits.result c.front.ensures.fits
-    (first_put c.args.control c.in_ok-block.block c.front.result c.put_over.new.self c.in_ok-block.ensures c.front.ensures.text c.put_over.ensures)
-    c.put_over-2.ensures (omega arith) c.bits.ensures
-
-pub returns-clause-says : goal.returns-clause-says
-returns-clause-says c =
-    says_control c.args.control c.args.filling c.put_over.new.self c.put_over-2.new.self c.bits.result c.front.ensures.fits
-    (first_put c.args.control c.in_ok-block.block c.front.result c.put_over.new.self c.in_ok-block.ensures c.front.ensures.text c.put_over.ensures)
-    c.put_over-2.ensures (omega arith) c.bits.ensures
+pub put_status-requires-clause-behind : goal.put_status-requires-clause-behind
+put_status-requires-clause-behind c = ap (λ (l : List ℕ). drop 128 l) c.in_ok-block.ensures ∙ drop-replicate 128 wide zero

@@ -1,5 +1,5 @@
-use Rattle.redo_core.proofs.ControlTexts.{control_added}
+use Rattle.redo_core.proofs.ControlTexts.{lawful_block}
 use Rattle.redo_core.proofs.laws.control_laws.Goals as goal
 
 pub returns : goal.returns
-returns c = control_added
+returns c = lawful_block

@@ -10,5 +10,5 @@ stop_of-requires c =
     of_check (IsFrontBreach c.args.head (λ _. c.args.slot.now) c.args.label.now.vtoc) c.in-Err.fault (c.in-Err.ensures.fault (λ _. c.args.slot.now) refl)
 
 pub returns-in-Err-clause-stop : goal.returns-in-Err-clause-stop
-returns-in-Err-clause-stop c = λ slots here.
-    subst (λ (stop : Stop). IsVtocStop c.args.head slots c.args.label.now stop) (sym c.stop_of.ensures) (front_stop c.args.head slots c.args.label.now c.in-Err.fault (c.in-Err.ensures.fault slots here))
+returns-in-Err-clause-stop c = λ sliding slots here.
+    subst (λ (stop : Stop). IsVtocStop sliding c.args.head slots c.args.label.now stop) (sym c.stop_of.ensures.stop) (front_stop sliding c.args.head slots c.args.label.now c.in-Err.fault (c.in-Err.ensures.fault slots here))

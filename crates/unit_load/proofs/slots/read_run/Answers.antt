@@ -1,5 +1,6 @@
-use Rattle.std.proofs.Common.{◌≡◌, ℕ, ◌+◌, ◌*◌, List, ◌++◌, length, sym, ap, ◌∙◌, refl, arith, length-append}
+use Rattle.std.proofs.Common.{◌≡◌, ℕ, ◌+◌, ◌*◌, List, ◌++◌, length, sym, ap, subst, ◌∙◌, refl, arith, length-append}
 use Rattle.dasd_pool.specs.Disk.{Shape, State}
+use Rattle.unit_load.specs.Hand.{with_hand}
 use Rattle.unit_load.proofs.Reading.{reads_then}
 use Rattle.unit_load.proofs.Slotted.{slots_more, long_added, one_more}
 use Rattle.unit_load.proofs.slots.read_run.Goals as goal
@@ -24,18 +25,17 @@ loop-place-preserved g c =
     record {
       reads = reads_then g.P.Pool _ _ _ inv.reads c.add_slot.ensures.reads;
       long = long_added size place old adds.slot new adds.new_is inv.long long;
-      hand = λ k less.
-          slots_more (λ (k : ℕ) (slot : List ℕ). first + k ≡ c.args.hand.track → slot ≡ c.args.hand.slot.now) size place k old adds.slot new adds.new_is inv.long long
-          adds.at_hand inv.hand less;
+      taken = λ k less.
+          slots_more (λ (k : ℕ) (slot : List ℕ). first + k ≡ c.args.taken.track → slot ≡ c.args.taken.slot.now) size place k old adds.slot new adds.new_is inv.long long
+          adds.as_taken inv.taken less;
       slots = λ told here k less.
-          let there : c.args.hand.slot.now ≡ (g.P.Pool.disk c.loop-place.journal.pool).state.contents unit c.args.hand.track =
-          here ∙ ap (λ (s : State). s.contents unit c.args.hand.track) (sym (inv.reads.same told)) in
-          let now = (g.P.Pool.disk c.loop-place.journal.pool).state.contents unit (first + place) in
-          let was = (g.P.Pool.disk c.args.journal.now.pool).state.contents unit (first + place) in
-          let same : now ≡ was = ap (λ (s : State). s.contents unit (first + place)) (inv.reads.same told) in
-          let is : new ≡ old ++ was = c.in_ok-add_slot.ensures.read told there ∙ ap (λ (l : List ℕ). old ++ l) same in
+          let there : c.args.taken.slot.now ≡ with_hand c.args.hand ((g.P.Pool.disk c.loop-place.journal.pool).state.contents unit) c.args.taken.track =
+          subst (λ (s : State). c.args.taken.slot.now ≡ with_hand c.args.hand (s.contents unit) c.args.taken.track) (sym (inv.reads.same told)) here in
+          let was = with_hand c.args.hand ((g.P.Pool.disk c.args.journal.now.pool).state.contents unit) (first + place) in
+          let is : new ≡ old ++ was =
+          subst (λ (s : State). new ≡ old ++ with_hand c.args.hand (s.contents unit) (first + place)) (inv.reads.same told) (c.in_ok-add_slot.ensures.read told there) in
           let whole : length new ≡ (place + 1) * size = long_added size place old adds.slot new adds.new_is inv.long long in
           let long_was : length was ≡ size = omega (arith, whole, ap length is, length-append old was, inv.long, one_more place size) in
-          slots_more (λ (k : ℕ) (slot : List ℕ). slot ≡ (g.P.Pool.disk c.args.journal.now.pool).state.contents unit (first + k)) size place k old was new is inv.long long_was
+          slots_more (λ (k : ℕ) (slot : List ℕ). slot ≡ with_hand c.args.hand ((g.P.Pool.disk c.args.journal.now.pool).state.contents unit) (first + k)) size place k old was new is inv.long long_was
           refl (inv.slots told here) less;
     }

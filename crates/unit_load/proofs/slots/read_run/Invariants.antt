@@ -1,4 +1,5 @@
 use Rattle.std.proofs.Common.{ℕ, ◌≡◌, ◌<◌, ◌+◌, ◌*◌, length}
+use Rattle.unit_load.specs.Hand.{with_hand}
 use Rattle.unit_load.specs.Reads.{OnlyReads}
 use Rattle.unit_load.proofs.Slotted.{nth_slot}
 use Rattle.unit_load.proofs.slots.read_run.Given as goal
@@ -10,7 +11,7 @@ invariant-loop-place g l =
     record {
       reads : OnlyReads g.P.Pool l.fn.journal l.journal;
       long : length l.slots.items ≡ l.place * size;
-      hand : (k : ℕ) → k < l.place → l.run.first + k ≡ l.hand.track → nth_slot size l.slots.items k ≡ l.hand.slot.now;
-      slots : g.P.Pool.tells → l.hand.slot.now ≡ (g.P.Pool.disk l.fn.journal.pool).state.contents l.unit l.hand.track
-          → (k : ℕ) → k < l.place → nth_slot size l.slots.items k ≡ (g.P.Pool.disk l.fn.journal.pool).state.contents l.unit (l.run.first + k);
+      taken : (k : ℕ) → k < l.place → l.run.first + k ≡ l.taken.track → nth_slot size l.slots.items k ≡ l.taken.slot.now;
+      slots : g.P.Pool.tells → l.taken.slot.now ≡ with_hand l.hand ((g.P.Pool.disk l.fn.journal.pool).state.contents l.unit) l.taken.track
+          → (k : ℕ) → k < l.place → nth_slot size l.slots.items k ≡ with_hand l.hand ((g.P.Pool.disk l.fn.journal.pool).state.contents l.unit) (l.run.first + k);
     }

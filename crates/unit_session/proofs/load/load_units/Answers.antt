@@ -1,7 +1,7 @@
 use Rattle.std.proofs.Common.{◌≡◌, List, [], ◌∷◌, ◌++◌, length, ap, arith, length-append}
 use Rattle.unit_load.specs.declared.state.UnitState.{UnitState}
 use Rattle.unit_load.proofs.Reading.{reads_then}
-use Rattle.unit_session.proofs.Loading.{loaded_more, kept_more, vtocs_more}
+use Rattle.unit_session.proofs.Loading.{loaded_more, fills_more, kept_more, vtocs_more}
 use Rattle.unit_session.proofs.load.load_units.Goals as goal
 
 pub returns-in_err-state-clause-reads : goal.returns-in_err-state-clause-reads
@@ -41,4 +41,5 @@ loop-unit-preserved g c =
       slots = λ told.
           vtocs_more units later vtocs after unit state slots inv.count inv.whole is are (g.P.Pool.disk was).state (g.P.Pool.disk now).state (inv.reads.same told) (inv.slots told)
           (found.slots told);
+      fills = fills_more c.args.journal.now.fills c.loop-unit.journal.fills units later unit state inv.reads.status.fills inv.count is inv.fills found.fill;
     }

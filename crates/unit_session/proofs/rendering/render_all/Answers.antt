@@ -9,7 +9,9 @@ render_one-requires c =
 pub returns-in_err-one-clause-fault : goal.returns-in_err-one-clause-fault
 returns-in_err-one-clause-fault c =
     let p = err_from_is_err_and c.from_residual.result c.from_residual.ensures.1 in
-    rw (p.1, p.2) (fault_at c.args.units.now c.args.changes.now c.loop-unit.unit-index c.loop-unit-item.result _ c.loop-unit-test.true c.loop-unit-item.is c.in_err-one.ensures.fault)
+    rw (p.1, p.2)
+    (fault_at c.args.units.now c.args.vtocs.now c.args.changes.now c.loop-unit.unit-index c.loop-unit-item.result c.loop-unit.rendered.items _ c.loop-unit-test.true c.loop-unit-item.is
+    c.requires.volumes c.loop-unit.invariant c.in_err-one.ensures.fault)
 
 pub loop-unit-preserved : goal.loop-unit-preserved
 loop-unit-preserved c =

@@ -12,5 +12,6 @@ invariant_of-result g c =
       subst (λ (s : Shape). IsJournal s (c.units-unit.result - 1) f.room) (sym same) c.in-Ok-open_on.ensures.journal,
       c.in-Ok-open_on.ensures.least,
       grind (arith, common_steps),
+      c.in-Ok-spare_for.ensures,
       λ told. subst (λ (s : Shape). IsAtRest s (g.P.Pool.disk c.open_on.new.pool).state f.room f.control f.fills) (sym same) (c.in-Ok-open_on.ensures.rest told),
     )

@@ -1,6 +1,6 @@
 use Rattle.std.proofs.Common.{refl, sym, ap, subst, ◌∙◌}
 use Rattle.dasd_pool.specs.Disk.{Shape}
-use Rattle.move_core.proofs.Running.{idle_at_rest, run_quiet}
+use Rattle.move_core.proofs.Running.{quiet_at_rest, run_quiet}
 use Rattle.redo_core.specs.Reading.{journal_of}
 use Rattle.unit_steps.specs.Loaded.{AreLoaded, AreVtocsOf}
 use Rattle.unit_session.specs.Planned.{IsReady}
@@ -22,14 +22,14 @@ invariant_of-result g c =
       plan = p.plan;
       copies = p.work.copies;
       rendered = p.work.rendered.items;
-      entries = p.work.entries;
-    }) p.work.slot.items =
-    subst (λ (v : SessionView _). IsReady g.P.Pool (record { session = v; plan = p.plan; copies = p.work.copies; rendered = p.work.rendered.items; entries = p.work.entries }) p.work.slot.items)
+      entries = p.work.entries.blocks;
+    }) p.work.slot.items p.work.entries.control =
+    subst (λ (v : SessionView _). IsReady g.P.Pool (record { session = v; plan = p.plan; copies = p.work.copies; rendered = p.work.rendered.items; entries = p.work.entries.blocks }) p.work.slot.items p.work.entries.control)
     (sym c.session.view_is) c.self.invariant in
     let volumes : g.P.Pool.tells → AreLoaded (g.P.Pool.shape new.pool) (g.P.Pool.disk new.pool).state.contents s.units.items × AreVtocsOf (g.P.Pool.disk new.pool).state.contents s.units.items s.vtocs.items =
     λ told.
     volumes_copied g.P.Pool old new s.units.items s.vtocs.items p.plan p.work.copies inv.2 inv.3 ready.plan ready.copies does.writes told (inv.4 told) (inv.5 told) (c.in-Ok.ensures.short told) in (
-      still_free does.writes.shape does.writes.status.control does.writes.status.fills inv.0,
+      still_free does.writes.status.control does.writes.status.fills inv.0,
       inv.1 ∙ ap (λ (shape : Shape). journal_of shape) (sym does.writes.shape),
       inv.2 ∙ ap (λ (shape : Shape). journal_of shape) (sym does.writes.shape),
       still_kept s.units.items s.vtocs.items does.writes.shape inv.3,
@@ -51,19 +51,20 @@ invariant_of-result-in-Ok g c =
       plan = p.plan;
       copies = p.work.copies;
       rendered = p.work.rendered.items;
-      entries = p.work.entries;
-    }) p.work.slot.items =
-    subst (λ (v : SessionView _). IsReady g.P.Pool (record { session = v; plan = p.plan; copies = p.work.copies; rendered = p.work.rendered.items; entries = p.work.entries }) p.work.slot.items)
+      entries = p.work.entries.blocks;
+    }) p.work.slot.items p.work.entries.control =
+    subst (λ (v : SessionView _). IsReady g.P.Pool (record { session = v; plan = p.plan; copies = p.work.copies; rendered = p.work.rendered.items; entries = p.work.entries.blocks }) p.work.slot.items p.work.entries.control)
     (sym c.session.view_is) c.self.invariant in
     record {
       plan = ready.plan;
       rendered = ready.rendered;
       entries_are = ready.entries_are;
-      entries = entries_copied g.P.Pool old new s.units.items s.vtocs.items p.plan p.work.copies inv.2 inv.3 ready.plan ready.copies does.writes p.work.entries ready.entries;
+      entries = entries_copied g.P.Pool old new s.units.items s.vtocs.items p.plan p.work.copies inv.2 inv.3 ready.plan ready.copies does.writes p.work.entries.blocks ready.entries;
+      alone = ready.alone;
       synced = c.in-Ok.ensures.synced;
       takes = λ told.
           takes_copied g.P.Pool old new s.units.items s.vtocs.items p.plan p.work.copies inv.2 inv.3 ready.plan ready.copies does.writes told (inv.4 told) (inv.5 told)
-          (c.in-Ok.ensures.short told) p.work.rendered.items ready.rendered (ready.texts told) (c.in-Ok.ensures.copied told) p.work.entries ready.entries_are;
+          (c.in-Ok.ensures.short told) p.work.rendered.items ready.rendered (ready.texts told) (c.in-Ok.ensures.copied told) p.work.entries.blocks ready.entries_are;
     }
 
 pub returns-in-Ok-clause-run : goal.returns-in-Ok-clause-run
@@ -77,15 +78,15 @@ returns-in-Ok-clause-run g c =
       plan = p.plan;
       copies = p.work.copies;
       rendered = p.work.rendered.items;
-      entries = p.work.entries;
-    }) p.work.slot.items =
-    subst (λ (v : SessionView _). IsReady g.P.Pool (record { session = v; plan = p.plan; copies = p.work.copies; rendered = p.work.rendered.items; entries = p.work.entries }) p.work.slot.items)
+      entries = p.work.entries.blocks;
+    }) p.work.slot.items p.work.entries.control =
+    subst (λ (v : SessionView _). IsReady g.P.Pool (record { session = v; plan = p.plan; copies = p.work.copies; rendered = p.work.rendered.items; entries = p.work.entries.blocks }) p.work.slot.items p.work.entries.control)
     (sym c.session.view_is) c.self.invariant in
     rw (sym c.self.view_is)
     (rw (sym c.session.view_is)
     (run_quiet writes.shape writes.later (λ no. absurd (no (tt {0})))
     (writes_unused (g.P.Pool.shape s.journal.pool) (g.P.Pool.disk s.journal.pool).state s.units.items s.vtocs.items p.plan p.work.copies inv.2 inv.3 ready.plan ready.copies
-    (λ told. inv.4 told) (λ told. idle_at_rest (c.control-control.ensures.says told) inv.0.idle inv.0.closed))
+    (λ told. inv.4 told) inv.0.fit (λ told. quiet_at_rest (c.rests.ensures told) inv.0.idle))
     writes.runs))
 
 pub returns-in-Err-clause-run : goal.returns-in-Err-clause-run
@@ -99,16 +100,16 @@ returns-in-Err-clause-run g c =
       plan = p.plan;
       copies = p.work.copies;
       rendered = p.work.rendered.items;
-      entries = p.work.entries;
-    }) p.work.slot.items =
-    subst (λ (v : SessionView _). IsReady g.P.Pool (record { session = v; plan = p.plan; copies = p.work.copies; rendered = p.work.rendered.items; entries = p.work.entries }) p.work.slot.items)
+      entries = p.work.entries.blocks;
+    }) p.work.slot.items p.work.entries.control =
+    subst (λ (v : SessionView _). IsReady g.P.Pool (record { session = v; plan = p.plan; copies = p.work.copies; rendered = p.work.rendered.items; entries = p.work.entries.blocks }) p.work.slot.items p.work.entries.control)
     (sym c.session.view_is) c.self.invariant in
     rw (sym c.self.view_is)
     (rw (sym c.session.view_is)
     (rw c.into_pool.ensures
     (run_quiet writes.shape writes.later (λ never. c.in-Err.ensures.cause refl)
     (writes_unused (g.P.Pool.shape s.journal.pool) (g.P.Pool.disk s.journal.pool).state s.units.items s.vtocs.items p.plan p.work.copies inv.2 inv.3 ready.plan ready.copies
-    (λ told. inv.4 told) (λ told. idle_at_rest (c.control-control.ensures.says told) inv.0.idle inv.0.closed))
+    (λ told. inv.4 told) inv.0.fit (λ told. quiet_at_rest (c.rests.ensures told) inv.0.idle))
     writes.runs)))
 
 pub returns-in-Ok-clause-writes : goal.returns-in-Ok-clause-writes

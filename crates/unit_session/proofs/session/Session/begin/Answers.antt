@@ -5,8 +5,8 @@ use Rattle.vol_label.specs.declared.serial.Serial.{Serial}
 use Rattle.redo_core.specs.Reading.{journal_of}
 use Rattle.move_core.proofs.Running.{finished_at_rest, run_less, run_opened, run_refused, run_still, run_then}
 use Rattle.standing_units.proofs.Standing.{opened_stands, settled_at}
-use Rattle.unit_session.specs.Sessions.{HasNothingOpen}
-use Rattle.unit_session.proofs.Beginning.{pool_cause, opened_reads}
+use Rattle.unit_session.specs.Sessions.{HasOnlyFills}
+use Rattle.unit_session.proofs.Beginning.{pool_cause, opened_reads, stood_settled}
 use Rattle.unit_session.proofs.Loading.{still_free, still_rest, still_loaded, still_kept, still_vtocs}
 use Rattle.unit_session.proofs.Modelling.{models_at}
 use Rattle.unit_session.proofs.Registered.{registered}
@@ -26,8 +26,8 @@ invariant_of-result g c =
     let reads = c.loaded.ensures.reads in
     let found = c.in-Ok-loaded.ensures in
     let volumes = ap (λ (s : Shape). journal_of s) (sym reads.shape) in
-    let free : HasNothingOpen (g.P.Pool.shape c.args.pool) c.in-Ok.journal.control c.in-Ok.journal.fills = record { idle = does.idle.0; closed = does.idle.1 } in (
-      still_free (reads.shape ∙ does.shape) reads.status.control reads.status.fills free,
+    let free : HasOnlyFills c.in-Ok.journal.control c.in-Ok.journal.fills c.in-Ok-loaded.found.units.items = record { idle = does.idle; fit = found.fills } in (
+      still_free reads.status.control reads.status.fills free,
       ap (λ (l : List Serial). length l) found.names ∙ c.requires.each ∙ ap (λ (s : Shape). journal_of s) (sym does.shape) ∙ volumes,
       found.count ∙ volumes,
       still_kept c.in-Ok-loaded.found.units.items c.in-Ok-loaded.found.vtocs.items reads.shape found.kept,
@@ -48,10 +48,10 @@ returns-in-Ok-loaded-clause-units g c told facts models same settled =
     let reads = c.loaded.ensures.reads in
     let found = c.in-Ok-loaded.ensures in
     let units = c.in-Ok-loaded.found.units.items in
-    let free : HasNothingOpen (g.P.Pool.shape c.args.pool) c.in-Ok.journal.control c.in-Ok.journal.fills = record { idle = does.idle.0; closed = does.idle.1 } in
+    let free : HasOnlyFills c.in-Ok.journal.control c.in-Ok.journal.fills units = record { idle = does.idle; fit = found.fills } in
     models_at same settled units
     (still_rest reads.shape (reads.same told) (still_rest does.shape refl (does.rest told)))
-    (still_free (reads.shape ∙ does.shape) refl refl free)
+    free
     (found.count ∙ ap (λ (s : Shape). journal_of s) (sym reads.shape))
     (still_loaded units reads.shape (reads.same told) (found.loaded told))
 
@@ -69,7 +69,7 @@ pub returns-in-Ok-loaded-clause-closed : goal.returns-in-Ok-loaded-clause-closed
 returns-in-Ok-loaded-clause-closed g c told =
     let does = c.in-Ok.ensures in
     let reads = c.loaded.ensures.reads in
-    finished_at_rest (still_rest reads.shape (reads.same told) (still_rest does.shape refl (does.rest told))) does.idle.0
+    finished_at_rest (still_rest reads.shape (reads.same told) (still_rest does.shape refl (does.rest told))) does.idle
 
 pub returns-in-Ok-loaded-clause-runs : goal.returns-in-Ok-loaded-clause-runs
 returns-in-Ok-loaded-clause-runs g c told = opened_reads (c.in-Ok.ensures.runs told) (c.loaded.ensures.reads.runs told)
@@ -99,3 +99,6 @@ returns-in-Ok-loaded-clause-settled g c told =
     let does = c.in-Ok.ensures in
     let reads = c.loaded.ensures.reads in
     settled_at (reads.shape ∙ does.shape) (reads.same told) (opened_stands _ _ _ _ _ _ _ (does.allowed told) (does.opened told))
+
+pub returns-in-Ok-loaded-clause-stands : goal.returns-in-Ok-loaded-clause-stands
+returns-in-Ok-loaded-clause-stands g c told facts models same stood = stood_settled same (c.loaded.ensures.reads.same told) (c.in-Ok.ensures.opened told) stood

@@ -105,7 +105,7 @@ returns-in-Ok-true-clause-texts g c = λ told facts models volume set same settl
     subst (λ (l : List UnitState). AreTracksAt l c.args.unit c.args.name.now found.device found.tracks.items) c.deref.ensures.value c.in-Ok.ensures in
     subst (λ (good : Bool). IsTrue good ↔ All IsGood set.texts) c.in-Ok-true.field-0-test
     (texts_told (same ∙ ap g.P.Pool.shape (sym pool_is)) (subst (λ pool. IsSettled facts (g.P.Pool.disk pool).state models) (sym pool_is) settled) s.units.items c.args.unit c.args.name.now found.device
-    found.tracks.items (c.control-control.ensures.says told) was.0 was.2 (was.4 told) at volume set there held named c.in-Ok-true.field-0 (c.in-Ok-true.ensures.texts told))
+    found.tracks.items (c.rests.ensures told) was.0 was.2 (was.4 told) at volume set there held named c.in-Ok-true.field-0 (c.in-Ok-true.ensures.texts told))
 
 pub returns-in-Ok-false-clause-texts : goal.returns-in-Ok-false-clause-texts
 returns-in-Ok-false-clause-texts g c = λ told facts models volume set same settled there held named.
@@ -117,7 +117,7 @@ returns-in-Ok-false-clause-texts g c = λ told facts models volume set same sett
     subst (λ (l : List UnitState). AreTracksAt l c.args.unit c.args.name.now found.device found.tracks.items) c.deref.ensures.value c.in-Ok.ensures in
     subst (λ (good : Bool). IsTrue good ↔ All IsGood set.texts) c.in-Ok-false.field-0-test
     (texts_told (same ∙ ap g.P.Pool.shape (sym pool_is)) (subst (λ pool. IsSettled facts (g.P.Pool.disk pool).state models) (sym pool_is) settled) s.units.items c.args.unit c.args.name.now found.device
-    found.tracks.items (c.control-control.ensures.says told) was.0 was.2 (was.4 told) at volume set there held named c.in-Ok-false.field-0 (c.in-Ok-false.ensures.texts told))
+    found.tracks.items (c.rests.ensures told) was.0 was.2 (was.4 told) at volume set there held named c.in-Ok-false.field-0 (c.in-Ok-false.ensures.texts told))
 
 pub returns-in-Ok-true-clause-run : goal.returns-in-Ok-true-clause-run
 returns-in-Ok-true-clause-run g c =

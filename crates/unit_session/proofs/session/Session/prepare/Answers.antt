@@ -15,6 +15,7 @@ use Rattle.unit_session.specs.Planned.{AreRenderFault, HaveAllTexts, HaveVolumes
 use Rattle.unit_session.specs.Sessions.{SessionView}
 use Rattle.unit_session.proofs.CopyMay.{may_copy}
 use Rattle.unit_session.proofs.PlanVolumes.{have_volumes}
+use Rattle.redo_core.specs.Statuses.{EntriesView}
 use Rattle.unit_session.proofs.Prepared.{rows_are_named, bar_fault, look_fault, render_fault, session_read, all_ready}
 use Rattle.unit_session.proofs.Seen.{texts_seen}
 use Rattle.unit_session.proofs.session.Session.prepare.Goals as goal
@@ -182,7 +183,8 @@ returns-clause-ready g c =
     (subst (λ (l : List (List ℕ)). WereRendered c.deref-3.result.now l c.args.plan.now.changes c.in_ok-rendered.rendered.items) c.deref-4.ensures.value
     (subst (λ (l : List (ℕ × Change)). WereRendered c.deref-3.result.now c.deref-4.result.now l c.in_ok-rendered.rendered.items) c.as_slice-changes.ensures c.in_ok-rendered.ensures.rendered)) in
     all_ready g.P.Pool s.journal c.look_unless_seen.new.journal s.names.items s.units.items s.vtocs.items c.look_unless_seen.ensures.reads c.args.plan.now c.in_ok-copies.copies c.in_ok-rendered.rendered.items
-    c.in_ok-entries.entries slot c.self.invariant.2 c.self.invariant.3 is c.are_sized.ensures here copied
+    c.in_ok-entries.entries.blocks slot c.in_ok-entries.entries.control c.self.invariant.2 c.self.invariant.3 is c.are_sized.ensures here copied
     (subst (λ (n : ℕ). OnCopies (λ some. n ≡ slot_of some.device) c.in_ok-copies.copies) (sym wide) c.in_ok-slot.ensures.size)
     c.in_ok-look_unless_seen.ensures.texts were
-    (c.in_ok-entries.ensures ∙ (λ i. entries_of (c.as_slice-changes.ensures i) (c.deref-5.ensures.value i)))
+    (ap (λ (e : EntriesView). e.blocks) c.in_ok-entries.ensures ∙ (λ i. entries_of (c.as_slice-changes.ensures i) (c.deref-5.ensures.value i)))
+    (ap (λ (e : EntriesView). e.control) c.in_ok-entries.ensures)

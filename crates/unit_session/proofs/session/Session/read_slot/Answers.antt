@@ -10,7 +10,7 @@ invariant_of-self g c =
     let does = c.read.ensures in
     let was = c.self.invariant in
     let volumes = ap (λ (s : Shape). journal_of s) (sym does.shape) in (
-      still_free does.shape does.status.control does.status.fills was.0,
+      still_free does.status.control does.status.fills was.0,
       was.1 ∙ volumes,
       was.2 ∙ volumes,
       still_kept c.self.inside.units.items c.self.inside.vtocs.items does.shape was.3,

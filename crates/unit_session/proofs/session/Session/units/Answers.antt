@@ -10,7 +10,7 @@ returns-clause-models g c told facts models same settled =
     let pool_is = ap (λ view. view.pool) c.self.view_is in
     subst (λ view. AreModels view.units models) c.self.view_is
     (models_at (same ∙ ap g.P.Pool.shape (sym pool_is)) (subst (λ pool. IsSettled facts (g.P.Pool.disk pool).state models) (sym pool_is) settled)
-    c.self.inside.units.items (c.control-control.ensures.says told) was.0 was.2 (was.4 told))
+    c.self.inside.units.items (c.rests.ensures told) was.0 was.2 (was.4 told))
 
 pub returns-clause-vtocs : goal.returns-clause-vtocs
 returns-clause-vtocs g c told = subst (λ view. AreVtocsOf (g.P.Pool.disk view.pool).state.contents view.units view.vtocs) c.self.view_is (c.self.invariant.5 told)
