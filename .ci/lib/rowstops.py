@@ -123,6 +123,8 @@ class Stops:
         listing = rowrun.rowfile.Run()
         listing.sysin = text
         self.listing, self.text = rowrun.words_of(program, row, listing), text.encode()
+        fills = self.place.files().get(rowrun.JOURNAL, b"")[CONTROL][64 : 64 + len(row.on)]
+        self.listed = 12 if 1 in fills else 0
 
     def moment_of(self, files):
         """At which of its moments the volumes are: of its free tracks those that the run writes may hold anything."""
@@ -154,7 +156,7 @@ class Stops:
             found = self.read()
             moment = self.moment_of(found) if {*found} == {*files} else None
             is_closed = self.is_closed(found[rowrun.JOURNAL])
-            if status or moment is None or not is_closed:
+            if status != self.listed or moment is None or not is_closed:
                 at = "no moment" if moment is None else f"moment {moment}"
                 self.said.append(f"{what}: status {status}, volumes of {at}, a journal that is {'closed' if is_closed else 'open'}")
             self.known[key] = moment, found != files
