@@ -1,9 +1,10 @@
 """Volumes and journals byte by byte, from what they mean. A second hand beside the product's own writers: nothing here reads its code."""
+import collections
 import datetime
 import math
 
-HEADS = 15
-SLOTS = {"3390": 56832, "3380": 47616}
+Device = collections.namedtuple("Device", "byte heads slot records")
+DEVICES = {"3390": Device(0x90, 15, 56832, 50), "3380": Device(0x80, 15, 47616, 53), "3350": Device(0x50, 30, 19456, 47)}
 BLOCK = 65536
 ORGANIZATIONS = {"PS": 0x4000, "DA": 0x2000, "IS": 0x8000, "PO": 0x0200, "VS": 0x0008, "PSU": 0x4100, "POU": 0x0300, "--": 0}
 VALIDITY, INDEX = 0x80, 0x01
@@ -17,13 +18,13 @@ def ebcdic(text, size):
     return text.encode("cp037").ljust(size, b"\x40")
 
 
-def address(track):
+def address(track, heads):
     """Cylinder and head."""
-    return big(track // HEADS, 2) + big(track % HEADS, 2)
+    return big(track // heads, 2) + big(track % heads, 2)
 
 
-def record(track, number, key, body):
-    return address(track) + bytes([number, len(key)]) + big(len(body), 2) + key + body
+def record(at, number, key, body):
+    return at + bytes([number, len(key)]) + big(len(body), 2) + key + body
 
 
 def put(text, place, part):
@@ -56,7 +57,7 @@ class DataSet:
         self.name, self.extents = name, extents
         self.organization, self.expiry, self.last, self.at = 0x4000, bytes(3), bytes(3), None
 
-    def format_1(self, serial, pointer):
+    def format_1(self, serial, pointer, heads):
         one = bytearray(140)
         put(one, 0, ebcdic(self.name, 44))
         one[44] = 0xF1
@@ -70,22 +71,22 @@ class DataSet:
         one[89] = 80  # record length
         one[93] = 0x80  # the last volume
         put(one, 98, self.last)
-        put_extents(one, [105, 115, 125], self.extents[:3], 0)
+        put_extents(one, [105, 115, 125], self.extents[:3], 0, heads)
         put(one, 135, pointer)
         return bytes(one)
 
-    def format_3(self):
+    def format_3(self, heads):
         """The extents behind the third, which a format 1 has no room for: at most 13."""
         three = bytearray(140)
         put(three, 0, b"\x03" * 4)
         three[44] = 0xF3
-        put_extents(three, [*range(4, 44, 10), *range(45, 135, 10)], self.extents[3:], 3)
+        put_extents(three, [*range(4, 44, 10), *range(45, 135, 10)], self.extents[3:], 3, heads)
         return bytes(three)
 
 
-def put_extents(dscb, places, extents, number):
+def put_extents(dscb, places, extents, number, heads):
     for place, (kind, first, last) in zip(places, extents):
-        put(dscb, place, bytes([kind, number]) + address(first) + address(last))
+        put(dscb, place, bytes([kind, number]) + address(first, heads) + address(last, heads))
         number += 1
 
 
@@ -100,10 +101,16 @@ class Volume:
         self.head_changes, self.track_changes, self.dscb_changes = [], {}, {}
 
     def slot(self):
-        return SLOTS[self.device]
+        return DEVICES[self.device].slot
+
+    def heads(self):
+        return DEVICES[self.device].heads
+
+    def address(self, track):
+        return address(track, self.heads())
 
     def tracks(self):
-        return self.cylinders * HEADS
+        return self.cylinders * self.heads()
 
     def free_tracks(self):
         """Those that neither label, VTOC nor a data set has, whatever is stated."""
@@ -123,7 +130,7 @@ class Volume:
     def place(self, record_number):
         """The address of a record of the VTOC: cylinder, head and its number on the track."""
         track, number = divmod(record_number - 1, self.records)
-        return address(self.vtoc[0] + track) + bytes([number + 1])
+        return self.address(self.vtoc[0] + track) + bytes([number + 1])
 
     def dscbs(self):
         """All records of the VTOC. Each data set takes the lowest free record, if it names none, and so does what belongs to it."""
@@ -143,8 +150,8 @@ class Volume:
             at = take(it.at, b"")
             pointer = bytes(5)
             if len(it.extents) > 3:
-                pointer = self.place(take(None, it.format_3()))
-            found[at], highest = it.format_1(self.serial, pointer), max(highest, at)
+                pointer = self.place(take(None, it.format_3(self.heads())))
+            found[at], highest = it.format_1(self.serial, pointer, self.heads()), max(highest, at)
         self.put_free_space(found, take)
         found[self.four] = self.format_4(highest, self.all_records() - len(found))
         return [found.get(number, bytes(140)) for number in range(1, self.all_records() + 1)]
@@ -168,9 +175,9 @@ class Volume:
         put(four, 50, big(free_records, 2))
         four[58] = VALIDITY * (self.free is None) | INDEX * self.index
         four[59] = 1
-        put(four, 62, big(self.cylinders, 2) + big(HEADS, 2))
-        four[74] = {"3390": 50, "3380": 53}[self.device]
-        put_extents(four, [105], [(1, *self.vtoc)], 0)
+        put(four, 62, big(self.cylinders, 2) + big(self.heads(), 2))
+        four[74] = DEVICES[self.device].records
+        put_extents(four, [105], [(1, *self.vtoc)], 0, self.heads())
         return bytes(four)
 
     def format_5(self, runs, behind):
@@ -178,7 +185,7 @@ class Volume:
         put(five, 0, b"\x05" * 4)
         five[44] = 0xF5
         for place, (first, length) in zip([*range(4, 44, 5), *range(45, 135, 5)], runs):
-            put(five, place, big(first, 2) + big(length // HEADS, 2) + bytes([length % HEADS]))
+            put(five, place, big(first, 2) + big(length // self.heads(), 2) + bytes([length % self.heads()]))
         if behind:
             put(five, 135, self.place(behind))
         return bytes(five)
@@ -189,17 +196,18 @@ class Volume:
             put(label, 0, ebcdic("VOL1", 4) + ebcdic(self.serial, 6))
             put(label, 11, self.place(self.four))
             keys = ((1, "IPL1", bytes(24)), (2, "IPL2", bytes(144)), (3, "VOL1", bytes(label)))
-            return [record(0, number, ebcdic(key, 4), body) for number, key, body in keys]
+            return [record(self.address(0), number, ebcdic(key, 4), body) for number, key, body in keys]
         if track in self.vtoc_tracks():
             dscbs = [bytearray(it) for it in self.dscbs()]
             for number, changes in self.dscb_changes.items():
                 put_changes(dscbs[number - 1], changes)
             first = self.records * (track - self.vtoc[0])
-            return [record(track, number, bytes(it[:44]), bytes(it[44:])) for number, it in enumerate(dscbs[first : first + self.records], 1)]
-        return [record(track, 1, b"", self.blocks[track])] if track in self.blocks else []
+            return [record(self.address(track), number, bytes(it[:44]), bytes(it[44:])) for number, it in enumerate(dscbs[first : first + self.records], 1)]
+        return [record(self.address(track), 1, b"", self.blocks[track])] if track in self.blocks else []
 
     def track(self, number):
-        text = bytes([0]) + address(number) + record(number, 0, b"", bytes(8)) + b"".join(self.records_of(number))
+        at = self.address(number)
+        text = bytes([0]) + at + record(at, 0, b"", bytes(8)) + b"".join(self.records_of(number))
         slot = bytearray((text + b"\xff" * 8 * (number not in self.unended)).ljust(self.slot(), b"\0"))
         put_changes(slot, self.track_changes.get(number, []))
         return bytes(slot)
@@ -207,9 +215,9 @@ class Volume:
     def head(self):
         head = bytearray(512)
         put(head, 0, b"CKD_P370")
-        head[8] = HEADS
+        head[8] = self.heads()
         put(head, 12, self.slot().to_bytes(4, "little"))
-        head[16] = {"3390": 0x90, "3380": 0x80}[self.device]
+        head[16] = DEVICES[self.device].byte
         put_changes(head, self.head_changes)
         return bytes(head)
 

@@ -51,7 +51,7 @@ def change_volume(volume, word, rest):
         setattr(volume, word, int(rest))
     elif word == "vtoc":
         volume.vtoc = span(rest)
-    elif word == "device" and rest in images.SLOTS:
+    elif word == "device" and rest in images.DEVICES:
         volume.device = rest
     elif word == "serial":
         volume.serial = rest

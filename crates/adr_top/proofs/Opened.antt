@@ -1,5 +1,5 @@
 -- A run over a session that was opened, as a run over the pool that was handed in.
-use Rattle.std.proofs.Common.{◌≡◌, ◌≢◌, ◌⊎◌, inl, false, List, [], None, refl, sym, ap, subst, ◌∙◌}
+use Rattle.std.proofs.Common.{◌≡◌, ◌≢◌, ◌⊎◌, inl, List, [], None, refl, sym, ap, subst, ◌∙◌}
 use Rattle.by_rules.specs.declared.day.Day.{Day}
 use Rattle.dasd_pool.specs.Disk.{Runs, none}
 use Rattle.dasd_pool.proofs.Moments.{runs_then}

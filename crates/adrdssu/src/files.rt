@@ -27,11 +27,14 @@ fn open_shared(rt: &HostRuntime, path: &str) -> io::Result<File> {
     Ok(file)
 }
 
-/// Opens a volume for reading and writing, or for reading alone where it may not be written.
-fn open_volume(rt: &HostRuntime, path: &str) -> io::Result<File> {
+/// Adds a volume's file as the pool's next unit: for reading and writing, or for reading alone where it may not be written.
+fn add_volume(rt: &HostRuntime, pool: &mut FilePool<File>, path: &str) -> io::Result<()> {
     match open_alone(rt, path) {
-        Err(error) if is_read_only(error.kind()) => open_shared(rt, path),
-        opened => opened,
+        Err(error) if is_read_only(error.kind()) => {
+            let file = named(rt, path, open_shared(rt, path))?;
+            named(rt, path, pool.add_read_only(file))
+        }
+        opened => add(rt, pool, path, opened),
     }
 }
 
@@ -54,7 +57,7 @@ pub fn named<T>(rt: &HostRuntime, path: &str, done: io::Result<T>) -> io::Result
 pub fn open_volumes(rt: &HostRuntime, units: &UnitPaths) -> io::Result<FilePool<File>> {
     let mut pool = FilePool::new(rt.alloc());
     for (_, path) in units.as_slice() {
-        add(rt, &mut pool, path.as_str(), open_volume(rt, path.as_str()))?;
+        add_volume(rt, &mut pool, path.as_str())?;
     }
     Ok(pool)
 }

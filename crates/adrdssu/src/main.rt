@@ -12,13 +12,14 @@ ghost use Rattle.by_rules.specs.Day.{IsToday};
 use crate::clock::today;
 use crate::descriptors::{NULL_DEVICE, take_closed};
 use crate::files::{add, named, open_alone, open_volumes};
-use crate::journal_file::{JournalFile, journal_file};
+use crate::journal_file::{JournalFile, journal_file, take_back};
 use crate::say::{say, say_end, say_file, say_not_built, say_usage};
 use adr_top::{Day, Ended, Run, UnitPaths, WordsFault, batch, read_words};
 use ckd_image::{Bytes, Word};
 use dasd_pool::{FilePool, FileSink, FileSource, MemorySource, Source};
 use std::alloc::Global;
-use std::fs::{self, File};
+use std::fs::File;
+use std::path::Path;
 use std::process::ExitCode;
 use std::{env, io};
 
@@ -136,18 +137,19 @@ fn run_format(
 {
     let pool = open_volumes(rt, units)?;
     let JournalFile { file, made } = named(rt, journal, journal_file(rt, journal, room))?;
-    let _held = file.try_clone();
+    let held = named(rt, journal, file.try_clone())?;
     let status = format_in(rt, line, units, journal, pool, file);
     if !matches!(status, Ok(0 | 28)) {
-        take_away(rt, made);
+        take_away(rt, made, &held);
     }
     status
 }
 
 /// Takes a file away that was made in vain.
-fn take_away(rt: &HostRuntime, made: Option<String>) {
+fn take_away(rt: &HostRuntime, made: Option<String>, file: &File) {
     if let Some(path) = made {
-        let _ = named(rt, path.as_str(), fs::remove_file(rt, path.as_str()));
+        let path = path.as_str();
+        let _ = named(rt, path, take_back(rt, Path::new(path), file));
     }
 }
 

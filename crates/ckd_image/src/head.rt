@@ -73,6 +73,7 @@ fn device_of(head: &[u8; 512]) -> Option<Device>
     match head[16] {
         0x90 => Some(Device::D3390),
         0x80 => Some(Device::D3380),
+        0x50 => Some(Device::D3350),
         _ => None,
     }
 }

@@ -50,6 +50,7 @@ shape_of units = record {
   head = head_of units;
   block_size = size_of units;
   blocks = λ u. min (length (slice_index_or (texts_of units) u []) / size_of units u) (2 ^ 32 - 1);
+  may_write = λ u. true;
 }
 
 -- what a call does to the contents and to what is synced

@@ -11,6 +11,7 @@ pub record Shape : Type 0 where
   pub head : ℕ → List ℕ
   pub block_size : ℕ → ℕ
   pub blocks : ℕ → ℕ
+  pub may_write : ℕ → Bool
 
 -- a moment: the contents, and which blocks have not been written since the last successful sync
 pub record State : Type 0 where

@@ -1,10 +1,11 @@
 //! A pool over seekable files, which doesn't tell what it holds.
 
-ghost use Rattle.std.specs.Prelude.{◌≡◌, ◌+◌, ◌<◌, ◌≤◌, ◌^◌, OnOk, length, vec_len};
+ghost use Rattle.std.specs.Prelude.{◌≡◌, ◌+◌, ◌<◌, ◌≤◌, ◌^◌, true, false, All, IfOk, OnOk, length, map, slice_index_or, vec_len};
 ghost use Rattle.dasd_pool.specs.Count.{Rose};
 ghost use Rattle.dasd_pool.specs.Files.{shape_of_files, untold};
 
 use crate::file_unit::FileUnit;
+use crate::patience::sync_file;
 use crate::pool::{Pool, PoolFault};
 use crate::units::{block_count, risen, said_size};
 use std::alloc::Global;
@@ -21,10 +22,17 @@ pub struct FileFailure {
     pub reason: io::Error,
 }
 
+/// A unit's file, and whether it was opened or written since it was last synced: what an earlier run wrote may not be synced either.
+#[derive(Debug, Drop)]
+struct UnitFile<F> {
+    file: F,
+    unsynced: bool,
+}
+
 /// A pool over files, one for each unit: a head of 512 bytes, and then blocks.
 #[derive(Debug, Drop)]
 pub struct FilePool<F> {
-    files: Vec<F>,
+    files: Vec<UnitFile<F>>,
     units: Vec<FileUnit>,
     faults: u64,
     failure: Option<FileFailure>,
@@ -33,7 +41,9 @@ pub struct FilePool<F> {
 }
 
 /// Reads a file's head and finds how many blocks it has. A file that is shorter than a head is filled up with zeros.
-fn unit_of<F: Read + Seek>(file: &mut F) -> io::Result<FileUnit> {
+fn unit_of<F: Read + Seek>(file: &mut F, may_write: bool) -> io::Result<FileUnit>
+    ensures { IfOk result (λ unit. unit.may_write ≡ may_write) }
+{
     let end = file.seek(SeekFrom::End(0))?;
     file.seek(SeekFrom::Start(0))?;
     let mut head = [0; 512];
@@ -41,7 +51,12 @@ fn unit_of<F: Read + Seek>(file: &mut F) -> io::Result<FileUnit> {
     file.read_exact(&mut head[..present])?;
     let size = said_size(&head);
     let count = block_count(end.saturating_sub(HEAD) as usize, size);
-    Ok(FileUnit { head, size, count })
+    Ok(FileUnit {
+        head,
+        size,
+        count,
+        may_write,
+    })
 }
 
 fn seek_block<F: Seek>(file: &mut F, block: u32, size: usize) -> io::Result<()> {
@@ -62,12 +77,27 @@ fn write_block<F: Write + Seek>(file: &mut F, block: u32, buf: &[u8]) -> io::Res
     file.write_all(buf)
 }
 
+impl<F: OpenFile> UnitFile<F> {
+    /// Syncs the file, unless it is synced.
+    fn sync(&mut self) -> io::Result<()>
+        ensures { OnOk result (self.new.unsynced ≡ false) }
+    {
+        if self.unsynced {
+            sync_file(&self.file)?;
+            self.unsynced = false;
+        }
+        Ok(())
+    }
+}
+
 /// Syncs the files up to the first that fails.
-fn sync_files<F: OpenFile>(files: &[F]) -> Result<(), FileFailure>
-    requires { length files.now < 2 ^ 32 }
+fn sync_files<F: OpenFile>(files: &mut [UnitFile<F>]) -> Result<(), FileFailure>
+    requires { length files.old < 2 ^ 32 }
+    ensures long { length files.new ≡ length files.old }
+    ensures synced { OnOk result (All (λ it. it.unsynced ≡ false) files.new) }
 {
-    for (unit, file) in files.iter().enumerate() {
-        if let Err(reason) = file.sync_all() {
+    for unit in 0..files.len() {
+        if let Err(reason) = files[unit].sync() {
             let unit = unit as u32;
             return Err(FileFailure { unit, reason });
         }
@@ -104,18 +134,39 @@ impl<F: Read + Write + Seek + OpenFile + Drop> FilePool<F> {
         PoolFault
     }
 
-    /// Adds a file as the next unit; on `Err` the pool is as it was.
+    /// Adds a file that was opened for reading and writing as the next unit; on `Err` the pool is as it was.
     pub fn add(&mut self, file: F) -> io::Result<()>
         ensures more { OnOk result ((⟦<FilePool<F> as Pool>⟧.shape self.new).units ≡ (⟦<FilePool<F> as Pool>⟧.shape self.old).units + 1) }
+        ensures may { OnOk result ((⟦<FilePool<F> as Pool>⟧.shape self.new).may_write (⟦<FilePool<F> as Pool>⟧.shape self.old).units ≡ true) }
+        ensures count { ⟦<FilePool<F> as Pool>⟧.faults self.new ≡ ⟦<FilePool<F> as Pool>⟧.faults self.old }
+    {
+        self.add_unit(file, true)
+    }
+
+    /// Adds a file that was opened for reading alone as the next unit; on `Err` the pool is as it was.
+    pub fn add_read_only(&mut self, file: F) -> io::Result<()>
+        ensures more { OnOk result ((⟦<FilePool<F> as Pool>⟧.shape self.new).units ≡ (⟦<FilePool<F> as Pool>⟧.shape self.old).units + 1) }
+        ensures may { OnOk result ((⟦<FilePool<F> as Pool>⟧.shape self.new).may_write (⟦<FilePool<F> as Pool>⟧.shape self.old).units ≡ false) }
+        ensures count { ⟦<FilePool<F> as Pool>⟧.faults self.new ≡ ⟦<FilePool<F> as Pool>⟧.faults self.old }
+    {
+        self.add_unit(file, false)
+    }
+
+    /// Adds a file, which isn't known to be synced.
+    fn add_unit(&mut self, file: F, may_write: bool) -> io::Result<()>
+        ensures more { OnOk result ((⟦<FilePool<F> as Pool>⟧.shape self.new).units ≡ (⟦<FilePool<F> as Pool>⟧.shape self.old).units + 1) }
+        ensures may { OnOk result ((⟦<FilePool<F> as Pool>⟧.shape self.new).may_write (⟦<FilePool<F> as Pool>⟧.shape self.old).units ≡ may_write) }
+        ensures unsynced { OnOk result (slice_index_or (map (λ it. it.unsynced) self.new.files.items) (vec_len self.old.files) false ≡ true) }
         ensures count { ⟦<FilePool<F> as Pool>⟧.faults self.new ≡ ⟦<FilePool<F> as Pool>⟧.faults self.old }
     {
         let mut file = file;
         if self.units.len() >= u32::MAX as usize {
             return Err(io::Error::from(io::ErrorKind::OutOfMemory));
         }
-        let unit = unit_of(&mut file)?;
+        let unit = unit_of(&mut file, may_write)?;
         self.units.push(unit)?;
-        match self.files.push(file) {
+        let unsynced = true;
+        match self.files.push(UnitFile { file, unsynced }) {
             Ok(()) => Ok(()),
             Err(full) => {
                 self.units.pop();
@@ -151,21 +202,31 @@ impl<F: Read + Write + Seek + OpenFile + Drop> Pool for FilePool<F> {
     }
 
     fn read(&mut self, unit: u32, block: u32, buf: &mut [u8]) -> Result<(), PoolFault> {
-        match read_block(&mut self.files[unit as usize], block, buf) {
+        match read_block(&mut self.files[unit as usize].file, block, buf) {
             Ok(()) => Ok(()),
             Err(reason) => Err(self.fail(FileFailure { unit, reason })),
         }
     }
 
+    fn ask_to_write(&mut self, unit: u32) -> Result<(), PoolFault> {
+        if self.units[unit as usize].may_write {
+            return Ok(());
+        }
+        let reason = io::Error::from(io::ErrorKind::PermissionDenied);
+        Err(self.fail(FileFailure { unit, reason }))
+    }
+
     fn write(&mut self, unit: u32, block: u32, buf: &[u8]) -> Result<(), PoolFault> {
-        match write_block(&mut self.files[unit as usize], block, buf) {
+        let it = &mut self.files[unit as usize];
+        it.unsynced = true;
+        match write_block(&mut it.file, block, buf) {
             Ok(()) => Ok(()),
             Err(reason) => Err(self.fail(FileFailure { unit, reason })),
         }
     }
 
     fn sync(&mut self) -> Result<(), PoolFault> {
-        match sync_files(&self.files) {
+        match sync_files(self.files.as_mut_slice()) {
             Ok(()) => Ok(()),
             Err(failure) => Err(self.fail(failure)),
         }

@@ -11,6 +11,7 @@ mod media;
 mod memory;
 mod order;
 mod outside;
+mod patience;
 mod pool;
 mod stream;
 mod tear;

@@ -5,7 +5,8 @@ ghost use Rattle.dasd_pool.specs.Count.{Rose};
 
 use crate::failures::Failures;
 use crate::outside::{Medium, MediumFault, Reel, ReelFault};
-use crate::units::risen;
+use crate::patience::{read_some, sync_file};
+use crate::units::{one_more, risen};
 use ckd_image::text::put;
 use ckd_image::{Bytes, NoMemory};
 use std::alloc::Global;
@@ -28,6 +29,8 @@ fn none_made(failing: Vec<u64>) -> Failures
 pub struct MemoryMedium {
     bytes: Vec<u8>,
     count: usize,
+    puts: u64,
+    finished: bool,
     failures: Failures,
     ghost within: { count ≤ vec_len bytes },
 }
@@ -42,6 +45,8 @@ impl MemoryMedium {
         Ok(MemoryMedium {
             bytes,
             count: 0,
+            puts: 0,
+            finished: false,
             failures: none_made(failing),
         })
     }
@@ -59,7 +64,13 @@ impl Medium for MemoryMedium {
 
     ghost held = { λ m. Some (take m.count m.bytes.items) };
 
+    ghost puts = { λ m. m.puts };
+
+    ghost finished = { λ m. m.finished };
+
     fn put(&mut self, piece: &[u8]) -> Result<(), MediumFault> {
+        self.puts = one_more(self.puts);
+        self.finished = false;
         let full = self.bytes.len() - self.count < piece.len();
         if self.failures.next_fails(full) {
             return Err(MediumFault);
@@ -72,6 +83,7 @@ impl Medium for MemoryMedium {
         if self.failures.next_fails(false) {
             return Err(MediumFault);
         }
+        self.finished = true;
         Ok(())
     }
 }
@@ -134,6 +146,8 @@ impl Reel for MemoryReel {
 pub struct FileMedium<F> {
     file: F,
     folder: F,
+    puts: u64,
+    finished: bool,
     faults: u64,
 }
 
@@ -144,6 +158,8 @@ impl<F: io::Write + OpenFile + Drop> FileMedium<F> {
         FileMedium {
             file,
             folder,
+            puts: 0,
+            finished: false,
             faults: 0,
         }
     }
@@ -152,6 +168,8 @@ impl<F: io::Write + OpenFile + Drop> FileMedium<F> {
     fn counted(&mut self, done: io::Result<()>) -> Result<(), MediumFault>
         ensures later { self.old.faults ≤ self.new.faults }
         ensures cause { IsErr result → Rose self.old.faults self.new.faults }
+        ensures puts { self.new.puts ≡ self.old.puts }
+        ensures finished { self.new.finished ≡ self.old.finished }
     {
         match done {
             Ok(()) => Ok(()),
@@ -168,16 +186,24 @@ impl<F: io::Write + OpenFile + Drop> Medium for FileMedium<F> {
 
     ghost held = { λ _. None };
 
+    ghost puts = { λ m. m.puts };
+
+    ghost finished = { λ m. m.finished };
+
     fn put(&mut self, piece: &[u8]) -> Result<(), MediumFault> {
+        self.puts = one_more(self.puts);
+        self.finished = false;
         let done = self.file.write_all(piece);
         self.counted(done)
     }
 
     fn finish(&mut self) -> Result<(), MediumFault> {
-        let done = self.file.sync_all();
+        let done = sync_file(&self.file);
         self.counted(done)?;
-        let done = self.folder.sync_all();
-        self.counted(done)
+        let done = sync_file(&self.folder);
+        self.counted(done)?;
+        self.finished = true;
+        Ok(())
     }
 }
 
@@ -213,7 +239,7 @@ impl<R: io::Read + io::Seek + Drop> Reel for FileReel<R> {
     ghost left = { λ _. None };
 
     fn read(&mut self, buf: &mut [u8]) -> Result<usize, ReelFault> {
-        match self.reader.read(buf) {
+        match read_some(&mut self.reader, buf) {
             Ok(count) => Ok(count),
             Err(_) => Err(self.fail()),
         }

@@ -1,6 +1,6 @@
 //! A pool in memory: what it holds, and either the calls so far or a mark for each block.
 
-ghost use Rattle.std.specs.Prelude.{◌≡◌, ◌*◌, ◌/◌, min, ◌^◌, ◌-◌, ◌+◌, ◌≤◌, ◌<◌, [], ℕ, length, take, drop, slice_set, slice_index_or, IfOk, OnOk, OnErr, All, if◌then◌else◌};
+ghost use Rattle.std.specs.Prelude.{◌≡◌, ◌*◌, ◌/◌, min, ◌^◌, ◌-◌, ◌+◌, ◌≤◌, ◌<◌, [], ℕ, length, take, drop, slice_set, slice_index_or, IsOk, IfOk, OnOk, OnErr, All, if◌then◌else◌};
 ghost use Rattle.dasd_pool.specs.declared.calls.Call.TheVariants.{Read, Sync};
 ghost use Rattle.dasd_pool.specs.Count.{HasCause};
 ghost use Rattle.dasd_pool.specs.Disk.{Runs, none, is_at, IsSynced};
@@ -312,6 +312,16 @@ impl Pool for MemoryPool {
         ensures kept { Keeps self.old self.new (Read unit block (fails self.old)) }
     {
         self.read_block(unit, block, buf)
+    }
+
+    /// Each unit may be written, and to ask is no call that could fail.
+    fn ask_to_write(&mut self, unit: u32) -> Result<(), PoolFault>
+        requires { unit < length self.old.units }
+        ensures ok { IsOk result }
+        ensures same { self.new ≡ self.old }
+    {
+        let _ = unit;
+        Ok(())
     }
 
     /// A failed write keeps the old bytes, and makes the block unsynced. Past the calls that are kept it changes nothing.

@@ -1,7 +1,8 @@
 //! Streams of bytes from and to the outside.
 
-ghost use Rattle.std.specs.Prelude.{◌≡◌, ◌<◌, ◌≤◌, ℕ, List, Option, length, take, IfOk, OnOk, OnErr};
+ghost use Rattle.std.specs.Prelude.{◌≡◌, ◌<◌, ◌≤◌, ℕ, Bool, true, false, List, Option, length, take, IfOk, OnOk, OnErr};
 ghost use Rattle.dasd_pool.specs.Count.{Rose, HasCause};
+ghost use Rattle.dasd_pool.specs.Failures.{one_more};
 ghost use Rattle.dasd_pool.specs.Stream.{Appends, AppendsSome, Takes, EndsOnly};
 
 use thiserror::Error;
@@ -68,15 +69,25 @@ pub trait Medium: Drop {
     /// What the medium holds, where it tells.
     ghost held: { Self → Option (List ℕ) };
 
+    /// How often a piece was put on the medium.
+    ghost puts: { Self → ℕ };
+
+    /// Whether the medium was finished, and nothing was put on it since.
+    ghost finished: { Self → Bool };
+
     /// Takes a piece; after a failed call a front of it.
     fn put(&mut self, piece: &[u8]) -> Result<(), MediumFault>
         ensures ok { OnOk result (Appends (held self.old) (held self.new) piece.now) }
         ensures err { OnErr result (AppendsSome (held self.old) (held self.new) piece.now) }
+        ensures puts { puts self.new ≡ one_more (puts self.old) }
+        ensures unfinished { finished self.new ≡ false }
         ensures cause { HasCause (faults self.old) (faults self.new) result };
 
-    /// Ends what is written.
+    /// Ends what is written, and makes it durable.
     fn finish(&mut self) -> Result<(), MediumFault>
         ensures same { held self.new ≡ held self.old }
+        ensures puts { puts self.new ≡ puts self.old }
+        ensures finished { OnOk result (finished self.new ≡ true) }
         ensures cause { HasCause (faults self.old) (faults self.new) result };
 }
 

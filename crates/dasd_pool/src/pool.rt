@@ -1,6 +1,6 @@
 //! A pool of blocks: what its calls do to its contents, and what a stop may leave.
 
-ghost use Rattle.std.specs.Prelude.{◌≡◌, ◌<◌, ◌≤◌, ℕ, length, OnOk, OnErr};
+ghost use Rattle.std.specs.Prelude.{◌≡◌, ◌<◌, ◌≤◌, ℕ, length, IsTrue, OnOk, OnErr};
 ghost use Rattle.dasd_pool.specs.Calls.{size_in};
 ghost use Rattle.dasd_pool.specs.Count.{HasCause};
 ghost use Rattle.dasd_pool.specs.Disk.{Shape, Disk, Runs, none, is_at, IsSynced};
@@ -14,7 +14,7 @@ pub struct PoolFault;
 
 /// Units, each with a head of 512 bytes and blocks of one size. Units and blocks are numbered from 0.
 pub trait Pool {
-    /// The units, their heads and sizes, which never change.
+    /// The units, their heads and sizes, and which of them may be written, which never change.
     ghost shape: { Self → Shape };
 
     /// How often the pool has failed.
@@ -52,6 +52,15 @@ pub trait Pool {
         requires size { length buf.old ≡ (shape self.old).block_size unit }
         ensures shape { shape self.new ≡ shape self.old }
         ensures bytes { tells → OnOk result (buf.new ≡ (disk self.old).state.contents unit block) }
+        ensures same { tells → (disk self.new).state ≡ (disk self.old).state }
+        ensures runs { tells → Runs none (disk self.old) (disk self.new) }
+        ensures cause { HasCause (faults self.old) (faults self.new) result };
+
+    /// Asks whether a unit may be written, before anything is begun that would end there. Where it may not, that is a fault.
+    fn ask_to_write(&mut self, unit: u32) -> Result<(), PoolFault>
+        requires { unit < (shape self.old).units }
+        ensures shape { shape self.new ≡ shape self.old }
+        ensures may { OnOk result (IsTrue ((shape self.old).may_write unit)) }
         ensures same { tells → (disk self.new).state ≡ (disk self.old).state }
         ensures runs { tells → Runs none (disk self.old) (disk self.new) }
         ensures cause { HasCause (faults self.old) (faults self.new) result };

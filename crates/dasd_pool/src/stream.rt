@@ -3,6 +3,7 @@
 ghost use Rattle.std.specs.Prelude.{◌≡◌, ◌<◌, ◌≤◌, ◌+◌, [], length, drop, IfOk, Some, None};
 
 use crate::outside::{ReadFault, Sink, Source, WriteFault};
+use crate::patience::{read_some, write_some};
 use crate::units::risen;
 use ckd_image::text::put;
 use ckd_image::{Bytes, NoMemory};
@@ -130,7 +131,7 @@ impl<R: io::Read> Source for FileSource<R> {
     ghost left = { λ _. None };
 
     fn read(&mut self, buf: &mut [u8]) -> Result<usize, ReadFault> {
-        match self.reader.read(buf) {
+        match read_some(&mut self.reader, buf) {
             Ok(count) => Ok(count),
             Err(_) => {
                 self.faults = risen(self.faults);
@@ -161,7 +162,7 @@ impl<W: io::Write> Sink for FileSink<W> {
     ghost taken = { λ _. None };
 
     fn write(&mut self, piece: &[u8]) -> Result<usize, WriteFault> {
-        match self.writer.write(piece) {
+        match write_some(&mut self.writer, piece) {
             Ok(count) if count > 0 || piece.is_empty() => Ok(count),
             _ => {
                 self.faults = risen(self.faults);

@@ -4,6 +4,7 @@ ghost use Rattle.std.specs.Prelude.{◌≡◌, ◌≤◌, ◌+◌, ◌-◌, ◌/
 ghost use Rattle.byteorder.specs.Endian.{little_number};
 ghost use Rattle.dasd_pool.specs.Count.{Rose};
 ghost use Rattle.dasd_pool.specs.Calls.{size_in};
+ghost use Rattle.dasd_pool.specs.Failures.{one_more as after_one_more};
 
 use byteorder::{ByteOrder, LittleEndian};
 use ckd_image::Bytes;
@@ -51,4 +52,11 @@ pub(crate) fn risen(faults: u64) -> u64
     ensures rises { Rose faults result }
 {
     faults.saturating_add(1)
+}
+
+/// A count after one more.
+pub(crate) fn one_more(count: u64) -> u64
+    ensures { result ≡ after_one_more count }
+{
+    count.saturating_add(1)
 }

@@ -1,2 +1,3 @@
 pub mod Dscb
 pub mod Field
+pub mod Format1

@@ -1,12 +1,13 @@
 -- What outputs take, piece after piece.
-use Rattle.std.proofs.Common.{◌≡◌, ◌≢◌, inl, inr, ℕ, ◌+◌, ◌-◌, ◌^◌, ◌<◌, ◌≤◌, List, ◌++◌, length, take, Option, sym, ap, subst, ◌∙◌, arith, length-append}
+use Rattle.std.proofs.Common.{◌≡◌, ◌≢◌, ◌⊎◌, inl, inr, ℕ, ◌+◌, ◌-◌, ◌^◌, ◌<◌, ◌≤◌, true, List, ◌++◌, length, take, get_or, Option, refl, sym, ap, subst, ◌∙◌, arith, length-append}
 use Rattle.std.proofs.lemmas.List.{take-append-le}
 use Rattle.std.proofs.Math.Seq.{take-append-add}
+use Rattle.std.proofs.lemmas.Option.{slice_get-get_or, slice_get_within}
 use Rattle.dasd_pool.specs.Count.{Rose}
 use Rattle.dasd_pool.specs.Stream.{Appends, AppendsSome}
 use Rattle.dump_fmt.specs.declared.outs.OutState.{OutState}
 use Rattle.dump_fmt.specs.declared.outs.OutState.TheVariants as states
-use Rattle.dump_fmt.specs.Outs.{OutSeen, marked, HoldsAll, HoldsFront, HasTaken, IsSentTo, IsEnded, IsFinished}
+use Rattle.dump_fmt.specs.Outs.{OutSeen, marked, HoldsAll, HoldsFront, HasTaken, IsSentTo, IsEnded, IsFinished, AreFinished, EachAt}
 use Rattle.dasd_pool.proofs.Streams.{rose_since, appends_then, appends_some_then, all_some}
 
 -- ---- counts and bytes
@@ -98,3 +99,25 @@ taken_end {X} seen text a m b taken done = elim taken.taken [
   | inl all ↦ ended_on text (seen a) (seen m) (seen b) taken.name all (done.done (cut_not_lost (seen m).state all.state_is))
   | inr lost ↦ subst (λ (x : X). HasTaken states.Whole text (seen a) (seen x)) (sym (done.lost lost.state_is)) (lost_at_end text (seen a) (seen m) taken.name lost)
 ]
+
+-- ---- what is finished
+
+lost_or_not : (state : OutState) → (state ≡ states.Lost) ⊎ (state ≢ states.Lost)
+lost_or_not states.Unused = inr (λ e. cc)
+lost_or_not states.Whole = inr (λ e. cc)
+lost_or_not states.Lost = inl refl
+lost_or_not states.Cut = inr (λ e. cc)
+
+not_both : (state : OutState) → state ≡ states.Whole → state ≢ states.Lost
+not_both state whole lost = cc
+
+whole_at_end : {X : Type 0} (seen : X → OutSeen) (a b : X) → IsFinished seen a b → (seen b).state ≡ states.Whole → (seen b).finished ≡ true
+whole_at_end seen a b done whole = elim (lost_or_not (seen a).state) [
+  | inl lost ↦ absurd (not_both (seen b).state whole (ap (λ x. (seen x).state) (done.lost lost) ∙ lost))
+  | inr not ↦ (done.done not).finished whole
+]
+
+pub are_finished : {X : Type 0} (seen : X → OutSeen) (places : List ℕ) (old new : List X) → EachAt (IsFinished seen) places old new → AreFinished seen places new
+are_finished {X} seen places old new e = λ place out has is whole.
+    let within : place < length old = subst (λ (n : ℕ). place < n) e.same_length (slice_get_within new place out is) in
+    whole_at_end seen (get_or old place out) out (e.done place (get_or old place out) out has (slice_get-get_or old place out within) is) whole

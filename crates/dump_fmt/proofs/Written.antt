@@ -14,10 +14,10 @@ use Rattle.dump_fmt.specs.Parts.{IsPart}
 use Rattle.dump_fmt.specs.Front.{Front, empty_front, Adds, IsFront, IsOfKind, IsCutSlot, whole_parts}
 use Rattle.dump_fmt.specs.Text.{front_text, digested_text, counts_text, dump_text}
 use Rattle.dump_fmt.specs.Counting.{FitsCounts, IsCounted}
-use Rattle.dump_fmt.specs.Outs.{OutSeen, marked, HasTaken, IsSentTo, IsFinished, EachAt, AreDistinct}
+use Rattle.dump_fmt.specs.Outs.{OutSeen, marked, HasTaken, IsSentTo, IsFinished, AreFinished, EachAt, AreDistinct}
 use Rattle.dump_fmt.specs.Writing.{IsWriting, IsDue}
 use Rattle.dump_fmt.proofs.Places.{each_at_then}
-use Rattle.dump_fmt.proofs.Taken.{taken_first, taken_more, taken_end}
+use Rattle.dump_fmt.proofs.Taken.{taken_first, taken_more, taken_end, are_finished}
 use Rattle.dump_fmt.proofs.Fronts.{text_grows}
 use Rattle.dump_fmt.proofs.Sizes.{Agrees, fits_counts, counted}
 
@@ -172,3 +172,7 @@ sent_so seen text other places at old new same there sent =
 
 pub finished_so : {X : Type 0} (seen : X → OutSeen) (places at : List ℕ) (old new : List X) → places ≡ at → EachAt (IsFinished seen) places old new → EachAt (IsFinished seen) at old new
 finished_so seen places at old new there done = subst (λ (p : List ℕ). EachAt (IsFinished seen) p old new) there done
+
+-- what is whole then is finished
+pub whole_finished : {X : Type 0} (seen : X → OutSeen) (places at : List ℕ) (old new : List X) → places ≡ at → EachAt (IsFinished seen) places old new → AreFinished seen at new
+whole_finished seen places at old new there done = subst (λ (p : List ℕ). AreFinished seen p new) there (are_finished seen places old new done)

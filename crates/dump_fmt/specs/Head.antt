@@ -26,8 +26,13 @@ abbrev pub IsVtocTrack : Bool → ℕ → ℕ → Type 0
 IsVtocTrack true tracks vtoc = (1 ≤ vtoc) × (vtoc < tracks)
 IsVtocTrack false tracks vtoc = vtoc ≡ 0
 
+-- year and day fit their two bytes each
+abbrev pub FitsDay : ℕ → ℕ → Type 0
+FitsDay year day = (year ≤ 65535) × (day ≤ 65535)
+
 -- the rules of a header
 pub record IsDumpHead (head : DumpHead) : Type 0 where
   pub serial : IsSerial head.serial.text
   pub tracks : IsCylinders head.device head.tracks
+  pub day : FitsDay head.day.year head.day.day
   pub vtoc : IsVtocTrack head.full head.tracks head.vtoc

@@ -2,6 +2,7 @@
 #![tactic(auto)]
 
 mod fault;
+mod laws;
 mod outs;
 mod piece;
 mod printing;
@@ -11,6 +12,7 @@ mod writer;
 
 pub use dd_names::DdName;
 pub use fault::DumpFault;
+pub use laws::text_laws;
 pub use outs::{InDd, OutDd, OutState, Seen, SeenIn};
 pub use piece::{DumpHead, Piece};
 pub use progress::Progress;

@@ -39,7 +39,14 @@ pub trait Seen {
 }
 
 impl Seen for OutDd {
-    ghost seen = { λ out. record { name = out.name; state = out.state; held = (Medium-box out.medium).held out.medium.value; faults = (Medium-box out.medium).faults out.medium.value } };
+    ghost seen = { λ out. record {
+      name = out.name;
+      state = out.state;
+      held = (Medium-box out.medium).held out.medium.value;
+      faults = (Medium-box out.medium).faults out.medium.value;
+      puts = (Medium-box out.medium).puts out.medium.value;
+      finished = (Medium-box out.medium).finished out.medium.value;
+    } };
 }
 
 /// What contracts see of an input.

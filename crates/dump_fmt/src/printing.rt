@@ -17,6 +17,7 @@ fn device_byte(device: Device) -> u8
     match device {
         Device::D3390 => 0x90,
         Device::D3380 => 0x80,
+        Device::D3350 => 0x50,
     }
 }
 

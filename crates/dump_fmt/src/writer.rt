@@ -2,11 +2,10 @@
 
 ghost use Rattle.std.specs.Prelude.{◌≡◌, ◌<◌, ◌++◌, ℕ, List, All, length, IfOk, IfErr, OnOk, Some, map, slice_get};
 ghost use Rattle.sha2.specs.Hashers.{Holds256};
-ghost use Rattle.dump_fmt.specs.Text.{front_text, dump_text};
+ghost use Rattle.dump_fmt.specs.Text.{front_text, added_text, dump_text};
 ghost use Rattle.dump_fmt.specs.declared.piece.DumpHead.{DumpHead as Head};
 ghost use Rattle.dump_fmt.specs.Head.{IsDumpHead, header_text};
-ghost use Rattle.dump_fmt.specs.Pieces.{piece_text};
-ghost use Rattle.dump_fmt.specs.Outs.{AreDistinct, EachAt, IsSentTo, IsFinished, marked};
+ghost use Rattle.dump_fmt.specs.Outs.{AreDistinct, EachAt, IsSentTo, IsFinished, AreFinished, marked};
 ghost use Rattle.dump_fmt.specs.Front.{Front, empty_front, Adds, IsFront, IsDump};
 ghost use Rattle.dump_fmt.specs.Writing.{IsWriting, MayAdd, MayEnd, IsWritten};
 
@@ -120,8 +119,10 @@ impl DumpWriter {
 
         ensures put { OnOk result ((before : _) (head : Head) (front next : Front) → IsWriting ⟦<OutDd as Seen>⟧.seen before head front self.old.progress self.old.outs.items
             → Adds front piece.now next → IsFront head next → IsWriting ⟦<OutDd as Seen>⟧.seen before head next self.new.progress self.new.outs.items) }
-        // Its text was put on each output that isn't lost, and no call was made on any other.
-        ensures sent { OnOk result (EachAt (IsSentTo ⟦<OutDd as Seen>⟧.seen (piece_text piece.now)) self.old.progress.places.items self.old.outs.items self.new.outs.items) }
+        // What it adds was put on each output that isn't lost, in one put, and no call was made on any other.
+        ensures sent { OnOk result ((before : _) (head : Head) (front next : Front) → IsWriting ⟦<OutDd as Seen>⟧.seen before head front self.old.progress self.old.outs.items
+            → Adds front piece.now next → IsFront head next
+            → EachAt (IsSentTo ⟦<OutDd as Seen>⟧.seen (added_text head front piece.now)) self.old.progress.places.items self.old.outs.items self.new.outs.items) }
         ensures none { IfErr result (λ cause. (cause ≡ DumpFault.NoMemory) × (self.new ≡ self.old)) }
         ensures places { self.new.progress.places.items ≡ self.old.progress.places.items }
     {
@@ -137,6 +138,8 @@ impl DumpWriter {
 
         ensures whole { (before : _) (head : Head) (front : Front) → IsWriting ⟦<OutDd as Seen>⟧.seen before head front self.progress self.outs.items → IsDump head front
             → IsWritten ⟦<OutDd as Seen>⟧.seen OutState.Whole (dump_text head front) self.progress.places.items before result.items }
+        // What is whole is durable.
+        ensures finished { AreFinished ⟦<OutDd as Seen>⟧.seen self.progress.places.items result.items }
         // The trailer was put on each output that isn't lost, then each that isn't lost was finished; no call was made on any other.
         ensures sent { (trailer : List ℕ) × (between : _) × EachAt (IsSentTo ⟦<OutDd as Seen>⟧.seen trailer) self.progress.places.items self.outs.items between
             × EachAt (IsFinished ⟦<OutDd as Seen>⟧.seen) self.progress.places.items between result.items }

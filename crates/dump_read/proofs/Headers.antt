@@ -3,12 +3,12 @@ use Rattle.std.proofs.Common.{◌≡◌, inl, ℕ, zero, suc, ◌≤◌, ◌<◌
 use Rattle.std.specs.Prelude.{codes, slice_index}
 use Rattle.byteorder.specs.Endian.{big_bytes}
 use Rattle.ckd_image.specs.declared.device.Device.{Device}
-use Rattle.ckd_image.specs.declared.device.Device.TheVariants.{D3390, D3380}
+use Rattle.ckd_image.specs.declared.device.Device.TheVariants.{D3390, D3380, D3350}
 use Rattle.ckd_image.specs.Head.{IsCylinders}
 use Rattle.vol_label.specs.Serial.{IsSerial, IsSerialByte}
 use Rattle.dump_fmt.specs.declared.piece.DumpHead.{DumpHead}
 use Rattle.dump_fmt.specs.Head.{header_text, IsVtocTrack}
-use Rattle.dump_read.specs.Header.{IsHeader, kind_text, device_text, pair_text}
+use Rattle.dump_read.specs.Header.{IsHeader, IsDayPair, kind_text, device_text, pair_text}
 use Rattle.dump_read.proofs.Chains.{Then}
 
 -- what may stand from each field on
@@ -19,7 +19,7 @@ abbrev pub FromVtoc : Bool → ℕ → List ℕ → Type 0
 FromVtoc full tracks = Then (IsVtocTrack full tracks) (big_bytes 4) (λ vtoc. FromZeros)
 
 abbrev pub FromDay : Bool → ℕ → List ℕ → Type 0
-FromDay full tracks = Then (λ x. Unit {0}) pair_text (λ day. FromVtoc full tracks)
+FromDay full tracks = Then IsDayPair pair_text (λ day. FromVtoc full tracks)
 
 abbrev pub FromTracks : Bool → Device → List ℕ → Type 0
 FromTracks full device = Then (IsCylinders device) (big_bytes 4) (FromDay full)
@@ -69,7 +69,7 @@ chain_of text (head, sound, is) = record {
           spelled = refl;
           behind = record {
             value = (head.day.year, head.day.day);
-            may = tt;
+            may = sound.day;
             rest = _;
             spelled = refl;
             behind = record {
@@ -115,7 +115,7 @@ header_of text magic =
     let first : magic.rest ≡ kind_text kind.value ++ (device_text device.value ++ ((serial.value ++ big_bytes 4 tracks.value) ++ (pair_text day.value ++ (big_bytes 4 vtoc.value ++ replicate 4 0)))) =
     kind.spelled ∙ ap (λ (t : List ℕ). kind_text kind.value ++ t) second in
     let all : text ≡ header_text head = magic.spelled ∙ ap (λ (t : List ℕ). codes "ADRDUMP1" ++ t) first in
-    (head, record { serial = serial.may; tracks = tracks.may; vtoc = vtoc.may }, all)
+    (head, record { serial = serial.may; tracks = tracks.may; day = day.may; vtoc = vtoc.may }, all)
 
 -- ---- something may stand from each field on
 
@@ -130,19 +130,24 @@ pub vtoc_there : (full : Bool) (tracks : ℕ) → 2 ≤ tracks → (r : List ℕ
 vtoc_there true tracks many = (big_bytes 4 1 ++ replicate 4 0, record { value = 1; may = (omega arith, omega arith); rest = replicate 4 0; behind = zeros_there; spelled = refl })
 vtoc_there false tracks many = (big_bytes 4 0 ++ replicate 4 0, record { value = 0; may = refl; rest = replicate 4 0; behind = zeros_there; spelled = refl })
 
+no_day : IsDayPair (0, 0)
+no_day = (omega arith, omega arith)
+
 pub day_there : (full : Bool) (tracks : ℕ) → 2 ≤ tracks → (r : List ℕ) × FromDay full tracks r
 day_there full tracks many =
     let behind = vtoc_there full tracks many in
-    (pair_text (0, 0) ++ behind.0, record { value = (0, 0); may = tt; rest = behind.0; behind = behind.1; spelled = refl })
+    (pair_text (0, 0) ++ behind.0, record { value = (0, 0); may = no_day; rest = behind.0; behind = behind.1; spelled = refl })
 
-pub one_cylinder : (device : Device) → IsCylinders device 15
-one_cylinder D3390 = (omega arith, omega arith, refl)
-one_cylinder D3380 = (omega arith, omega arith, refl)
+-- so many tracks are whole cylinders of each device
+pub whole_cylinders : (device : Device) → IsCylinders device 30
+whole_cylinders D3390 = (omega arith, omega arith, refl)
+whole_cylinders D3380 = (omega arith, omega arith, refl)
+whole_cylinders D3350 = (omega arith, omega arith, refl)
 
 pub tracks_there : (full : Bool) (device : Device) → (r : List ℕ) × FromTracks full device r
 tracks_there full device =
-    let behind = day_there full 15 (omega arith) in
-    (big_bytes 4 15 ++ behind.0, record { value = 15; may = one_cylinder device; rest = behind.0; behind = behind.1; spelled = refl })
+    let behind = day_there full 30 (omega arith) in
+    (big_bytes 4 30 ++ behind.0, record { value = 30; may = whole_cylinders device; rest = behind.0; behind = behind.1; spelled = refl })
 
 abbrev pub some_serial : List ℕ
 some_serial = 0xC1 ∷ 0x40 ∷ 0x40 ∷ 0x40 ∷ 0x40 ∷ 0x40 ∷ []

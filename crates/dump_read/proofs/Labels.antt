@@ -3,7 +3,7 @@ use Rattle.std.proofs.Common.{◌≡◌, ◌≢◌, ℕ, ◌+◌, ◌-◌, ◌*�
 use Rattle.std.proofs.lemmas.List.{take_at, length-replicate}
 use Rattle.std.proofs.lemmas.Option.{same_Some}
 use Rattle.ckd_image.specs.declared.device.Device.{Device}
-use Rattle.ckd_image.specs.declared.device.Device.TheVariants.{D3390, D3380}
+use Rattle.ckd_image.specs.declared.device.Device.TheVariants.{D3390, D3380, D3350}
 use Rattle.ckd_image.specs.declared.head.Head.{Head}
 use Rattle.ckd_image.specs.declared.track.Rec.{Rec}
 use Rattle.ckd_image.specs.declared.track.Track.{Track as Text}
@@ -29,6 +29,7 @@ slot_filled new piece old behind n m len is front last zeros long =
 short_address : (device : Device) (number : ℕ) → number < 65535 → IsAddress (address_of (heads_of device) number)
 short_address D3390 number few = (omega (arith, few), omega (arith, few))
 short_address D3380 number few = (omega (arith, few), omega (arith, few))
+short_address D3350 number few = (omega (arith, few), omega (arith, few))
 
 pub short_filled : (device : Device) (bytes : List ℕ) → length bytes ≤ slot_of device → length (filled_slot device bytes) ≤ 65536
 short_filled device bytes short =
@@ -38,6 +39,7 @@ short_filled device bytes short =
     short_slot : (device : Device) → slot_of device ≤ 56832
     short_slot D3390 = omega arith
     short_slot D3380 = omega arith
+    short_slot D3350 = omega arith
 
 pub one_track : (device : Device) (number : ℕ) (bytes : List ℕ) (a b : Text) → length bytes ≤ slot_of device → number < 65535
     → IsTrackText (address_of (heads_of device) number) (filled_slot device bytes) a → IsTrackText (address_of (heads_of device) number) (filled_slot device bytes) b → a ≡ b

@@ -7,7 +7,6 @@ mod Stopping
 pub mod Fed
 pub mod Delimited
 pub mod Bounds
-mod OneDump
 mod Ends
 mod Names
 mod PartFields
@@ -41,9 +40,13 @@ mod ReadParts
 mod ReadSlots
 mod ReadEnds
 pub mod ReadAll
+mod OneHeader
+mod Parsed
+mod OneDump
 mod OneFront
 mod Lacking
 mod Faulted
+mod Passing
 mod TrackPlaces
 mod FieldPlaces
 mod NothingWrong

@@ -6,7 +6,7 @@ use Rattle.std.proofs.lemmas.List.{drop-append-le, drop_all, get_or-append-add}
 use Rattle.std.proofs.lemmas.List.Elements.{All-push, All-nil}
 use Rattle.std.proofs.lemmas.List.Quantifiers.{all_pairs_push}
 use Rattle.ckd_image.specs.declared.device.Device.{Device}
-use Rattle.ckd_image.specs.declared.device.Device.TheVariants.{D3390, D3380}
+use Rattle.ckd_image.specs.declared.device.Device.TheVariants.{D3390, D3380, D3350}
 use Rattle.ckd_image.specs.declared.track.Track.{Track as Text}
 use Rattle.ckd_image.specs.Track.{IsTrack, IsRecord}
 use Rattle.dump_fmt.specs.declared.piece.DumpHead.{DumpHead}
@@ -33,6 +33,7 @@ empty_sound = record { zero = refl; records = All-nil IsRecord }
 pub empty_stands : (device : Device) → StandsOn device empty_text
 empty_stands D3390 = record { sound = empty_sound; short = λ at. omega arith }
 empty_stands D3380 = record { sound = empty_sound; short = λ at. omega arith }
+empty_stands D3350 = record { sound = empty_sound; short = λ at. omega arith }
 
 part_with_text : (device : Device) (part : DumpPart) (text : Text) → IsPart device part → StandsOn device text → length part.texts < part.tracks → IsPart device (with_text part text)
 part_with_text device part text is stands less = record {

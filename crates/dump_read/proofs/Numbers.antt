@@ -5,7 +5,7 @@ use Rattle.std.specs.Int.{byte_at}
 use Rattle.byteorder.specs.Endian.{big_bytes, big_from}
 use Rattle.byteorder.specs.Numbers.{big_number-reads_back}
 use Rattle.ckd_image.specs.declared.device.Device.{Device}
-use Rattle.ckd_image.specs.declared.device.Device.TheVariants.{D3390, D3380}
+use Rattle.ckd_image.specs.declared.device.Device.TheVariants.{D3390, D3380, D3350}
 use Rattle.ckd_image.specs.Bytes.{Begins}
 use Rattle.ckd_image.specs.Head.{IsCylinders}
 use Rattle.dump_fmt.specs.Head.{IsVtocTrack}
@@ -62,32 +62,33 @@ whole_wrong May bytes rest v bound small is none = λ (n, may, front).
 
 -- ---- the number of tracks
 
-cylinders : (device : Device) (k : ℕ) → 1 ≤ k → 15 * k ≤ 65535 → IsCylinders device (15 * k)
+cylinders : (device : Device) (k : ℕ) → 1 ≤ k → 30 * k ≤ 65535 → IsCylinders device (30 * k)
 cylinders D3390 k some few = (omega arith, few, omega arith)
 cylinders D3380 k some few = (omega arith, few, omega arith)
+cylinders D3350 k some few = (omega arith, few, omega arith)
 
 few_cylinders : (device : Device) (n : ℕ) → IsCylinders device n → n < 2 ^ 32
 few_cylinders device n is = let h = is.1 in omega arith
 
 -- Another last byte makes tracks of whole cylinders.
 pub tracks_cut : (device : Device) (bytes : List ℕ) (p : ℕ) → p < 2 ^ 32 → length bytes < 4 → big_bytes 4 p ≡ bytes ++ replicate (4 - length bytes) 0 → p ≤ 65535 → BeginsTracks device bytes
-tracks_cut device [] p small short is few = (15, cylinders device 1 (omega arith) (omega arith), (big_bytes 4 15, refl))
+tracks_cut device [] p small short is few = (30, cylinders device 1 (omega arith) (omega arith), (big_bytes 4 30, refl))
 tracks_cut device (x ∷ []) p small short is few =
     let n = of_bytes p x 0 0 0 small is in
     let a : x ≡ 0 = omega arith in
-    (15, cylinders device 1 (omega arith) (omega arith), (0 ∷ 0 ∷ 15 ∷ [], ap (λ (b : ℕ). b ∷ 0 ∷ 0 ∷ 15 ∷ []) (sym a)))
+    (30, cylinders device 1 (omega arith) (omega arith), (0 ∷ 0 ∷ 30 ∷ [], ap (λ (b : ℕ). b ∷ 0 ∷ 0 ∷ 30 ∷ []) (sym a)))
 tracks_cut device (x ∷ y ∷ []) p small short is few =
     let n = of_bytes p x y 0 0 small is in
     let a : x ≡ 0 = omega arith in
     let b : y ≡ 0 = omega arith in
-    (15, cylinders device 1 (omega arith) (omega arith), (0 ∷ 15 ∷ [], cc))
+    (30, cylinders device 1 (omega arith) (omega arith), (0 ∷ 30 ∷ [], cc))
 tracks_cut device (x ∷ y ∷ z ∷ []) p small short is few =
     let n = of_bytes p x y z 0 small is in
     let a : x ≡ 0 = omega arith in
     let b : y ≡ 0 = omega arith in
-    let k : ℕ = (p + 255) / 15 in
-    let t : ℕ = 15 * k in
-    let low : p + 241 ≤ t = omega arith in
+    let k : ℕ = (p + 255) / 30 in
+    let t : ℕ = 30 * k in
+    let low : p + 226 ≤ t = omega arith in
     let high : t ≤ p + 255 = omega arith in
     let c : byte_at 1 t ≡ z = omega arith in
     let d : byte_at 2 t ≡ 0 = omega arith in

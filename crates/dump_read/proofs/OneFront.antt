@@ -1,14 +1,13 @@
 -- Fronts of dumps that stand at the front of the same bytes: one goes on to the other, piece by piece.
-use Rattle.std.proofs.Common.{◌≡◌, ◌⊎◌, inl, inr, ℕ, Bool, true, false, List, [], ◌∷◌, ◌++◌, length, replicate, All, Option, Some, None, IfSome, refl, sym, ap, subst, ◌∙◌, arith, length-append, append_assoc}
+use Rattle.std.proofs.Common.{◌≡◌, ◌⊎◌, inl, inr, ℕ, Bool, true, false, List, [], ◌∷◌, ◌++◌, All, Option, Some, None, IfSome, refl, sym, ap, subst, ◌∙◌, append_assoc}
 use Rattle.std.specs.List.{flat_map, AllByRecursion}
 use Rattle.std.proofs.lemmas.Grind.{flat_map-append}
 use Rattle.std.proofs.lemmas.List.{append-nil}
 use Rattle.std.proofs.lemmas.List.Elements.{recursion_from_All, All-nil}
-use Rattle.byteorder.specs.Endian.{big_bytes}
 use Rattle.ckd_image.specs.Bytes.{Begins}
 use Rattle.dump_fmt.specs.declared.piece.DumpHead.{DumpHead}
 use Rattle.dump_fmt.specs.declared.piece.Piece.{Piece}
-use Rattle.dump_fmt.specs.Head.{IsDumpHead, header_text, volume_text, day_text}
+use Rattle.dump_fmt.specs.Head.{IsDumpHead, header_text}
 use Rattle.dump_fmt.specs.Parts.{DumpPart, part_pieces}
 use Rattle.dump_fmt.specs.Pieces.{piece_text, pieces_text}
 use Rattle.dump_fmt.specs.Front.{Front, Adds, IsOfKind, IsFull, IsFront, front_pieces, current_pieces}
@@ -20,7 +19,7 @@ use Rattle.dump_read.proofs.Counts.{all_none}
 use Rattle.dump_read.proofs.Delimited.{IsBounded, pieces_delimited, no_trailer}
 use Rattle.dump_read.proofs.Fed.{long_header}
 use Rattle.dump_read.proofs.Going.{logical_by, of_slots, last_is}
-use Rattle.dump_read.proofs.Numbers.{one_number, few_vtoc}
+use Rattle.dump_read.proofs.OneHeader.{shared}
 use Rattle.dump_read.proofs.OnWay.{between, within}
 use Rattle.dump_read.proofs.Shapes.{in_parts, alike, front_alike, closes_alike, pieces_of_parts, bounded, no_slots_by, fronts_go_on, shapes_go_on}
 use Rattle.dump_read.proofs.Stages.{StandsBehind, pieces_front, on_way}
@@ -30,14 +29,7 @@ use Rattle.ckd_image.proofs.OneText.{split_same}
 
 -- they name the same track of the format 4
 pub same_vtoc : (head other : DumpHead) → IsDumpHead head → IsDumpHead other → header_text head ≡ header_text other → head.vtoc ≡ other.vtoc
-same_vtoc head other sound right e =
-    let volume : (h : DumpHead) → IsDumpHead h → length (volume_text h) ≡ 20 = λ h is. omega (arith, is.serial.1.six, length-append h.serial.text (big_bytes 4 h.tracks)) in
-    let days = split_same (volume_text head) (volume_text other) (day_text head) (day_text other) (volume head sound ∙ sym (volume other right)) e in
-    let years = split_same (big_bytes 2 head.day.year) (big_bytes 2 other.day.year) (big_bytes 2 head.day.day ++ (big_bytes 4 head.vtoc ++ replicate 4 0))
-    (big_bytes 2 other.day.day ++ (big_bytes 4 other.vtoc ++ replicate 4 0)) refl days.1 in
-    let day = split_same (big_bytes 2 head.day.day) (big_bytes 2 other.day.day) (big_bytes 4 head.vtoc ++ replicate 4 0) (big_bytes 4 other.vtoc ++ replicate 4 0) refl years.1 in
-    let vtocs = split_same (big_bytes 4 head.vtoc) (big_bytes 4 other.vtoc) (replicate 4 0) (replicate 4 0) refl day.1 in
-    one_number head.vtoc other.vtoc (few_vtoc head.full head.tracks head.vtoc sound.tracks.1 sound.vtoc) (few_vtoc other.full other.tracks other.vtoc right.tracks.1 right.vtoc) vtocs.0
+same_vtoc head other sound right e = (shared head other sound right e).vtoc
 
 -- ---- the front of a dump with which a shape begins is going
 

@@ -4,7 +4,7 @@ use Rattle.std.proofs.lemmas.List.{length-take, take-append-drop, take_all, take
 use Rattle.byteorder.specs.Endian.{big_bytes}
 use Rattle.sha2.specs.Hashers.{Holds256}
 use Rattle.ckd_image.specs.declared.device.Device.{Device}
-use Rattle.ckd_image.specs.declared.device.Device.TheVariants.{D3390, D3380}
+use Rattle.ckd_image.specs.declared.device.Device.TheVariants.{D3390, D3380, D3350}
 use Rattle.ckd_image.specs.declared.track.Track.{Track as Text}
 use Rattle.ckd_image.specs.Bytes.{Begins}
 use Rattle.ckd_image.specs.Device.{slot_of}
@@ -117,6 +117,7 @@ part_gives tape old new front count part is read long small steps same window of
 slot_small : (device : Device) → slot_of device ≤ 56832
 slot_small D3390 = omega arith
 slot_small D3380 = omega arith
+slot_small D3350 = omega arith
 
 -- a track has fewer bytes than are looked at
 track_short : (device : Device) (track : Text) → StandsOn device track → length (dumped_track track) < 57343

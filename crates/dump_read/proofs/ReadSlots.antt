@@ -6,7 +6,7 @@ use Rattle.std.proofs.lemmas.Option.{same_Some, slice_get_within}
 use Rattle.sha2.specs.Hashers.{Holds256}
 use Rattle.byteorder.specs.Endian.{big_bytes}
 use Rattle.ckd_image.specs.declared.device.Device.{Device}
-use Rattle.ckd_image.specs.declared.device.Device.TheVariants.{D3390, D3380}
+use Rattle.ckd_image.specs.declared.device.Device.TheVariants.{D3390, D3380, D3350}
 use Rattle.ckd_image.specs.declared.track.Track.{Track as Text}
 use Rattle.ckd_image.specs.Bytes.{Begins}
 use Rattle.ckd_image.specs.Device.{slot_of}
@@ -196,6 +196,7 @@ slot_wrong tape reader front stop field place fault is stopped there at same =
 slot_within : (device : Device) → slot_of device ≤ 56832
 slot_within D3390 = omega arith
 slot_within D3380 = omega arith
+slot_within D3350 = omega arith
 
 -- it is cut
 pub slot_cut : (tape : TapeSeen) (reader : ReaderView) (front : Front) (stop : SlotStop) (fault : DumpFault) → IsMarked tape reader front marks.Slot

@@ -8,7 +8,7 @@ use Rattle.std.proofs.lemmas.List.Elements.{recursion_from_All, All-append, All-
 use Rattle.std.proofs.lemmas.Option.{none-some}
 use Rattle.byteorder.specs.Endian.{big_bytes}
 use Rattle.ckd_image.specs.declared.device.Device.{Device}
-use Rattle.ckd_image.specs.declared.device.Device.TheVariants.{D3390, D3380}
+use Rattle.ckd_image.specs.declared.device.Device.TheVariants.{D3390, D3380, D3350}
 use Rattle.ckd_image.specs.declared.track.Track.{Track as Text}
 use Rattle.ckd_image.specs.Bytes.{Begins}
 use Rattle.ckd_image.specs.Head.{device_byte}
@@ -201,8 +201,13 @@ same_kind false false e = refl
 same_device : (a b : Device) → device_byte a ≡ device_byte b → a ≡ b
 same_device D3390 D3390 e = refl
 same_device D3390 D3380 e = absurd (omega (arith, e))
+same_device D3390 D3350 e = absurd (omega (arith, e))
 same_device D3380 D3390 e = absurd (omega (arith, e))
 same_device D3380 D3380 e = refl
+same_device D3380 D3350 e = absurd (omega (arith, e))
+same_device D3350 D3390 e = absurd (omega (arith, e))
+same_device D3350 D3380 e = absurd (omega (arith, e))
+same_device D3350 D3350 e = refl
 
 pub alike : (head other : DumpHead) → IsDumpHead head → IsDumpHead other → header_text head ≡ header_text other → AreAlike head other
 alike head other sound right e =

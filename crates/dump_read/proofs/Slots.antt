@@ -3,7 +3,7 @@ use Rattle.std.proofs.Common.{◌≡◌, ◌≢◌, ℕ, zero, suc, ◌+◌, ◌
 use Rattle.std.proofs.lemmas.List.{length-take, length-replicate}
 use Rattle.byteorder.specs.Endian.{big_bytes}
 use Rattle.ckd_image.specs.declared.device.Device.{Device}
-use Rattle.ckd_image.specs.declared.device.Device.TheVariants.{D3390, D3380}
+use Rattle.ckd_image.specs.declared.device.Device.TheVariants.{D3390, D3380, D3350}
 use Rattle.ckd_image.specs.Bytes.{Begins}
 use Rattle.ckd_image.specs.Device.{slot_of}
 use Rattle.dump_read.specs.declared.slot.SlotField.{SlotField}
@@ -79,6 +79,7 @@ ones n = (length-replicate {A = ℕ} n 1, ones_end n)
 short_slot : (device : Device) → slot_of device ≤ 56832
 short_slot D3390 = omega arith
 short_slot D3380 = omega arith
+short_slot D3350 = omega arith
 
 fits_number : (device : Device) (n : ℕ) → n ≤ slot_of device → n < 2 ^ 32
 fits_number device n within = omega (arith, within, short_slot device)

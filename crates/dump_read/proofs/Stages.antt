@@ -41,7 +41,7 @@ pieces_front before all rest end p q trailer e = front_by before all rest end (r
 abbrev pub end_piece : Bool → Piece
 end_piece whole = if whole then PartEnd else Dropped
 
-no_end : (b : Bool) (text : Text) → ¬ (Track text ≡ end_piece b)
+pub no_end : (b : Bool) (text : Text) → ¬ (Track text ≡ end_piece b)
 no_end true text e = cc
 no_end false text e = cc
 
@@ -72,14 +72,14 @@ texts_front (t ∷ texts) (o ∷ others) c more y e =
     let tail : others ≡ texts ++ rest.0 = rest.1 in
     (rest.0, cc, rest.2)
 
-same_part : (f1 g1 : List ℕ) (tracks others kind other : ℕ) (a b : List Text) → f1 ≡ g1 → tracks ≡ others → kind ≡ other → a ≡ b
+pub same_part : (f1 g1 : List ℕ) (tracks others kind other : ℕ) (a b : List Text) → f1 ≡ g1 → tracks ≡ others → kind ≡ other → a ≡ b
     → Path DumpPart (record { f1 = f1; tracks = tracks; kind = kind; texts = a }) (record { f1 = g1; tracks = others; kind = other; texts = b })
 same_part f1 g1 tracks others kind other a b p q r s = λ i. record { f1 = p i; tracks = q i; kind = r i; texts = s i }
 
-ended_so : (part : DumpPart) (x : List Piece) → part_pieces part ++ x ≡ Part part.f1 part.tracks part.kind ∷ (map Track part.texts ++ end_piece (is_whole part) ∷ x)
+pub ended_so : (part : DumpPart) (x : List Piece) → part_pieces part ++ x ≡ Part part.f1 part.tracks part.kind ∷ (map Track part.texts ++ end_piece (is_whole part) ∷ x)
 ended_so part x = append_assoc (begun_pieces part) (end_piece (is_whole part) ∷ []) x
 
-part_apart : (p q : DumpPart) (x y : List Piece) → part_pieces p ++ x ≡ part_pieces q ++ y → (p ≡ q) × (x ≡ y)
+pub part_apart : (p q : DumpPart) (x y : List Piece) → part_pieces p ++ x ≡ part_pieces q ++ y → (p ≡ q) × (x ≡ y)
 part_apart p q x y e =
     let all : Part p.f1 p.tracks p.kind ∷ (map Track p.texts ++ end_piece (is_whole p) ∷ x) ≡ Part q.f1 q.tracks q.kind ∷ (map Track q.texts ++ end_piece (is_whole q) ∷ y) =
     sym (ended_so p x) ∙ e ∙ ended_so q y in

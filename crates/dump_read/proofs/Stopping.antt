@@ -3,7 +3,7 @@ use Rattle.std.proofs.Common.{◌≡◌, ℕ, ◌+◌, ◌≤◌, ◌<◌, Bool,
 use Rattle.std.specs.Prelude.{codes}
 use Rattle.byteorder.specs.Endian.{big_bytes}
 use Rattle.ckd_image.specs.declared.device.Device.{Device}
-use Rattle.ckd_image.specs.declared.device.Device.TheVariants.{D3390, D3380}
+use Rattle.ckd_image.specs.declared.device.Device.TheVariants.{D3390, D3380, D3350}
 use Rattle.ckd_image.specs.Head.{IsCylinders}
 use Rattle.vol_label.specs.Serial.{IsSerial}
 use Rattle.ckd_image.specs.Bytes.{Begins}
@@ -14,11 +14,11 @@ use Rattle.dump_read.specs.declared.header.HeaderField.TheVariants as fields
 use Rattle.dump_read.specs.declared.header.HeaderStop.{HeaderStop}
 use Rattle.dump_read.specs.declared.header.HeaderStop.TheVariants.{Wrong, Cut}
 use Rattle.dump_read.specs.Fields.{GoesOn, IsFirstWrong, IsFieldFront}
-use Rattle.dump_read.specs.Header.{offset_of, length_of, IsHeader, IsHeaderStop, Stops, kind_text, device_text, pair_text, BeginsFixed, BeginsKind, BeginsDevice, BeginsSerial, BeginsTracks, BeginsDay, BeginsVtoc}
+use Rattle.dump_read.specs.Header.{offset_of, length_of, IsHeader, IsDayPair, IsHeaderStop, Stops, kind_text, device_text, pair_text, BeginsFixed, BeginsKind, BeginsDevice, BeginsSerial, BeginsTracks, BeginsDay, BeginsVtoc}
 use Rattle.dump_read.proofs.Chains.{Then, wrong_here, wrong_behind, cut_behind, field_goes, wrong_as, goes_as}
 use Rattle.dump_read.proofs.Delimited.{other_mark}
 use Rattle.dump_read.proofs.Numbers.{one_number}
-use Rattle.dump_read.proofs.Headers.{FromMagic, FromKind, FromDevice, FromSerial, FromTracks, FromDay, FromVtoc, FromZeros, chain_of, header_of, kind_there, one_cylinder, device_there, serial_there, tracks_there, day_there, vtoc_there, zeros_there, some_serial, is_some_serial}
+use Rattle.dump_read.proofs.Headers.{FromMagic, FromKind, FromDevice, FromSerial, FromTracks, FromDay, FromVtoc, FromZeros, chain_of, header_of, kind_there, whole_cylinders, device_there, serial_there, tracks_there, day_there, vtoc_there, zeros_there, some_serial, is_some_serial}
 
 -- why bytes from a place of the header on aren't what may stand there
 abbrev pub StopsAt : (List ℕ → Type 0) → List ℕ → ℕ → HeaderStop → Type 0
@@ -55,6 +55,7 @@ module _ {X : Type 0} (May : X → Type 0) (text : X → List ℕ) (Rest : X →
 pub many_tracks : (device : Device) (n : ℕ) → IsCylinders device n → 2 ≤ n
 many_tracks D3390 n is = let a = is.0 in let b = is.2 in omega arith
 many_tracks D3380 n is = let a = is.0 in let b = is.2 in omega arith
+many_tracks D3350 n is = let a = is.0 in let b = is.2 in omega arith
 
 pub one_kind : (a b : Bool) → kind_text a ≡ kind_text b → a ≡ b
 one_kind true true e = refl
@@ -65,8 +66,13 @@ one_kind false false e = refl
 pub one_device : (a b : Device) → device_text a ≡ device_text b → a ≡ b
 one_device D3390 D3390 e = refl
 one_device D3390 D3380 e = absurd (other_mark (device_text D3390) (device_text D3380) e (omega arith))
+one_device D3390 D3350 e = absurd (other_mark (device_text D3390) (device_text D3350) e (omega arith))
 one_device D3380 D3390 e = absurd (other_mark (device_text D3380) (device_text D3390) e (omega arith))
 one_device D3380 D3380 e = refl
+one_device D3380 D3350 e = absurd (other_mark (device_text D3380) (device_text D3350) e (omega arith))
+one_device D3350 D3390 e = absurd (other_mark (device_text D3350) (device_text D3390) e (omega arith))
+one_device D3350 D3380 e = absurd (other_mark (device_text D3350) (device_text D3380) e (omega arith))
+one_device D3350 D3350 e = refl
 
 pub at_magic : (bytes : List ℕ) (stop : HeaderStop) → Stops fields.Magic (BeginsFixed (codes "ADRDUMP1")) bytes stop → StopsAt FromMagic bytes 0 stop
 at_magic bytes stop stops =
@@ -107,7 +113,7 @@ behind_serial full device serial bytes rest stop may is stops =
 
 pub at_tracks : (full : Bool) (device : Device) (bytes : List ℕ) (stop : HeaderStop) → Stops fields.Tracks (BeginsTracks device) bytes stop → StopsAt (FromTracks full device) bytes 16 stop
 at_tracks full device bytes stop stops =
-    stops_here (IsCylinders device) (big_bytes 4) (FromDay full) 4 (λ x may. refl) fields.Tracks bytes 15 16 stop refl refl (omega arith) (one_cylinder device)
+    stops_here (IsCylinders device) (big_bytes 4) (FromDay full) 4 (λ x may. refl) fields.Tracks bytes 30 16 stop refl refl (omega arith) (whole_cylinders device)
     (λ n may. day_there full n (many_tracks device n may)) stops
 
 pub behind_tracks : (full : Bool) (device : Device) (tracks : ℕ) (bytes rest : List ℕ) (stop : HeaderStop) → IsCylinders device tracks → bytes ≡ big_bytes 4 tracks ++ rest
@@ -120,13 +126,13 @@ pub at_day : (full : Bool) (tracks : ℕ) (bytes : List ℕ) (stop : HeaderStop)
 at_day full tracks bytes stop many is short (day, ok, front) =
     subst (StopsAt (FromDay full tracks) bytes 20) (sym is) (
       omega arith,
-      field_goes (λ x. Unit {0}) pair_text (λ day. FromVtoc full tracks) 4 (λ x may. refl) day (vtoc_there full tracks many).0 bytes tt (vtoc_there full tracks many).1 front,
+      field_goes IsDayPair pair_text (λ day. FromVtoc full tracks) 4 (λ x may. refl) day (vtoc_there full tracks many).0 bytes ok (vtoc_there full tracks many).1 front,
     )
 
-pub behind_day : (full : Bool) (tracks year day : ℕ) (bytes rest : List ℕ) (stop : HeaderStop) → bytes ≡ pair_text (year, day) ++ rest → StopsAt (FromVtoc full tracks) rest 24 stop
-    → StopsAt (FromDay full tracks) bytes 20 stop
-behind_day full tracks year day bytes rest stop is stops =
-    stops_behind (λ x. Unit {0}) pair_text (λ day. FromVtoc full tracks) 4 (λ x may. refl) bytes rest (year, day) 20 24 stop refl tt is (λ y r may same behind. behind) stops
+pub behind_day : (full : Bool) (tracks year day : ℕ) (bytes rest : List ℕ) (stop : HeaderStop) → IsDayPair (year, day) → bytes ≡ pair_text (year, day) ++ rest
+    → StopsAt (FromVtoc full tracks) rest 24 stop → StopsAt (FromDay full tracks) bytes 20 stop
+behind_day full tracks year day bytes rest stop may is stops =
+    stops_behind IsDayPair pair_text (λ day. FromVtoc full tracks) 4 (λ x may. refl) bytes rest (year, day) 20 24 stop refl may is (λ y r may same behind. behind) stops
 
 some_vtoc : (full : Bool) (tracks : ℕ) → 2 ≤ tracks → (n : ℕ) × IsVtocTrack full tracks n
 some_vtoc true tracks many = (1, (omega arith, omega arith))
@@ -148,10 +154,11 @@ at_zeros bytes stop stops =
 
 -- ---- all of it is read
 
-pub header_read : (head : DumpHead) (bytes r1 r2 r3 r4 r5 r6 r7 r8 : List ℕ) → IsSerial head.serial.text → IsCylinders head.device head.tracks → IsVtocTrack head.full head.tracks head.vtoc
+pub header_read : (head : DumpHead) (bytes r1 r2 r3 r4 r5 r6 r7 r8 : List ℕ) → IsSerial head.serial.text → IsCylinders head.device head.tracks → IsDayPair (head.day.year, head.day.day)
+    → IsVtocTrack head.full head.tracks head.vtoc
     → bytes ≡ codes "ADRDUMP1" ++ r1 → r1 ≡ kind_text head.full ++ r2 → r2 ≡ device_text head.device ++ r3 → r3 ≡ head.serial.text ++ r4 → r4 ≡ big_bytes 4 head.tracks ++ r5
     → r5 ≡ pair_text (head.day.year, head.day.day) ++ r6 → r6 ≡ big_bytes 4 head.vtoc ++ r7 → r7 ≡ replicate 4 0 ++ r8 → IsDumpHead head × Begins (header_text head) bytes
-header_read head bytes r1 r2 r3 r4 r5 r6 r7 r8 serial tracks vtoc e1 e2 e3 e4 e5 e6 e7 e8 =
+header_read head bytes r1 r2 r3 r4 r5 r6 r7 r8 serial tracks day vtoc e1 e2 e3 e4 e5 e6 e7 e8 =
     let behind : r5 ≡ day_text head ++ r8 =
     e6 ∙ ap (λ (t : List ℕ). pair_text (head.day.year, head.day.day) ++ t) (e7 ∙ ap (λ (t : List ℕ). big_bytes 4 head.vtoc ++ t) e8) in
     let third : r3 ≡ ((head.serial.text ++ big_bytes 4 head.tracks) ++ day_text head) ++ r8 =
@@ -160,4 +167,4 @@ header_read head bytes r1 r2 r3 r4 r5 r6 r7 r8 serial tracks vtoc e1 e2 e3 e4 e5
     let first : r1 ≡ kind_text head.full ++ (device_text head.device ++ (((head.serial.text ++ big_bytes 4 head.tracks) ++ day_text head) ++ r8)) =
     e2 ∙ ap (λ (t : List ℕ). kind_text head.full ++ t) (e3 ∙ ap (λ (t : List ℕ). device_text head.device ++ t) third) in
     let all : bytes ≡ header_text head ++ r8 = e1 ∙ ap (λ (t : List ℕ). codes "ADRDUMP1" ++ t) first in
-    (record { serial = serial; tracks = tracks; vtoc = vtoc }, (r8, all))
+    (record { serial = serial; tracks = tracks; day = day; vtoc = vtoc }, (r8, all))

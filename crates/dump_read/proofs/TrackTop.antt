@@ -4,7 +4,7 @@ use Rattle.std.proofs.lemmas.List.{append-nil, length-replicate}
 use Rattle.std.proofs.lemmas.List.Sums.{sum_by-cons}
 use Rattle.byteorder.specs.Endian.{big_bytes}
 use Rattle.ckd_image.specs.declared.device.Device.{Device}
-use Rattle.ckd_image.specs.declared.device.Device.TheVariants.{D3390, D3380}
+use Rattle.ckd_image.specs.declared.device.Device.TheVariants.{D3390, D3380, D3350}
 use Rattle.ckd_image.specs.declared.track.TrackAt.{TrackAt}
 use Rattle.ckd_image.specs.declared.track.Rec.{Rec}
 use Rattle.ckd_image.specs.declared.track.Track.{Track as Text}
@@ -31,6 +31,7 @@ use Rattle.ckd_image.proofs.OneText.{split_same}
 pub slot_bounds : (device : Device) → (29 ≤ slot_of device) × (slot_of device ≤ 65535)
 slot_bounds D3390 = (omega arith, omega arith)
 slot_bounds D3380 = (omega arith, omega arith)
+slot_bounds D3350 = (omega arith, omega arith)
 
 record_long : (at : TrackAt) (rec : Rec) → length (record_text at rec) ≡ 8 + size_of rec
 record_long at rec = omega (arith, length-append rec.key rec.body)

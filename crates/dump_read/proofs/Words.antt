@@ -44,17 +44,17 @@ low : (x y : ℕ) → x < 256 → y < 256 → byte_at 0 (x * 256 + y) ≡ y
 low x y less small = omega arith
 
 pub day_cut : (bytes : List ℕ) → length bytes < 4 → ((k : ℕ) → slice_index bytes k < 256) → BeginsDay bytes
-day_cut [] short small = ((0, 0), tt, (pair_text (0, 0), refl))
+day_cut [] short small = ((0, 0), (omega arith, omega arith), (pair_text (0, 0), refl))
 day_cut (x ∷ []) short small =
     let a = high x 0 (small 0) (omega arith) in
-    ((x * 256 + 0, 0), tt, (byte_at 0 (x * 256 + 0) ∷ 0 ∷ 0 ∷ [], cc))
+    ((x * 256 + 0, 0), (omega (arith, small 0), omega arith), (byte_at 0 (x * 256 + 0) ∷ 0 ∷ 0 ∷ [], cc))
 day_cut (x ∷ y ∷ []) short small =
     let a = high x y (small 0) (small 1) in
     let b = low x y (small 0) (small 1) in
-    ((x * 256 + y, 0), tt, (0 ∷ 0 ∷ [], cc))
+    ((x * 256 + y, 0), (omega (arith, small 0, small 1), omega arith), (0 ∷ 0 ∷ [], cc))
 day_cut (x ∷ y ∷ z ∷ []) short small =
     let a = high x y (small 0) (small 1) in
     let b = low x y (small 0) (small 1) in
     let c = high z 0 (small 2) (omega arith) in
-    ((x * 256 + y, z * 256 + 0), tt, (byte_at 0 (z * 256 + 0) ∷ [], cc))
+    ((x * 256 + y, z * 256 + 0), (omega (arith, small 0, small 1), omega (arith, small 2)), (byte_at 0 (z * 256 + 0) ∷ [], cc))
 day_cut (x ∷ y ∷ z ∷ w ∷ bytes) short small = absurd (omega arith)

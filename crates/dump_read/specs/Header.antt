@@ -5,7 +5,7 @@ use Rattle.ckd_image.specs.declared.device.Device.{Device}
 use Rattle.ckd_image.specs.Head.{device_byte, IsCylinders}
 use Rattle.vol_label.specs.Serial.{IsSerial}
 use Rattle.dump_fmt.specs.declared.piece.DumpHead.{DumpHead}
-use Rattle.dump_fmt.specs.Head.{IsDumpHead, header_text, kind_byte, IsVtocTrack}
+use Rattle.dump_fmt.specs.Head.{IsDumpHead, header_text, kind_byte, IsVtocTrack, FitsDay}
 use Rattle.dump_read.specs.declared.header.HeaderField.{HeaderField}
 use Rattle.dump_read.specs.declared.header.HeaderField.TheVariants as fields
 use Rattle.dump_read.specs.declared.header.HeaderStop.{HeaderStop}
@@ -78,8 +78,12 @@ BeginsTracks device = IsFieldFront (IsCylinders device) (big_bytes 4)
 abbrev pub pair_text : ℕ × ℕ → List ℕ
 pair_text pair = big_bytes 2 pair.0 ++ big_bytes 2 pair.1
 
+-- year and day
+abbrev pub IsDayPair : ℕ × ℕ → Type 0
+IsDayPair pair = FitsDay pair.0 pair.1
+
 abbrev pub BeginsDay : List ℕ → Type 0
-BeginsDay = IsFieldFront (λ day. Unit {0}) pair_text
+BeginsDay = IsFieldFront IsDayPair pair_text
 
 abbrev pub BeginsVtoc : Bool → ℕ → List ℕ → Type 0
 BeginsVtoc full tracks = IsFieldFront (IsVtocTrack full tracks) (big_bytes 4)

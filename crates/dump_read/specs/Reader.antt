@@ -2,19 +2,20 @@
 use Rattle.std.specs.Prelude.{◌≡◌, ◌⊎◌, ℕ, ◌≤◌, List, [], ◌∷◌, length, Option, Some, None}
 use Rattle.ckd_image.specs.Bytes.{Begins}
 use Rattle.dasd_pool.specs.Count.{Rose}
-use Rattle.dasd_pool.specs.Stream.{EndsOnly}
+use Rattle.dasd_pool.specs.Stream.{Takes, EndsOnly}
 use Rattle.dump_fmt.specs.declared.fault.DumpFault.{DumpFault}
 use Rattle.dump_fmt.specs.declared.fault.DumpFault.TheVariants.{BadDump, NoMemory, Reel}
 use Rattle.dump_fmt.specs.declared.piece.DumpHead.{DumpHead}
 use Rattle.dump_fmt.specs.declared.piece.Piece.{Piece}
 use Rattle.dump_fmt.specs.Front.{Front, Adds, HasLabel, IsFront}
-use Rattle.dump_fmt.specs.Text.{front_text, IsDumpText}
+use Rattle.dump_fmt.specs.Text.{front_text, added_text, IsDumpText}
 use Rattle.vol_label.specs.declared.label.Label.{Label}
 use Rattle.dump_read.specs.declared.feed.Feed.{Feed}
 use Rattle.dump_read.specs.declared.mark.Mark.{Mark}
 use Rattle.dump_read.specs.declared.mark.Mark.TheVariants as marks
 use Rattle.dump_read.specs.declared.standing.Standing.{Standing}
 use Rattle.dump_read.specs.Tape.{TapeSeen}
+use Rattle.dump_read.specs.Feed.{coming}
 use Rattle.dump_read.specs.Faults.{LacksRecord}
 use Rattle.dump_read.specs.Labelled.{IsLabelSlot, IsFormat4Slot}
 use Rattle.dump_read.specs.PartText.{IsNextName}
@@ -60,6 +61,15 @@ IsWhole tape reader front = HeldSuch tape.held (λ whole. IsDumpText whole reade
 abbrev pub GivesNext : TapeSeen → ReaderView → Front → Option Piece → Type 0
 GivesNext tape reader front (Some piece) = Gives tape reader front piece
 GivesNext tape reader front None = IsWhole tape reader front
+
+-- what is to come: what is held beyond the pieces so far, and then what is left on the reel
+abbrev pub to_come : TapeSeen → ReaderView → Option (List ℕ)
+to_come tape reader = coming reader.feed.window tape.left
+
+-- the piece took its bytes from the front of what was to come, and no others; behind the dump nothing is to come
+abbrev pub TakesPiece : Option (List ℕ) → Option (List ℕ) → DumpHead → Front → Option Piece → Type 0
+TakesPiece old new head front (Some piece) = Takes old new (added_text head front piece)
+TakesPiece old new head front None = EndsOnly new
 
 -- only where the reel failed its count rose
 abbrev pub HasItsCause : TapeSeen → TapeSeen → DumpFault → Type 0

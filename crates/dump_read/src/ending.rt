@@ -4,8 +4,9 @@ ghost use Rattle.std.specs.Prelude.{◌≡◌, ◌≤◌, ◌+◌, ◌++◌, Lis
 ghost use Rattle.byteorder.specs.Endian.{big_bytes};
 ghost use Rattle.ckd_image.specs.Bytes.{Begins};
 ghost use Rattle.dasd_pool.specs.Count.{Rose};
+ghost use Rattle.dasd_pool.specs.Stream.{EndsOnly};
 ghost use Rattle.dump_read.specs.Ending.{both_counts, right_digest, count_fault as fault_of_count, IsCountStop, IsFixedStop, IsEndFault};
-ghost use Rattle.dump_read.specs.Feed.{largest_offset};
+ghost use Rattle.dump_read.specs.Feed.{coming, largest_offset};
 ghost use Rattle.dump_read.specs.Reading.{HasRead, HasCome, HeldSuch};
 
 use crate::feed::Feed;
@@ -104,6 +105,7 @@ fn read_digest<R: Tape>(feed: &mut Feed, reel: &mut R) -> Result<[u8; 32], DumpF
 /// Is refused with the offset where the reel has more.
 fn nothing_behind<R: Tape>(feed: &mut Feed, reel: &mut R, offset: u64) -> Result<(), DumpFault>
     ensures none { OnOk result ((bytes : List ℕ) → HasCome (R.seen reel.old) feed.old bytes → HeldSuch (R.seen reel.new).held (λ whole. whole ≡ bytes)) }
+    ensures all { OnOk result (EndsOnly (coming feed.new.window (R.seen reel.new).left)) }
     ensures refused { IfErr result (λ e. (parts tracks : ℕ) (bytes digest : List ℕ) → length digest ≡ 32 → offset ≡ min (length bytes + 40) largest_offset
         → HasCome (R.seen reel.old) feed.old ((bytes ++ both_counts parts tracks) ++ digest) → IsEndFault parts tracks bytes (R.seen reel.new).held e) }
     ensures same { (R.seen reel.new).held ≡ (R.seen reel.old).held }
@@ -127,6 +129,7 @@ pub fn read_end<R: Tape>(
 ) -> Result<(), DumpFault>
     ensures whole { OnOk result ((bytes : List ℕ) → HasRead (R.seen reel.old) feed.old bytes
         → HeldSuch (R.seen reel.new).held (λ whole. whole ≡ (bytes ++ both_counts parts tracks) ++ right_digest parts tracks bytes)) }
+    ensures all { OnOk result (EndsOnly (coming feed.new.window (R.seen reel.new).left)) }
     ensures refused { IfErr result (λ e. (bytes : List ℕ) → HasRead (R.seen reel.old) feed.old bytes → IsEndFault parts tracks bytes (R.seen reel.new).held e) }
     ensures same { (R.seen reel.new).held ≡ (R.seen reel.old).held }
     ensures later { (R.seen reel.old).faults ≤ (R.seen reel.new).faults }

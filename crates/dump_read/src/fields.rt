@@ -5,7 +5,7 @@ ghost use Rattle.byteorder.specs.Endian.{big_bytes};
 ghost use Rattle.ckd_image.specs.Head.{IsCylinders};
 ghost use Rattle.vol_label.specs.Serial.{IsSerial};
 ghost use Rattle.dump_fmt.specs.Head.{IsVtocTrack};
-ghost use Rattle.dump_read.specs.Header.{length_of, kind_text, device_text, pair_text, Stops, BeginsFixed, BeginsKind, BeginsDevice, BeginsSerial, BeginsTracks, BeginsDay, BeginsVtoc};
+ghost use Rattle.dump_read.specs.Header.{length_of, kind_text, device_text, pair_text, Stops, BeginsFixed, BeginsKind, BeginsDevice, BeginsSerial, BeginsTracks, BeginsDay, BeginsVtoc, IsDayPair};
 
 use crate::header::{HeaderField, HeaderStop};
 use crate::number::{number_in, padded, pair_in};
@@ -59,6 +59,7 @@ pub(crate) fn device_in(bytes: &[u8]) -> Result<(Device, &[u8]), HeaderStop>
     match *device {
         0x90 => Ok((Device::D3390, rest)),
         0x80 => Ok((Device::D3380, rest)),
+        0x50 => Ok((Device::D3350, rest)),
         _ => Err(HeaderStop::Wrong(HeaderField::Device)),
     }
 }
@@ -133,7 +134,7 @@ pub(crate) fn tracks_in(device: Device, bytes: &[u8]) -> Result<(u32, &[u8]), He
     Ok((tracks, rest))
 }
 
-/// What is to be said of fewer than four bytes: each number of at most 65,535 with another last byte has one of whole cylinders.
+/// What is to be said of fewer than four bytes: each number of at most 65,535 with another last byte has one of whole cylinders of any device.
 fn cut_tracks(device: Device, bytes: &[u8]) -> HeaderStop
     requires { length bytes.now < 4 }
     ensures { Stops HeaderField.Tracks (BeginsTracks device) bytes.now result }
@@ -146,7 +147,7 @@ fn cut_tracks(device: Device, bytes: &[u8]) -> HeaderStop
 
 /// Year and day, which may be any, and the bytes behind them.
 pub(crate) fn day_in(bytes: &[u8]) -> Result<(Day, &[u8]), HeaderStop>
-    ensures found { IfOk result (λ x. bytes.now ≡ pair_text (x.0.year, x.0.day) ++ x.1.now) }
+    ensures found { IfOk result (λ x. IsDayPair (x.0.year, x.0.day) × (bytes.now ≡ pair_text (x.0.year, x.0.day) ++ x.1.now)) }
     ensures stops { IfErr result (λ stop. (stop ≡ HeaderStop.Cut) × (length bytes.now < 4) × BeginsDay bytes.now) }
 {
     let Some((year, day, rest)) = pair_in(bytes) else {

@@ -3,11 +3,12 @@
 ghost use Rattle.std.specs.Prelude.{◌≡◌, ◌≢◌, ◌≤◌, ◌+◌, length, drop, min, true, IfOk, IfErr, IfSome, IfNone, OnOk};
 ghost use Rattle.ckd_image.specs.Device.{slot_of};
 ghost use Rattle.dump_fmt.specs.Front.{Front, empty_front, IsFront};
-ghost use Rattle.dump_fmt.specs.Head.{IsDumpHead};
+ghost use Rattle.dump_fmt.specs.Head.{IsDumpHead, header_text};
 ghost use Rattle.dump_fmt.specs.Text.{IsDumpText};
+ghost use Rattle.dasd_pool.specs.Stream.{Takes, EndsOnly};
 ghost use Rattle.dump_read.specs.Faults.{why_of, IsHeadFault, IsFaultBehind, IsDumpFault};
 ghost use Rattle.dump_read.specs.Feed.{largest_offset};
-ghost use Rattle.dump_read.specs.Reader.{IsAhead, IsReading, IsMarked, Gives, GivesNext, IsWhole, IsLabelled, IsLabelFault, HasItsCause};
+ghost use Rattle.dump_read.specs.Reader.{IsAhead, IsReading, IsMarked, Gives, GivesNext, IsWhole, IsLabelled, IsLabelFault, HasItsCause, TakesPiece, to_come};
 ghost use Rattle.dump_read.specs.Shape.{IsGoing};
 ghost use Rattle.dump_read.specs.Standing.{StandsAt};
 ghost use Rattle.dump_read.specs.Reading.{HeldSuch};
@@ -70,6 +71,8 @@ impl DumpReader {
     /// Goes back to the first byte of the reel and reads the header.
     pub fn start<R: Tape>(alloc: Global, reel: &mut R) -> Result<DumpReader, DumpFault>
         ensures read { IfOk result (λ reader. IsReading (R.seen reel.new) reader empty_front) }
+        // Of what the reel holds, all but the header is to come.
+        ensures taken { IfOk result (λ reader. Takes (R.seen reel.new).held (to_come (R.seen reel.new) reader) (header_text reader.head)) }
         ensures refused { IfErr result (IsHeadFault (R.seen reel.new).held) }
         ensures same { (R.seen reel.new).held ≡ (R.seen reel.old).held }
         ensures later { (R.seen reel.old).faults ≤ (R.seen reel.new).faults }
@@ -269,6 +272,7 @@ impl DumpReader {
     fn end<R: Tape>(&mut self, reel: &mut R) -> Result<(), DumpFault>
         requires { IsAhead self.old Mark.Trailer }
         ensures whole { OnOk result ((front : Front) → IsMarked (R.seen reel.old) self.old front Mark.Trailer → IsWhole (R.seen reel.new) self.new front) }
+        ensures none { OnOk result (EndsOnly (to_come (R.seen reel.new) self.new)) }
         ensures refused { IfErr result (λ fault. (front : Front) → IsMarked (R.seen reel.old) self.old front Mark.Trailer → IsFaultBehind self.old.head front (R.seen reel.new).held fault) }
         ensures head { self.new.head ≡ self.old.head }
         ensures same { (R.seen reel.new).held ≡ (R.seen reel.old).held }
@@ -300,8 +304,12 @@ impl DumpReader {
     }
 
     /// Reads the next piece, or none where the dump has ended and is whole. The reel is the one of `start`, as the last call left it.
+    /// It reads ahead of the piece: what is held of that then is `ahead`.
     pub fn next<R: Tape>(&mut self, reel: &mut R) -> Result<Option<Piece>, DumpFault>
         ensures read { IfOk result (λ found. (front : Front) → IsReading (R.seen reel.old) self.old front → GivesNext (R.seen reel.new) self.new front found) }
+        // Nothing is skipped, and nothing read twice.
+        ensures taken { IfOk result (λ found. (front : Front) → IsReading (R.seen reel.old) self.old front
+            → TakesPiece (to_come (R.seen reel.old) self.old) (to_come (R.seen reel.new) self.new) self.old.head front found) }
         ensures refused { IfErr result (λ fault. (front : Front) → IsReading (R.seen reel.old) self.old front → IsFaultBehind self.old.head front (R.seen reel.new).held fault) }
         ensures head { self.new.head ≡ self.old.head }
         ensures same { (R.seen reel.new).held ≡ (R.seen reel.old).held }

@@ -1,9 +1,10 @@
 -- The first hold of a kind, and what a table keeps.
-use Rattle.std.proofs.Common.{◌≡◌, ℕ, suc, ◌+◌, ◌<◌, inl, inr, Option, Some, None, List, [], ◌∷◌, ◌++◌, length, take, drop, get_or, All, refl, sym, ap, subst, ◌∙◌, arith}
+use Rattle.std.proofs.Common.{◌≡◌, ℕ, suc, ◌+◌, ◌-◌, ◌<◌, inl, inr, Option, Some, None, List, [], ◌∷◌, ◌++◌, length, take, drop, get_or, All, refl, sym, ap, subst, ◌∙◌, arith}
 use Rattle.std.specs.Prelude.{AllPairs, IfSome}
 use Rattle.std.specs.List.{AllByRecursion, HoldsAt, remove}
 use Rattle.std.proofs.lemmas.Bool.{cases_lt}
-use Rattle.std.proofs.lemmas.List.{drop_more, take-append-drop}
+use Rattle.std.proofs.Math.Seq.{take-append_seam}
+use Rattle.std.proofs.lemmas.List.{drop_more, length-append, take-append-drop}
 use Rattle.std.proofs.lemmas.List.Edits.{length-remove, get_or-remove_below, get_or-remove_above}
 use Rattle.std.proofs.lemmas.List.Elements.{All-from_recursion, All-push, All-append, All-take, All-drop}
 use Rattle.std.proofs.lemmas.List.Quantifiers.{all_pairs_push, all_pairs_remove}
@@ -15,14 +16,6 @@ use Rattle.enq_table.specs.Holder.{IsHolder}
 use Rattle.enq_table.specs.Table.{IsHold, StandsAgainst, Has, IsFirstHolder, IsTable, Releases}
 
 -- ---- the first holder
-
-pub first_here : (Fact : Hold → Type 0) (holds : List Hold) (place : ℕ) (d : Hold) → place < length holds → Fact (get_or holds place d) → IsFirstHolder Fact (drop place holds) (Some (get_or holds place d).holder)
-first_here Fact holds place d lt h =
-    subst (λ (t : List Hold). IsFirstHolder Fact t (Some (get_or holds place d).holder)) (sym (drop_more holds place d lt)) (inl (h, refl))
-
-pub first_later : (Fact : Hold → Type 0) (holds : List Hold) (place : ℕ) (d : Hold) (holder : Option Holder) → place < length holds → ¬ Fact (get_or holds place d)
-    → IsFirstHolder Fact (drop (place + 1) holds) holder → IsFirstHolder Fact (drop place holds) holder
-first_later Fact holds place d holder lt other h = subst (λ (t : List Hold). IsFirstHolder Fact t holder) (sym (drop_more holds place d lt)) (inr (other, h))
 
 pub first_lawful : (Fact : Hold → Type 0) (holds : List Hold) (holder : Option Holder) → AllByRecursion IsHold holds → IsFirstHolder Fact holds holder → IfSome holder IsHolder
 first_lawful Fact [] None each h = tt
@@ -52,6 +45,13 @@ table_push table asked h lawful free =
       each = All-push IsHold table asked h.each lawful;
       apart = all_pairs_push (λ (held later : Hold). ¬ StandsAgainst held later) table asked h.apart apart;
     }
+
+-- the last hold is taken out again
+pub popped : (table : List Hold) (asked : Hold) (all left : List Hold) → all ≡ table ++ (asked ∷ []) → left ≡ take (length all - 1) all → left ≡ table
+popped table asked all left pushed rest =
+    rest ∙ ap (λ (t : List Hold). take (length t - 1) t) pushed
+    ∙ ap (λ (n : ℕ). take n (table ++ (asked ∷ []))) (let e : length (table ++ (asked ∷ [])) - 1 ≡ length table = omega (arith, length-append table (asked ∷ [])) in e)
+    ∙ take-append_seam table (asked ∷ [])
 
 pub table_remove : (table : List Hold) (place : ℕ) → place < length table → IsTable table → IsTable (remove table place)
 table_remove table place lt h = record {

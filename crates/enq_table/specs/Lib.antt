@@ -4,3 +4,4 @@ pub mod HeldText
 pub mod Lines
 pub mod Faults
 pub mod Laws
+pub mod Index

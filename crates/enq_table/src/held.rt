@@ -5,11 +5,13 @@ ghost use Rattle.std.specs.List.{HoldsAt};
 ghost use Rattle.dsn_filter.specs.Dsn.{IsDsn};
 ghost use Rattle.enq_table.specs.Holder.{IsHolder};
 ghost use Rattle.enq_table.specs.Table.{StandsAgainst, Conflicts, Has, IsFirstHolder, IsTable, Releases};
+ghost use Rattle.enq_table.specs.Index.{IsOn, IsFirst};
 ghost use Rattle.enq_table.specs.Faults.{IsHoldFault, TellsHolder, IsReleaseFault};
 
 use crate::fault::EnqFault;
 use crate::hold::{Hold, Mode};
 use crate::holder::Holder;
+use crate::index::Index;
 use ckd_image::NoMemory;
 use dsn_filter::Dsn;
 use std::alloc::Global;
@@ -19,6 +21,8 @@ use std::marker::Model;
 #[derive(Debug, Drop)]
 pub struct Held {
     holds: Vec<Hold>,
+    /// With it neither a hold nor a command goes through all holds.
+    index: Index,
 }
 
 impl Model for Held {
@@ -28,10 +32,11 @@ impl Model for Held {
     ghost Value = { List Hold };
 
     ghost use Rattle.enq_table.specs.Table.{IsTable};
+    ghost use Rattle.enq_table.specs.Index.{IsIndexed};
 
     ghost view = { λ h. h.holds.items };
 
-    ghost invariant = { λ h. IsTable h.holds.items };
+    ghost invariant = { λ h. IsTable h.holds.items × IsIndexed h.holds.items h.index };
 }
 
 impl Held {
@@ -40,6 +45,7 @@ impl Held {
     {
         Held {
             holds: Vec::new(alloc),
+            index: Index::new(alloc),
         }
     }
 
@@ -66,10 +72,14 @@ impl Held {
         ensures err { OnErr result (self.new ≡ self.old) }
     {
         let asked = Hold { name, mode, holder };
-        if let Some(against) = first_against(self.holds.as_slice(), &asked) {
+        if let Some(against) = self.index.against(&asked) {
             return Err(EnqFault::AlreadyHeld(against));
         }
         add(&mut self.holds, asked)?;
+        if let Err(NoMemory) = self.index.add(&asked) {
+            self.holds.pop();
+            return Err(EnqFault::NoMemory);
+        }
         Ok(())
     }
 
@@ -87,6 +97,8 @@ impl Held {
             return Err(EnqFault::NotHeld);
         };
         self.holds.remove(place);
+        let first = first_on(self.holds.as_slice(), name);
+        self.index.forget(name, holder, first);
         Ok(())
     }
 
@@ -95,7 +107,7 @@ impl Held {
         ensures first { IsFirstHolder (Conflicts name.now change) self.now result }
         ensures lawful { IfSome result IsHolder }
     {
-        first_conflict(self.holds.as_slice(), name, change)
+        self.index.conflict(name, change)
     }
 }
 
@@ -107,28 +119,6 @@ fn add(holds: &mut Vec<Hold>, asked: Hold) -> Result<(), NoMemory>
     Ok(())
 }
 
-fn first_against(holds: &[Hold], asked: &Hold) -> Option<Holder>
-    ensures { IsFirstHolder (λ held. StandsAgainst held asked.now) holds.now result }
-{
-    for held in holds {
-        if held.stands_against(asked) {
-            return Some(held.holder);
-        }
-    }
-    None
-}
-
-fn first_conflict(holds: &[Hold], name: &Dsn, change: bool) -> Option<Holder>
-    ensures { IsFirstHolder (Conflicts name.now change) holds.now result }
-{
-    for held in holds {
-        if held.conflicts(name, change) {
-            return Some(held.holder);
-        }
-    }
-    None
-}
-
 /// The place of the holder's hold of the name.
 fn place_of(holds: &[Hold], name: &Dsn, holder: &Holder) -> Option<usize>
     ensures found { IfSome result (λ place. (place < length holds.now) × HoldsAt (Has name.now holder.now) holds.now place) }
@@ -137,6 +127,18 @@ fn place_of(holds: &[Hold], name: &Dsn, holder: &Holder) -> Option<usize>
     for (place, held) in holds.iter().enumerate() {
         if held.has(name, holder) {
             return Some(place);
+        }
+    }
+    None
+}
+
+/// The first hold on a name.
+fn first_on(holds: &[Hold], name: &Dsn) -> Option<Hold>
+    ensures { IsFirst (IsOn name.now) holds.now result }
+{
+    for held in holds {
+        if held.name.is_same(name) {
+            return Some(*held);
         }
     }
     None

@@ -5,6 +5,7 @@ mod fault;
 mod held;
 mod hold;
 mod holder;
+mod index;
 mod laws;
 mod line;
 mod reading;

@@ -3,7 +3,7 @@ use Rattle.std.specs.Prelude.{ℕ, ◌+◌, ◌/◌, ◌%◌, List, [], ◌∷�
 use Rattle.std.specs.Option.{option_map_or}
 use Rattle.std.specs.Fmt.{decimal}
 use Rattle.ckd_image.specs.declared.device.Device.{Device}
-use Rattle.ckd_image.specs.declared.device.Device.TheVariants.{D3390, D3380}
+use Rattle.ckd_image.specs.declared.device.Device.TheVariants.{D3390, D3380, D3350}
 use Rattle.sysin_words.specs.declared.lead.Verb.{Verb}
 use Rattle.sysin_words.specs.declared.lead.Verb.TheVariants as verbs
 use Rattle.volume_model.specs.declared.why.Why.{Why}
@@ -39,6 +39,7 @@ hex_four number = hex (number / 256) ++ hex (number % 256)
 abbrev pub device_name : Device → List ℕ
 device_name D3390 = codes "3390"
 device_name D3380 = codes "3380"
+device_name D3350 = codes "3350"
 
 -- the abbreviation of an organization without its bit for what can't be moved
 abbrev pub base_organization : ℕ → List ℕ

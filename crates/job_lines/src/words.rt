@@ -111,6 +111,7 @@ pub(crate) fn device_name(device: Device) -> &'static str
     match device {
         Device::D3390 => "3390",
         Device::D3380 => "3380",
+        Device::D3350 => "3350",
     }
 }
 

@@ -2,7 +2,7 @@
 use Rattle.std.proofs.Common.{◌≡◌, inl, inr, ℕ, ◌≤◌, ◌==◌, List, [], ◌∷◌, ◌++◌, length, All, refl, ap, subst, ◌∙◌, arith}
 use Rattle.std.proofs.lemmas.List.Elements.{All-nil, All-cons, All-head, All-tail}
 use Rattle.ckd_image.specs.Device.{heads_of}
-use Rattle.ckd_image.specs.declared.device.Device.TheVariants.{D3390, D3380}
+use Rattle.ckd_image.specs.declared.device.Device.TheVariants.{D3390, D3380, D3350}
 use Rattle.by_rules.specs.declared.day.Day.{Day}
 use Rattle.dsn_filter.specs.declared.dsn.Dsn.{Dsn}
 use Rattle.enq_table.specs.declared.hold.Hold.{Hold}
@@ -190,6 +190,7 @@ some_step case step (inl by) = by_heads case.to.device by.1
     by_heads : (device : Rattle.ckd_image.specs.declared.device.Device.Device) → step ≡ heads_of device → 1 ≤ step
     by_heads D3390 is = omega (arith, is)
     by_heads D3380 is = omega (arith, is)
+    by_heads D3350 is = omega (arith, is)
 some_step case step (inr by) = omega (arith, by.1)
 
 -- where places are chosen, the longest runs aren't too short

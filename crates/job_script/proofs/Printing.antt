@@ -1,12 +1,13 @@
 -- Lines that are written one after the other.
-use Rattle.std.proofs.Common.{◌≡◌, ℕ, ◌+◌, ◌<◌, ◌≤◌, List, ◌++◌, take, drop, length, get_or, Option, sym, ap, subst, ◌∙◌, append_assoc, arith, length-append}
-use Rattle.std.proofs.lemmas.List.{drop_more, drop_all, take-append-le, length-drop}
+use Rattle.std.proofs.Common.{◌≡◌, ℕ, ◌+◌, ◌<◌, ◌≤◌, List, [], ◌∷◌, ◌++◌, take, drop, length, get_or, Option, sym, ap, subst, ◌∙◌, append_assoc, arith, length-append}
+use Rattle.std.proofs.lemmas.Grind.{flat_map-append}
+use Rattle.std.proofs.lemmas.List.{take_more, take-append-le, length-drop, append-nil}
 use Rattle.dasd_pool.specs.Stream.{Appends, AppendsSome}
 use Rattle.job_lines.specs.declared.message.Message.{Message}
 use Rattle.job_lines.specs.Lines.{line}
 use Rattle.job_script.specs.Runs.{lines_in}
 use Rattle.run_lines.specs.Texts.{AppendsLess}
-use Rattle.run_lines.proofs.Appending.{HasWritten, written_more, written_some, written_less, written_all}
+use Rattle.run_lines.proofs.Appending.{HasWritten, written_more, written_some, written_less}
 use Rattle.dasd_pool.proofs.Streams.{appends_then}
 
 -- the next piece of a text was written
@@ -33,31 +34,19 @@ written_front_less old mid new text piece rest h (count, less, taken) =
 
 -- from a message on, its line comes first
 pub next_line : (statement : ℕ) (said : List Message) (place : ℕ) (default : Message) → place < length said
-    → lines_in statement (drop place said) ≡ line statement (get_or said place default) ++ lines_in statement (drop (place + 1) said)
-next_line statement said place default lt = ap (λ (left : List Message). lines_in statement left) (drop_more said place default lt)
+    → lines_in statement (take (place + 1) said) ≡ lines_in statement (take place said) ++ line statement (get_or said place default)
+next_line statement said place default lt =
+    ap (λ (some : List Message). lines_in statement some) (take_more said place default lt)
+    ∙ flat_map-append (line statement) (take place said) (get_or said place default ∷ [])
+    ∙ ap (λ (text : List ℕ). lines_in statement (take place said) ++ text) (append-nil (line statement (get_or said place default)))
 
--- the lines from a place on are left
-abbrev pub HasLines : Option (List ℕ) → Option (List ℕ) → ℕ → List Message → ℕ → Type 0
-HasLines old new statement said place = HasWritten old new (lines_in statement said) (lines_in statement (drop place said))
+-- the lines of these messages are left
+abbrev pub HasLines : Option (List ℕ) → Option (List ℕ) → ℕ → List Message → List Message → Type 0
+HasLines old new statement said rest = HasWritten old new (lines_in statement said) (lines_in statement rest)
 
-pub lines_next : (old mid new : Option (List ℕ)) (statement : ℕ) (said : List Message) (place : ℕ) (default : Message) → place < length said
-    → HasLines old mid statement said place → Appends mid new (line statement (get_or said place default)) → HasLines old new statement said (place + 1)
-lines_next old mid new statement said place default lt h p =
-    let P : List ℕ → Type 0 = λ left. HasWritten old mid (lines_in statement said) left in
-    written_piece old mid new (lines_in statement said) (line statement (get_or said place default)) (lines_in statement (drop (place + 1) said)) (subst P (next_line statement said place default lt) h) p
-
-pub lines_front : (old mid new : Option (List ℕ)) (statement : ℕ) (said : List Message) (place : ℕ) (default : Message) → place < length said
-    → HasLines old mid statement said place → AppendsSome mid new (line statement (get_or said place default)) → AppendsSome old new (lines_in statement said)
-lines_front old mid new statement said place default lt h q =
-    let P : List ℕ → Type 0 = λ left. HasWritten old mid (lines_in statement said) left in
-    written_front old mid new (lines_in statement said) (line statement (get_or said place default)) (lines_in statement (drop (place + 1) said)) (subst P (next_line statement said place default lt) h) q
-
-pub lines_less : (old mid new : Option (List ℕ)) (statement : ℕ) (said : List Message) (place : ℕ) (default : Message) → place < length said
-    → HasLines old mid statement said place → AppendsLess mid new (line statement (get_or said place default)) → AppendsLess old new (lines_in statement said)
-lines_less old mid new statement said place default lt h q =
-    let P : List ℕ → Type 0 = λ left. HasWritten old mid (lines_in statement said) left in
-    written_front_less old mid new (lines_in statement said) (line statement (get_or said place default)) (lines_in statement (drop (place + 1) said)) (subst P (next_line statement said place default lt) h) q
-
-pub lines_all : (old new : Option (List ℕ)) (statement : ℕ) (said : List Message) (place : ℕ) → length said ≤ place → HasLines old new statement said place → Appends old new (lines_in statement said)
-lines_all old new statement said place le h =
-    written_all old new (lines_in statement said) (lines_in statement (drop place said)) h (ap (λ (left : List Message). lines_in statement left) (drop_all place said le))
+-- of what is left some come first
+pub parted : (old new : Option (List ℕ)) (statement : ℕ) (said rest now later : List Message) → rest ≡ now ++ later → HasLines old new statement said rest
+    → HasWritten old new (lines_in statement said) (lines_in statement now ++ lines_in statement later)
+parted old new statement said rest now later parts h =
+    let P : List ℕ → Type 0 = λ left. HasWritten old new (lines_in statement said) left in
+    subst P (ap (λ (left : List Message). lines_in statement left) parts ∙ flat_map-append (line statement) now later) h

@@ -11,7 +11,7 @@ use Rattle.redo_core.specs.declared.control.Control.{Control}
 use Rattle.redo_core.specs.declared.control.Control.TheVariants.{Idle}
 use Rattle.redo_core.specs.declared.entries.Entry.{Entry}
 use Rattle.redo_core.specs.Format.{is_open, control_in, directory_in}
-use Rattle.redo_core.specs.Reading.{journal_of, fills_of}
+use Rattle.redo_core.specs.Reading.{journal_of}
 use Rattle.redo_core.specs.Faults.{HasNoSlide}
 use Rattle.redo_core.specs.Opening.{IsOpened, ReadsSame, of_opening, of_redo}
 use Rattle.redo_core.specs.Phases.{IsAtRest, OldOrNew, IsCommitted}

@@ -1,5 +1,5 @@
 -- When the entries of a commit make a step.
-use Rattle.std.specs.Prelude.{◌≡◌, ℕ, ◌<◌, List, [], Bool, None}
+use Rattle.std.specs.Prelude.{◌≡◌, ℕ, ◌<◌, List, [], Bool}
 use Rattle.dasd_pool.specs.Disk.{Image, Shape, State}
 use Rattle.redo_core.specs.declared.control.Control.TheVariants.{Idle}
 use Rattle.redo_core.specs.declared.entries.Entry.{Entry}
@@ -7,7 +7,7 @@ use Rattle.redo_core.specs.Reading.{journal_of}
 use Rattle.redo_core.specs.Phases.{IsAtRest}
 use Rattle.volume_model.specs.Unit.{UnitModel}
 use Rattle.move_core.specs.declared.steps.Step.{Step}
-use Rattle.move_core.specs.Facts.{Facts, HasInputs}
+use Rattle.move_core.specs.Facts.{Facts}
 use Rattle.move_core.specs.Laws.{WillStand, OpensNoSlide}
 use Rattle.move_core.specs.Stands.{IsSettled}
 use Rattle.move_core.specs.Steps.{IsStep}

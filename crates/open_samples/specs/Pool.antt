@@ -1,7 +1,7 @@
 -- A small pool byte by byte, worked by hand: a 3390 of four cylinders, and its journal.
 -- Its VTOC puts one data set, A.B, on the tracks 30 to 59. The texts stand as a slide of A.B to 15 leaves them that is half done: those of its first 15 tracks
 -- on 15 to 29, and the others on 45 to 59. The slots of 2 to 14 and of 30 to 44 are empty.
-use Rattle.std.specs.Prelude.{ℕ, ◌-◌, ◌==◌, ◌&&◌, nat_le, nat_lt, Bool, false, if◌then◌else◌, List, [], ◌∷◌, ◌++◌, length, take, drop, replicate, codes}
+use Rattle.std.specs.Prelude.{ℕ, ◌-◌, ◌==◌, ◌&&◌, nat_le, nat_lt, Bool, true, false, if◌then◌else◌, List, [], ◌∷◌, ◌++◌, length, take, drop, replicate, codes}
 use Rattle.ckd_image.specs.declared.device.Device.TheVariants.{D3390}
 use Rattle.ckd_image.specs.declared.track.Cchhr.{Cchhr}
 use Rattle.ckd_image.specs.declared.track.Rec.{Rec}
@@ -86,6 +86,7 @@ shape = record {
   head = λ u. if u == 0 then volume_head else head_text;
   block_size = λ u. if u == 0 then 56832 else 65536;
   blocks = λ u. if u == 0 then 60 else 7;
+  may_write = λ u. true;
 }
 
 -- the blocks, with this control block; no body is open

@@ -1,3 +1,4 @@
+mod Costs
 mod Runs
 mod Fillings
 mod Placing
@@ -16,3 +17,5 @@ mod Partitions
 mod Against
 mod OneDirectory
 mod OneRefit
+mod SameRefit
+mod OneRefusal

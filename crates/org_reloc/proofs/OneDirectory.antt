@@ -2,6 +2,7 @@
 use Rattle.std.proofs.Common.{◌≡◌, ◌≢◌, ◌⊎◌, inl, inr, ℕ, ◌/◌, ◌%◌, ◌<◌, ◌≤◌, List, [], ◌∷◌, ◌++◌, length, map, All, refl, sym, ap, subst, ◌∙◌, arith, append_assoc, length-append}
 use Rattle.std.specs.List.{AllByRecursion}
 use Rattle.std.proofs.lemmas.List.{append-nil, map-append}
+use Rattle.std.proofs.lemmas.List.Concat.{flat_map-append}
 use Rattle.std.proofs.lemmas.List.Elements.{recursion_from_All, All-from_recursion}
 use Rattle.ckd_image.specs.Bytes.{Begins}
 use Rattle.ckd_image.proofs.OneText.{split_same}
@@ -223,6 +224,81 @@ not_broken blocks pages entries h (inr (inr (inr b))) =
     b.blocks_are ∙ ap (λ l. l ++ b.behind) (map-append page_block b.before (b.last ∷ [])) ∙ append_assoc (map page_block b.before) (page_block b.last ∷ []) b.behind in
     let p = past blocks pages h b.before (page_block b.last ∷ b.behind) split b.full in
     b.broken (subst (All IsShaped) (sym (last_same b.before p.more b.last h.last b.behind h.behind h.before b.ends h.ends (full_by h.before h.full) p.before_is p.rest_is).1) h.shaped)
+
+-- pages that are read to where no entry comes, and whose entries have no places but their own
+record ReadPlain (page : Page) : Type 0 where
+  ended : Ended page
+  plain : AllByRecursion IsPlain page.entries
+
+-- these pages are full, and one more is behind them
+record AllFull (pages : List Page) (rest : List Block) : Type 0 where
+  full : AllByRecursion IsFullPage pages
+  page : Page
+  sound : IsPage page
+  behind : List Block
+  rest_is : rest ≡ page_block page ∷ behind
+
+-- an entry with places of its own stands behind all of them
+user_past : (front pages : List Page) (here : Page) (behind rest : List Block) (entry : Entry) → AllByRecursion IsFullPage front → IsPage here → IsEntry entry → Begins (entry_text entry) here.left → ¬ IsPlain entry
+    → AllByRecursion ReadPlain pages → map page_block front ++ page_block here ∷ behind ≡ map page_block pages ++ rest → AllFull pages rest
+user_past [] [] here behind rest entry f s sound comes user each e = record { full = tt; page = here; sound = s; behind = behind; rest_is = sym e }
+user_past [] (p ∷ pages) here behind rest entry f s sound comes user each e =
+    let head : page_block here ≡ page_block p = cc in
+    let parts = same_parts here p s each.0.ended.sound head in
+    absurd (user (comes_among IsPlain here.entries p.entries entry comes.0 p.left (recursion_from_All IsEntry here.entries s.entries) (recursion_from_All IsEntry p.entries each.0.ended.sound.entries)
+    sound each.0.ended.stops each.0.plain (ap (λ l. entries_text here.entries ++ l) (sym comes.1) ∙ parts.bytes)))
+user_past (a ∷ front) [] here behind rest entry f s sound comes user each e = record { full = tt; page = a; sound = f.0.sound; behind = map page_block front ++ page_block here ∷ behind; rest_is = sym e }
+user_past (a ∷ front) (p ∷ pages) here behind rest entry f s sound comes user each e =
+    let head : page_block a ≡ page_block p = cc in
+    let tail : map page_block front ++ page_block here ∷ behind ≡ map page_block pages ++ rest = cc in
+    let same = one_page a p f.0.sound each.0.ended.sound (full_ended a f.0).stops each.0.ended.stops head in
+    let h = user_past front pages here behind rest entry f.1 s sound comes user each.1 tail in
+    record { full = (subst IsFullPage same f.0, h.full); page = h.page; sound = h.sound; behind = h.behind; rest_is = h.rest_is }
+
+read_plain : (pages : List Page) → AllByRecursion IsFullPage pages → All IsPlain (entries_of pages) → AllByRecursion ReadPlain pages
+read_plain [] full plain = tt
+read_plain (page ∷ more) full plain = (
+  record { ended = full_ended page full.0; plain = recursion_from_All IsPlain page.entries (All_front IsPlain page.entries (entries_of more) plain) },
+  read_plain more full.1 (All_back IsPlain page.entries (entries_of more) plain),
+)
+
+read_plain_to : (before : List Page) (page : Page) → AllByRecursion IsFullPage before → Ended page → All IsPlain (entries_of before ++ page.entries) → AllByRecursion ReadPlain (before ++ page ∷ [])
+read_plain_to [] page full ended plain = (record { ended = ended; plain = recursion_from_All IsPlain page.entries plain }, tt)
+read_plain_to (p ∷ before) page full ended plain =
+    let parted = subst (All IsPlain) (append_assoc p.entries (entries_of before) page.entries) plain in (
+      record { ended = full_ended p full.0; plain = recursion_from_All IsPlain p.entries (All_front IsPlain p.entries (entries_of before ++ page.entries) parted) },
+      read_plain_to before page full.1 ended (All_back IsPlain p.entries (entries_of before ++ page.entries) parted),
+    )
+
+user_behind : (blocks : List Block) (pages : List Page) (rest : List Block) → HasUserPlaces blocks → AllByRecursion ReadPlain pages → blocks ≡ map page_block pages ++ rest → AllFull pages rest
+user_behind blocks pages rest u each e =
+    user_past u.before pages u.here u.behind rest u.entry (full_by u.before u.full) u.sound u.entry_sound u.next u.places each (sym u.blocks_are ∙ e)
+
+last_full : (before : List Page) (page : Page) → AllByRecursion IsFullPage (before ++ page ∷ []) → IsFullPage page
+last_full before page each = (behind_full before (page ∷ []) each).0
+
+-- the page behind others, with them
+with_page : (before : List Page) (page : Page) (behind : List Block) → map page_block before ++ page_block page ∷ behind ≡ map page_block (before ++ page ∷ []) ++ behind
+with_page before page behind = sym (ap (λ l. l ++ behind) (map-append page_block before (page ∷ [])) ∙ append_assoc (map page_block before) (page_block page ∷ []) behind)
+
+-- an entry before the first fault has places of its own, or none has
+pub user_or_broken : (blocks : List Block) (entries : List Entry) → HasUserPlaces blocks → All IsPlain entries → ¬ IsBrokenAfter blocks entries
+user_or_broken blocks entries u plain (inl b) =
+    let each = read_plain_to b.before b.here (full_by b.before b.full) (record { sound = b.sound; stops = b.broken.none }) (subst (All IsPlain) b.entries_are plain) in
+    let all = user_behind blocks (b.before ++ b.here ∷ []) b.behind u each (b.blocks_are ∙ with_page b.before b.here b.behind) in
+    b.broken.some (last_full b.before b.here all.full).nothing_left
+user_or_broken blocks entries u plain (inr (inl b)) =
+    let all = user_behind blocks b.before (b.block ∷ b.behind) u (read_plain b.before (full_by b.before b.full) (subst (All IsPlain) b.entries_are plain)) b.blocks_are in
+    let same : b.block ≡ page_block all.page = let e = all.rest_is in cc in
+    b.broken all.page all.sound same
+user_or_broken blocks entries u plain (inr (inr (inl b))) =
+    let all = user_behind blocks b.pages [] u (read_plain b.pages (full_by b.pages b.full) (subst (All IsPlain) b.entries_are plain)) (b.blocks_are ∙ sym (append-nil (map page_block b.pages))) in
+    omega (arith, ap length all.rest_is)
+user_or_broken blocks entries u plain (inr (inr (inr b))) =
+    let whole : entries_of (b.before ++ b.last ∷ []) ≡ entries_of b.before ++ b.last.entries = flat_map-append (λ (p : Page). p.entries) b.before (b.last ∷ []) ∙ ap (λ l. entries_of b.before ++ l) (append-nil b.last.entries) in
+    let each = read_plain_to b.before b.last (full_by b.before b.full) (last_ended b.last b.ends) (subst (All IsPlain) (b.entries_are ∙ whole) plain) in
+    let all = user_behind blocks (b.before ++ b.last ∷ []) b.behind u each b.blocks_are in
+    not_full b.last b.last (last_full b.before b.last all.full) b.ends refl
 
 -- ---- one directory
 

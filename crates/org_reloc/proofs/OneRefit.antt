@@ -22,7 +22,7 @@ use Rattle.org_reloc.specs.Packing.{size_of, FitsAlone, track_of}
 use Rattle.org_reloc.specs.Filling.{filling_of, groups_of}
 use Rattle.org_reloc.specs.Refusal.{IsFirstTooLong, TakeTooMany}
 use Rattle.org_reloc.specs.Member.{number_of_place, place_of_number, places_of_entries, NamesRecords, NamesOne, HoldsMember, IsEndless, Member, members_blocks, AreMembers}
-use Rattle.org_reloc.specs.Partitioned.{moved_page, all_blocks, HasDirectory, IsMovable, IsPartitionedRefit, HasFrontDirectory, StandsAgainst, IsPartitionedRefusal}
+use Rattle.org_reloc.specs.Partitioned.{moved_page, all_blocks, HasDirectory, IsMovable, IsPartitionedRefit, HasFrontDirectory, HasFault, StandsAgainst, IsPartitionedRefusal}
 use Rattle.org_reloc.proofs.Groups.{grouped}
 use Rattle.org_reloc.proofs.Members.{place_apart}
 use Rattle.org_reloc.proofs.OneDirectory.{no_user, not_broken, one_directory}
@@ -36,12 +36,12 @@ use Rattle.ckd_image.proofs.Lists.{contains_map}
 -- ---- what a place names
 
 -- two partings of a list at one length
-record SameParting {X : Type 0} (xs ys : List X) (x y : X) (as' bs : List X) : Type 0 where
-  front : xs ≡ ys
-  item : x ≡ y
-  back : as' ≡ bs
+pub record SameParting {X : Type 0} (xs ys : List X) (x y : X) (as' bs : List X) : Type 0 where
+  pub front : xs ≡ ys
+  pub item : x ≡ y
+  pub back : as' ≡ bs
 
-same_parting : {X : Type 0} (xs ys : List X) (x y : X) (as' bs : List X) → length xs ≡ length ys → xs ++ x ∷ as' ≡ ys ++ y ∷ bs → SameParting xs ys x y as' bs
+pub same_parting : {X : Type 0} (xs ys : List X) (x y : X) (as' bs : List X) → length xs ≡ length ys → xs ++ x ∷ as' ≡ ys ++ y ∷ bs → SameParting xs ys x y as' bs
 same_parting [] [] x y as' bs len e =
     let head : x ≡ y = cc in
     let tail : as' ≡ bs = cc in
@@ -170,7 +170,7 @@ by_numbers tracks (m ∷ ms) (o ∷ os) h g e =
     let same : m ≡ o = first ∙ ap (λ (l : List Block). record { place = o.place; blocks = l }) blocks in
     ap (λ x. x ∷ ms) same ∙ ap (λ l. o ∷ l) (by_numbers tracks ms os h.1 g.1 tail)
 
-one_members : (tracks : List Track) (entries : List Entry) (ms others : List Member) → All IsEntry entries → AreMembers tracks entries ms → AreMembers tracks entries others → ms ≡ others
+pub one_members : (tracks : List Track) (entries : List Entry) (ms others : List Member) → All IsEntry entries → AreMembers tracks entries ms → AreMembers tracks entries others → ms ≡ others
 one_members tracks entries ms others sound h g = by_numbers tracks ms others (each_member tracks entries ms sound h) (each_member tracks entries others sound g) (one_numbering tracks entries ms others h g)
 
 -- ---- the directory
@@ -189,7 +189,7 @@ one_front tracks ended pages others behind h g =
     one_directory (map page_block pages ++ behind) pages others g.directory (subst (λ (l : List Block). IsDirectory l others) same h.directory)
 
 -- two of what can be moved hold the same blocks
-one_movable : (tracks : List Track) (pages others : List Page) (behind rest : List Block) (ms ns : List Member) → IsMovable tracks pages behind ms → IsMovable tracks others rest ns → all_blocks others rest ns ≡ all_blocks pages behind ms
+pub one_movable : (tracks : List Track) (pages others : List Page) (behind rest : List Block) (ms ns : List Member) → IsMovable tracks pages behind ms → IsMovable tracks others rest ns → all_blocks others rest ns ≡ all_blocks pages behind ms
 one_movable tracks pages others behind rest ms ns h g =
     let blocks = one_content (records_of tracks) (map page_block others ++ rest) (map page_block pages ++ behind) g.directory.held h.directory.held in
     let same : others ≡ pages =
@@ -215,7 +215,7 @@ not_endless tracks entries ms entry h among endless =
     no_end_held endless.recs m.item.blocks (subst (λ (l : List Rec). HoldUpToEnd l m.item.blocks) (one_named tracks entry.place held.recs endless.recs held.names endless.names) held.held) endless.none
 
 -- the blocks as they stand fit tracks as those of the refit do
-old_fit : (device : Device) (tracks : List Track) (refit : Refit) → (h : IsPartitionedRefit device tracks refit) → All (FitsAlone device) (all_blocks h.pages h.behind h.members)
+pub old_fit : (device : Device) (tracks : List Track) (refit : Refit) → (h : IsPartitionedRefit device tracks refit) → All (FitsAlone device) (all_blocks h.pages h.behind h.members)
 old_fit device tracks refit h =
     let old = all_blocks h.pages h.behind h.members in
     let new = all_blocks (map (moved_page h.move) h.pages) h.behind h.members in
@@ -223,7 +223,7 @@ old_fit device tracks refit h =
     ∙ ap (map size_of) (all_moved h.move h.pages h.behind h.members) in
     all_by_sizes (FitsAlone device) (fit_by_size device) new old (sym sizes) (All-from_recursion (FitsAlone device) new (grouped_alone device new h.packed.groups h.packed.grouped))
 
-some_blocks : (pages : List Page) (behind : List Block) (ms : List Member) → 1 ≤ length (all_blocks pages behind ms)
+pub some_blocks : (pages : List Page) (behind : List Block) (ms : List Member) → 1 ≤ length (all_blocks pages behind ms)
 some_blocks pages behind ms = omega (arith, length-append (map page_block pages ++ behind) (end_of_file ∷ members_blocks ms))
 
 few_old : (device : Device) (tracks : List Track) (refit : Refit) → (h : IsPartitionedRefit device tracks refit) → length refit.tracks ≤ 65535 → ¬ TakeTooMany device (all_blocks h.pages h.behind h.members)
@@ -237,23 +237,30 @@ few_old device tracks refit h few many =
     let b = one_grouping device new h.packed.groups (groups_of (filling_of device new)) (some_blocks (map (moved_page h.move) h.pages) h.behind h.members) h.packed.grouped (grouped device new fit) in
     omega (arith, many.many, few, ap length a, ap length b, same_count device old new sizes, ap length h.packed.tracks_are, length-map h.packed.groups track_of)
 
+pub no_fault : (tracks : List Track) (pages : List Page) (behind : List Block) (members : List Member) (cause : Why) → IsMovable tracks pages behind members → ¬ HasFault tracks cause
+no_fault tracks pages behind members whys.Org h cause = cause
+no_fault tracks pages behind members whys.Long h cause = cause
+no_fault tracks pages behind members whys.UserTtrs h cause =
+    let front = front_is tracks cause.blocks (map page_block pages ++ behind) cause.front.ended cause.front.held h.directory.held in
+    no_user (map page_block pages ++ behind) pages h.directory.directory h.plain (subst HasUserPlaces front cause.user)
+no_fault tracks pages behind members whys.Directory h (inl cause) =
+    let front = front_is tracks cause.blocks (map page_block pages ++ behind) cause.front.ended cause.front.held h.directory.held in
+    not_broken (map page_block pages ++ behind) pages cause.entries h.directory.directory (subst (λ (l : List Block). IsBrokenAfter l cause.entries) front cause.broken)
+no_fault tracks pages behind members whys.Directory h (inr cause) =
+    let same = one_front tracks cause.ended pages cause.pages behind cause.directory h.directory in
+    cause.lost (subst (λ (l : List Page). All (λ (entry : Entry). NamesOne tracks entry.place) (entries_of l)) (sym same) (named_all tracks (entries_of pages) members h.members_are))
+no_fault tracks pages behind members whys.NoEnd h cause =
+    let same = one_front tracks cause.ended pages cause.pages behind cause.directory h.directory in
+    elim cause.endless [
+      | inl e ↦ ended_is tracks cause.directory.blocks (map page_block pages ++ behind) cause.ended cause.directory.held h.directory.held e
+      | inr e ↦ not_endless tracks (entries_of pages) members e.0 h.members_are (subst (λ (l : List Page). Contains (entries_of l) e.0) same e.1) e.2
+    ]
+
 no_cause : (device : Device) (tracks : List Track) (refit : Refit) (cause : Why) → IsPartitionedRefit device tracks refit → length refit.tracks ≤ 65535 → ¬ StandsAgainst device tracks cause
 no_cause device tracks refit whys.Org h few cause = cause
-no_cause device tracks refit whys.UserTtrs h few cause =
-    let front = front_is tracks cause.blocks (map page_block h.pages ++ h.behind) cause.front.ended cause.front.held h.movable.directory.held in
-    no_user (map page_block h.pages ++ h.behind) h.pages h.movable.directory.directory h.movable.plain (subst HasUserPlaces front cause.user)
-no_cause device tracks refit whys.Directory h few (inl cause) =
-    let front = front_is tracks cause.blocks (map page_block h.pages ++ h.behind) cause.front.ended cause.front.held h.movable.directory.held in
-    not_broken (map page_block h.pages ++ h.behind) h.pages cause.entries h.movable.directory.directory (subst (λ (l : List Block). IsBrokenAfter l cause.entries) front cause.broken)
-no_cause device tracks refit whys.Directory h few (inr cause) =
-    let same = one_front tracks cause.ended h.pages cause.pages h.behind cause.directory h.movable.directory in
-    cause.lost (subst (λ (l : List Page). All (λ (entry : Entry). NamesOne tracks entry.place) (entries_of l)) (sym same) (named_all tracks (entries_of h.pages) h.members h.movable.members_are))
-no_cause device tracks refit whys.NoEnd h few cause =
-    let same = one_front tracks cause.ended h.pages cause.pages h.behind cause.directory h.movable.directory in
-    elim cause.endless [
-      | inl e ↦ ended_is tracks cause.directory.blocks (map page_block h.pages ++ h.behind) cause.ended cause.directory.held h.movable.directory.held e
-      | inr e ↦ not_endless tracks (entries_of h.pages) h.members e.0 h.movable.members_are (subst (λ (l : List Page). Contains (entries_of l) e.0) same e.1) e.2
-    ]
+no_cause device tracks refit whys.UserTtrs h few cause = no_fault tracks h.pages h.behind h.members whys.UserTtrs h.movable cause
+no_cause device tracks refit whys.Directory h few cause = no_fault tracks h.pages h.behind h.members whys.Directory h.movable cause
+no_cause device tracks refit whys.NoEnd h few cause = no_fault tracks h.pages h.behind h.members whys.NoEnd h.movable cause
 no_cause device tracks refit whys.Long h few cause =
     let same = one_movable tracks h.pages cause.pages h.behind cause.behind h.members cause.members h.movable cause.movable in
     few_old device tracks refit h few (subst (TakeTooMany device) same cause.many)

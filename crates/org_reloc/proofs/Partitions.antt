@@ -267,12 +267,12 @@ new_directory device tracks tracks' pages behind members move h at packed =
 -- ---- the members, each by its entries
 
 -- a list about an element of it
-record Split {X : Type 0} (xs : List X) (x : X) : Type 0 where
-  front : List X
-  back : List X
-  whole : xs ≡ front ++ x ∷ back
+pub record Split {X : Type 0} (xs : List X) (x : X) : Type 0 where
+  pub front : List X
+  pub back : List X
+  pub whole : xs ≡ front ++ x ∷ back
 
-split_on : {X : Type 0} (xs : List X) (x : X) → Contains xs x → Split xs x
+pub split_on : {X : Type 0} (xs : List X) (x : X) → Contains xs x → Split xs x
 split_on xs x h = record { front = take h.0 xs; back = drop (h.0 + 1) xs; whole = split_at xs h.0 x h.1 (sym h.2) }
 
 -- the member of an entry, before and after

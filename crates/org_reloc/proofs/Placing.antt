@@ -1,5 +1,5 @@
 -- What the loops over blocks have done so far.
-use Rattle.std.proofs.Common.{◌≡◌, ℕ, ◌+◌, ◌*◌, ◌<◌, ◌≤◌, Bool, true, false, cond, List, [], ◌∷◌, ◌++◌, length, take, get_or, All, IsTrue, ◌↔◌, refl, map, replicate, append_assoc, sym, ap, subst, ◌∙◌, arith, length-append, below_more}
+use Rattle.std.proofs.Common.{◌≡◌, ℕ, ◌+◌, ◌<◌, ◌≤◌, Bool, true, false, cond, List, [], ◌∷◌, ◌++◌, length, take, get_or, All, IsTrue, ◌↔◌, refl, map, replicate, append_assoc, sym, ap, subst, ◌∙◌, arith, length-append, below_more}
 use Rattle.std.specs.Bool.{OnTrue, OnFalse}
 use Rattle.std.proofs.lemmas.List.{get_or_append_left, get_or_push, get_or_at, append-nil, nil_from_length, map-append, take_all}
 use Rattle.std.proofs.lemmas.List.Sums.{fold_push}
@@ -11,18 +11,17 @@ use Rattle.org_reloc.specs.declared.place.Place.{Place}
 use Rattle.org_reloc.specs.declared.packing.Cursor.{Cursor}
 use Rattle.org_reloc.specs.declared.packing.Packer.{Packer}
 use Rattle.org_reloc.specs.Packer.{Shows}
-use Rattle.org_reloc.specs.Filling.{Filling, unfilled, filled_by, filling_of, groups_of, block_cost, IsAt, IsNewest, ArePlaces}
+use Rattle.org_reloc.specs.Filling.{Filling, unfilled, filled_by, filling_of, groups_of, block_cost, LeaveRoom, IsAt, IsNewest, ArePlaces}
 use Rattle.org_reloc.specs.Content.{IsBlock}
 use Rattle.org_reloc.proofs.Fillings.{IsStep, cursor_step, filling_more, filled_next, alone_costs}
 use Rattle.org_reloc.proofs.Groups.{too_many}
 use Rattle.org_reloc.specs.Refusal.{TakeTooMany}
-use Rattle.ckd_image.specs.declared.device.Device.TheVariants.{D3390, D3380}
 use Rattle.org_reloc.specs.Packing.{FitsAlone, track_of}
 
 -- the first of the blocks have their places
 pub record HasPlaced (device : Device) (blocks : List Block) (i : ℕ) (cursor : Cursor) (track : ℕ) (places : List Place) : Type 0 where
   pub device_is : cursor.device ≡ device
-  pub few : 16 * cursor.number + cursor.room ≤ 1800
+  pub few : LeaveRoom cursor.device cursor.number cursor.room
   pub at : IsAt device cursor.number cursor.room (filling_of device (take i blocks))
   pub track_is : track ≡ length (filling_of device (take i blocks)).full
   pub near : track ≤ 65534
@@ -32,7 +31,7 @@ pub record HasPlaced (device : Device) (blocks : List Block) (i : ℕ) (cursor :
 -- the first of the blocks stand on tracks, and these are left
 pub record HasPut (device : Device) (blocks put left : List Block) (count : ℕ) (packer : Packer) : Type 0 where
   pub device_is : packer.cursor.device ≡ device
-  pub few : 16 * packer.cursor.number + packer.cursor.room ≤ 1800
+  pub few : LeaveRoom packer.cursor.device packer.cursor.number packer.cursor.room
   pub shows : Shows packer (filling_of device put)
   pub whole : blocks ≡ put ++ left
   pub count_is : count ≡ length left
@@ -49,7 +48,7 @@ latest places places' place i d e count = ap (λ l. get_or l i d) e ∙ get_or_p
 
 pub placed_more : (opens : Bool) (device : Device) (blocks : List Block) (i : ℕ) (block : Block) (old new : Cursor) (track track' : ℕ) (places places' : List Place)
     → HasPlaced device blocks i old track places → i < length blocks → block ≡ get_or blocks i block
-    → new.device ≡ old.device → 16 * new.number + new.room ≤ 1800 → (IsTrue opens ↔ old.room < block_cost old.device block)
+    → new.device ≡ old.device → LeaveRoom new.device new.number new.room → (IsTrue opens ↔ old.room < block_cost old.device block)
     → OnFalse opens ((new.number ≡ old.number + 1) × (new.room + block_cost old.device block ≡ old.room)) → OnTrue opens ((new.number ≡ 1) × (new.room + block_cost old.device block ≡ capacity_of old.device))
     → track' ≡ cond opens (track + 1) track → track' ≤ 65534 → places' ≡ places ++ record { track = track'; number = new.number } ∷ []
     → HasPlaced device blocks (i + 1) new track' places'
@@ -97,7 +96,7 @@ next_costs device blocks put left rest count packer block h e each =
     (alone_costs device block (at_middle (FitsAlone device) put rest blocks block (h.whole ∙ ap (λ l. put ++ l) e) each))
 
 pub put_more : (device : Device) (blocks put left rest : List Block) (count count' : ℕ) (old new : Packer) (block : Block) → HasPut device blocks put left count old → left ≡ block ∷ rest → count' + 1 ≡ count
-    → new.cursor.device ≡ old.cursor.device → 16 * new.cursor.number + new.cursor.room ≤ 1800
+    → new.cursor.device ≡ old.cursor.device → LeaveRoom new.cursor.device new.cursor.number new.cursor.room
     → ((filling : Filling) → Shows old filling → Shows new (filled_by old.cursor.device filling block))
     → HasPut device blocks (put ++ block ∷ []) rest count' new
 put_more device blocks put left rest count count' old new block h e less same few shows = record {
@@ -119,15 +118,11 @@ put_all device blocks put left count packer tracks h none pushed =
     ∙ ap (λ l. map track_of now.full ++ record { flag = 0; r0 = replicate 8 0; recs = l } ∷ []) h.shows.recs
     ∙ sym (map-append track_of now.full (now.current ∷ [])) ∙ ap (λ bs. map track_of (groups_of (filling_of device bs))) done
 
-small_capacity : (device : Device) → capacity_of device ≤ 1729
-small_capacity D3390 = omega arith
-small_capacity D3380 = omega arith
-
 pub placed_none : (device : Device) (blocks : List Block) (cursor : Cursor) (places : List Place) → cursor ≡ record { device = device; number = 0; room = capacity_of device } → places ≡ [] → HasPlaced device blocks 0 cursor 0 places
 placed_none device blocks cursor places e none =
     subst (λ (k : Cursor). HasPlaced device blocks 0 k 0 places) (sym e) (record {
       device_is = refl;
-      few = omega (arith, small_capacity device);
+      few = omega arith;
       at = record { number_is = refl; room_is = omega arith };
       track_is = refl;
       near = omega arith;
@@ -165,7 +160,7 @@ put_none device blocks left count packer tracks recs cursor whole count_is =
     let same : packer.cursor.device ≡ device = ap (λ (k : Cursor). k.device) cursor in
     record {
       device_is = same;
-      few = omega (arith, small_capacity device);
+      few = subst (λ (k : Cursor). LeaveRoom k.device k.number k.room) (sym cursor) (omega arith);
       shows = record {
         tracks = tracks;
         recs = recs;

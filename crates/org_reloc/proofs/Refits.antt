@@ -3,7 +3,7 @@ use Rattle.std.proofs.Common.{◌≡◌, ◌≢◌, ℕ, ◌+◌, ◌-◌, ◌<�
 use Rattle.std.proofs.lemmas.List.{length-map, take_at}
 use Rattle.std.proofs.lemmas.List.Elements.{All-nil, All-cons, All-push, All-map, All-head, All-tail}
 use Rattle.ckd_image.specs.declared.device.Device.{Device}
-use Rattle.ckd_image.specs.declared.device.Device.TheVariants.{D3390, D3380}
+use Rattle.ckd_image.specs.declared.device.Device.TheVariants.{D3390, D3380, D3350}
 use Rattle.ckd_image.specs.declared.track.Rec.{Rec}
 use Rattle.ckd_image.specs.declared.track.Track.{Track}
 use Rattle.org_reloc.specs.declared.block.Block.{Block}
@@ -88,6 +88,7 @@ no_end_in tracks last content (inr h) = no_end_of (records_of tracks) content h.
 pub end_fits : (device : Device) → FitsAlone device end_of_file
 end_fits D3390 = omega arith
 end_fits D3380 = omega arith
+end_fits D3350 = omega arith
 
 pub end_sized : IsBlock end_of_file
 end_sized = record { key_fits = omega arith; body_fits = omega arith }

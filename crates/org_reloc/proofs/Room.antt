@@ -6,15 +6,16 @@ use Rattle.std.proofs.lemmas.Bool.Decides.{nat_tests}
 use Rattle.std.proofs.lemmas.List.Sums.{sum_by-cons}
 use Rattle.std.proofs.lemmas.List.Elements.{All-nil, All-cons, All-head, All-tail, recursion_from_All, All-from_recursion}
 use Rattle.ckd_image.specs.declared.device.Device.{Device}
-use Rattle.ckd_image.specs.declared.device.Device.TheVariants.{D3390, D3380}
+use Rattle.ckd_image.specs.declared.device.Device.TheVariants.{D3390, D3380, D3350}
 use Rattle.ckd_image.specs.declared.track.TrackAt.{TrackAt}
-use Rattle.ckd_image.specs.Device.{capacity_of, cost_of, field_cost, slot_of}
+use Rattle.ckd_image.specs.Device.{cost_of, field_cost, slot_of}
 use Rattle.ckd_image.specs.Track.{record_text, records_text, track_text, IsRecord, end_mark, IsTrack}
 use Rattle.org_reloc.specs.declared.block.Block.{Block}
 use Rattle.org_reloc.specs.Content.{IsBlock}
 use Rattle.org_reloc.specs.Packing.{record_of, track_of, FitTrack, AreGrouped, HaveRoom}
-use Rattle.org_reloc.specs.Filling.{block_cost, blocks_cost}
+use Rattle.org_reloc.specs.Filling.{block_cost, blocks_cost, least_cost}
 use Rattle.org_reloc.proofs.Groups.{cost_by_fit}
+use Rattle.org_reloc.proofs.Costs.{at_least, few_of}
 
 field_least : (n : ℕ) → 238 * n + 1428 + 7888 * 9 ≤ 7888 * field_cost n
 field_least n = omega arith
@@ -29,6 +30,9 @@ cost_3390 k l =
 
 cost_3380 : (k l : ℕ) → 8 + (k + l) + 484 ≤ 32 * cost_of D3380 k l
 cost_3380 k l = elim (cases_eq k 0) [ inl e ↦ grind (arith, nat_tests) | inr e ↦ grind (arith, nat_tests) ]
+
+cost_3350 : (k l : ℕ) → 8 + (k + l) ≤ cost_of D3350 k l
+cost_3350 k l = elim (cases_eq k 0) [ inl e ↦ grind (arith, nat_tests) | inr e ↦ grind (arith, nat_tests) ]
 
 bytes_3390 : (at : TrackAt) (n : ℕ) (blocks : List Block) → 238 * length (records_text at (map record_of (enumerate_from n blocks))) + 149000 * length blocks ≤ 7888 * blocks_cost D3390 blocks
 bytes_3390 at n [] = omega arith
@@ -56,6 +60,19 @@ bytes_3380 at n (block ∷ more) =
       length-append block.key block.body,
     )
 
+bytes_3350 : (at : TrackAt) (n : ℕ) (blocks : List Block) → length (records_text at (map record_of (enumerate_from n blocks))) ≤ blocks_cost D3350 blocks
+bytes_3350 at n [] = omega arith
+bytes_3350 at n (block ∷ more) =
+    let rest = map record_of (enumerate_from (n + 1) more) in
+    omega (
+      arith,
+      bytes_3350 at (n + 1) more,
+      cost_3350 (length block.key) (length block.body),
+      sum_by-cons (block_cost D3350) block more,
+      length-append (record_text at (record_of (n, block))) (records_text at rest),
+      length-append block.key block.body,
+    )
+
 no_bytes : (at : TrackAt) (blocks : List Block) → length blocks ≡ 0 → length (records_text at (map record_of (enumerate_from 1 blocks))) ≡ 0
 no_bytes at [] e = refl
 no_bytes at (block ∷ more) e = absurd (omega (arith, e))
@@ -74,20 +91,13 @@ text_fits D3380 at blocks fits =
       | inl e ↦ omega (arith, text_length at blocks, no_bytes at blocks e)
       | inr e ↦ omega (arith, text_length at blocks, bytes_3380 at 1 blocks, cost_by_fit D3380 blocks fits)
     ]
+text_fits D3350 at blocks fits = omega (arith, text_length at blocks, bytes_3350 at 1 blocks, cost_by_fit D3350 blocks fits)
 
 -- ---- few enough records
 
-at_least : (device : Device) (k l : ℕ) → 16 ≤ cost_of device k l
-at_least D3390 k l = omega (arith, cost_3390 k l)
-at_least D3380 k l = omega (arith, cost_3380 k l)
-
-count_costs : (device : Device) (blocks : List Block) → 16 * length blocks ≤ blocks_cost device blocks
+count_costs : (device : Device) (blocks : List Block) → length blocks * least_cost device ≤ blocks_cost device blocks
 count_costs device [] = omega arith
 count_costs device (block ∷ more) = omega (arith, count_costs device more, at_least device (length block.key) (length block.body), sum_by-cons (block_cost device) block more)
-
-capacity_most : (device : Device) → capacity_of device ≤ 1729
-capacity_most D3390 = omega arith
-capacity_most D3380 = omega arith
 
 sound_records : (n : ℕ) (blocks : List Block) → 1 ≤ n → n + length blocks ≤ 256 → All IsBlock blocks → All IsRecord (map record_of (enumerate_from n blocks))
 sound_records n [] low high each = All-nil IsRecord
@@ -100,7 +110,7 @@ sound_records n (block ∷ more) low high each =
 sound_track : (device : Device) (blocks : List Block) → FitTrack device blocks → All IsBlock blocks → IsTrack (track_of blocks)
 sound_track device blocks fits each = record {
   zero = refl;
-  records = sound_records 1 blocks (omega arith) (omega (arith, count_costs device blocks, cost_by_fit device blocks fits, capacity_most device)) each;
+  records = sound_records 1 blocks (omega arith) (omega (arith, few_of device (length blocks) 0 (omega (arith, count_costs device blocks, cost_by_fit device blocks fits)))) each;
 }
 
 -- ---- all tracks

@@ -1,5 +1,5 @@
 -- Blocks of the same sizes stand at the same places.
-use Rattle.std.proofs.Common.{◌≡◌, ℕ, ◌+◌, ◌-◌, ◌≤◌, List, [], ◌∷◌, ◌++◌, length, take, drop, map, get_or, All, refl, sym, ap, subst, ◌∙◌, arith, length-append, fold, inl, inr}
+use Rattle.std.proofs.Common.{◌≡◌, ℕ, ◌+◌, ◌-◌, ◌≤◌, List, [], ◌∷◌, ◌++◌, length, take, drop, map, get_or, All, refl, sym, ap, subst, ◌∙◌, arith, fold, inl, inr}
 use Rattle.std.specs.List.{AllByRecursion}
 use Rattle.std.proofs.lemmas.Bool.{cases_lt}
 use Rattle.std.proofs.lemmas.List.{length-map, map-append, take-map}
@@ -58,10 +58,26 @@ costs_by_sizes device (x ∷ xs) (y ∷ ys) e =
     let tail : map size_of xs ≡ map size_of ys = cc in
     omega (arith, cost_by_size device x y head, costs_by_sizes device xs ys tail, sum_by-cons (block_cost device) x xs, sum_by-cons (block_cost device) y ys)
 
--- as many tracks are full, and the current one has blocks of the same sizes
+-- how many blocks each of the tracks has
+abbrev pub counts_of : List (List Block) → List ℕ
+counts_of groups = map (λ (group : List Block). length group) groups
+
+-- the full tracks have as many blocks each, and the current one has blocks of the same sizes
 record SameShape (f g : Filling) : Type 0 where
-  full : length f.full ≡ length g.full
+  full : counts_of f.full ≡ counts_of g.full
   current : map size_of f.current ≡ map size_of g.current
+
+by_count : (xs ys : List Block) → map size_of xs ≡ map size_of ys → length xs ≡ length ys
+by_count xs ys e = sym (length-map xs size_of) ∙ ap length e ∙ length-map ys size_of
+
+counts_push : (fs gs : List (List Block)) (xs ys : List Block) → counts_of fs ≡ counts_of gs → length xs ≡ length ys → counts_of (fs ++ xs ∷ []) ≡ counts_of (gs ++ ys ∷ [])
+counts_push fs gs xs ys e same =
+    let count : List Block → ℕ = λ group. length group in
+    map-append count fs (xs ∷ []) ∙ ap (λ l. l ++ length xs ∷ []) e ∙ ap (λ (n : ℕ). counts_of gs ++ n ∷ []) same ∙ sym (map-append count gs (ys ∷ []))
+
+-- tracks with as many blocks each are as many
+pub as_many : (fs gs : List (List Block)) → counts_of fs ≡ counts_of gs → length fs ≡ length gs
+as_many fs gs e = sym (length-map fs (λ (group : List Block). length group)) ∙ ap length e ∙ length-map gs (λ (group : List Block). length group)
 
 shape_step : (device : Device) (f g : Filling) (a b : Block) → SameShape f g → size_of a ≡ size_of b → SameShape (filled_by device f a) (filled_by device g b)
 shape_step device f g a b h e =
@@ -72,7 +88,7 @@ shape_step device f g a b h e =
           let p = filled_next device f a lt in
           let q = filled_next device g b (omega (arith, lt, cost, costs)) in
           subst (λ (x : Filling). SameShape x (filled_by device g b)) (sym p) (subst (SameShape (record { full = f.full ++ f.current ∷ []; current = a ∷ [] })) (sym q) (record {
-            full = omega (arith, h.full, length-append f.full (f.current ∷ []), length-append g.full (g.current ∷ []));
+            full = counts_push f.full g.full f.current g.current h.full (by_count f.current g.current h.current);
             current = ap (λ s. s ∷ []) e;
           }))
       | inr le ↦
@@ -99,22 +115,26 @@ take_sizes n xs ys e = sym (take-map size_of n xs) ∙ ap (λ l. take n l) e ∙
 shape_of : (device : Device) (xs ys : List Block) → map size_of xs ≡ map size_of ys → SameShape (filling_of device xs) (filling_of device ys)
 shape_of device xs ys e = shapes device unfilled unfilled xs ys e (record { full = refl; current = refl })
 
-length_current : (f g : Filling) → SameShape f g → length f.current ≡ length g.current
-length_current f g h = sym (length-map f.current size_of) ∙ ap length h.current ∙ length-map g.current size_of
-
 pub same_places : (device : Device) (xs ys : List Block) (places : List Place) → map size_of xs ≡ map size_of ys → ArePlaces device xs places → ArePlaces device ys places
 same_places device xs ys places e h = record {
   each_placed = h.each_placed ∙ sym (length-map xs size_of) ∙ ap length e ∙ length-map ys size_of;
   places_are = λ k d lt.
       let shape = shape_of device (take (k + 1) xs) (take (k + 1) ys) (take_sizes (k + 1) xs ys e) in
       let at = h.places_are k d lt in
-      (at.0 ∙ shape.full, at.1 ∙ length_current (filling_of device (take (k + 1) xs)) (filling_of device (take (k + 1) ys)) shape);
+      let one = filling_of device (take (k + 1) xs) in
+      let other = filling_of device (take (k + 1) ys) in
+      (at.0 ∙ as_many one.full other.full shape.full, at.1 ∙ by_count one.current other.current shape.current);
 }
 
-pub same_count : (device : Device) (xs ys : List Block) → map size_of xs ≡ map size_of ys → length (groups_of (filling_of device xs)) ≡ length (groups_of (filling_of device ys))
-same_count device xs ys e =
+pub same_counts : (device : Device) (xs ys : List Block) → map size_of xs ≡ map size_of ys → counts_of (groups_of (filling_of device xs)) ≡ counts_of (groups_of (filling_of device ys))
+same_counts device xs ys e =
     let shape = shape_of device xs ys e in
-    omega (arith, shape.full, length-append (filling_of device xs).full ((filling_of device xs).current ∷ []), length-append (filling_of device ys).full ((filling_of device ys).current ∷ []))
+    let one = filling_of device xs in
+    let other = filling_of device ys in
+    counts_push one.full other.full one.current other.current shape.full (by_count one.current other.current shape.current)
+
+pub same_count : (device : Device) (xs ys : List Block) → map size_of xs ≡ map size_of ys → length (groups_of (filling_of device xs)) ≡ length (groups_of (filling_of device ys))
+same_count device xs ys e = as_many (groups_of (filling_of device xs)) (groups_of (filling_of device ys)) (same_counts device xs ys e)
 
 -- ---- new places change no size
 

@@ -1,5 +1,5 @@
 -- What the steps of reading a directory say.
-use Rattle.std.specs.Prelude.{◌≡◌, ◌⊎◌, ℕ, ◌+◌, List, [], ◌∷◌, ◌++◌, map, All}
+use Rattle.std.specs.Prelude.{◌≡◌, ◌⊎◌, ℕ, List, [], ◌∷◌, ◌++◌, map, All}
 use Rattle.ckd_image.specs.Bytes.{Begins}
 use Rattle.org_reloc.specs.declared.block.Block.{Block}
 use Rattle.org_reloc.specs.declared.entry.Entry.{Entry}

@@ -1,5 +1,5 @@
 -- How far tracks are filled while blocks are put on them one after the other.
-use Rattle.std.specs.Prelude.{◌≡◌, ℕ, ◌+◌, ◌<◌, nat_le, if◌then◌else◌, List, [], ◌∷◌, ◌++◌, length, take, map, sum_by, fold, slice_index_or}
+use Rattle.std.specs.Prelude.{◌≡◌, ℕ, ◌+◌, ◌*◌, ◌<◌, ◌≤◌, nat_le, if◌then◌else◌, List, [], ◌∷◌, ◌++◌, length, take, map, sum_by, fold, slice_index_or}
 use Rattle.std.specs.List.{enumerate_from}
 use Rattle.ckd_image.specs.declared.device.Device.{Device}
 use Rattle.ckd_image.specs.declared.track.Rec.{Rec}
@@ -14,6 +14,14 @@ block_cost device block = cost_of device (length block.key) (length block.body)
 
 abbrev pub blocks_cost : Device → List Block → ℕ
 blocks_cost device blocks = sum_by (block_cost device) blocks
+
+-- what the shortest record takes of a track: an end of file, which has neither key nor body
+abbrev pub least_cost : Device → ℕ
+least_cost device = cost_of device 0 0
+
+-- so many records may be on a track of which so much is left: as many of the shortest would leave as much or more
+abbrev pub LeaveRoom : Device → ℕ → ℕ → Type 0
+LeaveRoom device number room = number * least_cost device + room ≤ capacity_of device
 
 -- the tracks that are full, and what the current one has
 pub record Filling : Type 0 where

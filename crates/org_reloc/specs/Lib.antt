@@ -12,3 +12,4 @@ pub mod MemberRefusal
 pub mod Partitioned
 pub mod Moved
 pub mod Taken
+pub mod RefitLaws

@@ -5,6 +5,7 @@ mod block;
 mod directory;
 mod entry;
 mod fault;
+mod laws;
 mod member;
 mod moved;
 mod packing;
@@ -15,6 +16,7 @@ mod run;
 mod sequential;
 
 pub use fault::{RelocFault, Why};
+pub use laws::{partitioned_laws, sequential_laws};
 pub use partitioned::refit_po;
 pub use refit::Refit;
 pub use sequential::refit_ps;

@@ -1,12 +1,12 @@
 //! Blocks on tracks: each on the current one where it fits, and else on the next.
 
-ghost use Rattle.std.specs.Prelude.{◌≡◌, ◌↔◌, ◌+◌, ◌*◌, ◌<◌, ◌≤◌, [], ◌∷◌, ◌++◌, length, map, replicate, if◌then◌else◌, All, IsTrue, IfOk, IfErr, OnOk};
+ghost use Rattle.std.specs.Prelude.{◌≡◌, ◌↔◌, ◌+◌, ◌<◌, ◌≤◌, [], ◌∷◌, ◌++◌, length, map, replicate, if◌then◌else◌, All, IsTrue, IfOk, IfErr, OnOk};
 ghost use Rattle.std.specs.Bool.{OnTrue, OnFalse};
 ghost use Rattle.ckd_image.specs.Device.{capacity_of};
 ghost use Rattle.org_reloc.specs.Content.{IsBlock};
 ghost use Rattle.org_reloc.specs.Packing.{FitsAlone, track_of};
 ghost use Rattle.org_reloc.specs.Refusal.{IsLengthRefusal, IsLongRefusal, number_of};
-ghost use Rattle.org_reloc.specs.Filling.{Filling, ArePlaces, filled_by, filling_of, groups_of, block_cost};
+ghost use Rattle.org_reloc.specs.Filling.{Filling, ArePlaces, filled_by, filling_of, groups_of, block_cost, LeaveRoom};
 ghost use Rattle.org_reloc.specs.declared.fault.Why.TheVariants as whys;
 
 use crate::block::Block;
@@ -42,9 +42,9 @@ impl Cursor {
     fn take(&mut self, block: &Block) -> bool
         requires block { IsBlock block.now }
         requires alone { block_cost self.old.device block.now ≤ capacity_of self.old.device }
-        requires few { 16 * self.old.number + self.old.room ≤ 1800 }
+        requires few { LeaveRoom self.old.device self.old.number self.old.room }
         ensures device { self.new.device ≡ self.old.device }
-        ensures few { 16 * self.new.number + self.new.room ≤ 1800 }
+        ensures few { LeaveRoom self.new.device self.new.number self.new.room }
         ensures opens { IsTrue result ↔ (self.old.room < block_cost self.old.device block.now) }
         ensures stays { OnFalse result ((self.new.number ≡ self.old.number + 1) × (self.new.room + block_cost self.old.device block.now ≡ self.old.room)) }
         ensures opened { OnTrue result ((self.new.number ≡ 1) × (self.new.room + block_cost self.old.device block.now ≡ capacity_of self.old.device)) }
@@ -155,8 +155,8 @@ impl Packer {
     fn put(&mut self, alloc: Global, block: Block) -> Result<(), NoMemory>
         requires block { IsBlock block }
         requires alone { block_cost self.old.cursor.device block ≤ capacity_of self.old.cursor.device }
-        requires few { 16 * self.old.cursor.number + self.old.cursor.room ≤ 1800 }
-        ensures few { 16 * self.new.cursor.number + self.new.cursor.room ≤ 1800 }
+        requires few { LeaveRoom self.old.cursor.device self.old.cursor.number self.old.cursor.room }
+        ensures few { LeaveRoom self.new.cursor.device self.new.cursor.number self.new.cursor.room }
         ensures device { self.new.cursor.device ≡ self.old.cursor.device }
         ensures put { OnOk result ((filling : Filling) → Shows self.old filling → Shows self.new (filled_by self.old.cursor.device filling block)) }
     {

@@ -56,7 +56,7 @@ fn part_of(device: Device, extent: &Extent, used: u32) -> u32
     requires used { used ≤ 65536 }
     requires fewer { used < (run_in (heads_of device) (field_of extent.now)).len }
     ensures value { result ≡ whole_tracks_of (heads_of device) used (extents_at (heads_of device) (extent.now ∷ [])) }
-    ensures few { result ≤ 2 ^ 20 }
+    ensures few { result ≤ 2 ^ 21 }
 {
     if extent.kind != CYLINDERS {
         return used;

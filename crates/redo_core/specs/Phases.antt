@@ -1,5 +1,5 @@
 -- What a commit leaves, at any moment and at its end.
-use Rattle.std.specs.Prelude.{◌<◌, ◌≡◌, ◌⊎◌, ℕ, ◌+◌, List, length, map, All, Some, Bool, true, false, ◌==◌, ◌&&◌, ◌||◌, nat_le}
+use Rattle.std.specs.Prelude.{◌<◌, ◌≡◌, ◌⊎◌, ℕ, ◌+◌, List, length, map, All, Some, Bool, true, false, IsTrue, ◌==◌, ◌&&◌, ◌||◌, nat_le}
 use Rattle.dasd_pool.specs.Disk.{Image, Shape, State, IsSynced, is_at}
 use Rattle.vol_label.specs.declared.serial.Serial.{Serial}
 use Rattle.redo_core.specs.declared.control.Control.{Control}
@@ -9,6 +9,10 @@ use Rattle.redo_core.specs.Format.{is_open}
 use Rattle.redo_core.specs.Reading.{journal_of, is_place, placed, among, control_after, fills_after, with_entries, fills_of, Reading, Reads}
 use Rattle.redo_core.specs.Opening.{ReadsSame}
 use Rattle.redo_core.specs.Statuses.{EntriesView, IsControlBlock}
+
+-- each unit that the entries name takes writes
+abbrev pub TakeWrites : Shape → List Entry → Type 0
+TakeWrites shape entries = All (λ entry. IsTrue (shape.may_write entry.unit)) entries
 
 -- the targets of entries
 abbrev pub targets : List Entry → List Target

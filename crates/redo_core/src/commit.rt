@@ -1,17 +1,33 @@
 //! The steps of a commit, over a pool that is lent.
 
-ghost use Rattle.std.specs.Prelude.{◌≡◌, ◌≢◌, ◌<◌, ◌≤◌, ◌+◌, ℕ, List, [], Bool, All, AllPairs, length, OnOk};
+ghost use Rattle.std.specs.Prelude.{◌≡◌, ◌≢◌, ◌⊎◌, ◌<◌, ◌≤◌, ◌+◌, ℕ, List, [], Bool, All, AllPairs, length, OnOk};
 ghost use Rattle.dasd_pool.specs.Count.{HasCause};
 ghost use Rattle.dasd_pool.specs.Disk.{Image, IsSynced, LeavesOnly, Runs, none};
 ghost use Rattle.redo_core.specs.declared.control.Control.{Control};
 ghost use Rattle.redo_core.specs.Format.{wide, room_in};
 ghost use Rattle.redo_core.specs.Reading.{journal_of, among, placed, body_for};
-ghost use Rattle.redo_core.specs.Phases.{targets, of_body, of_commit, MayGo, IsAtRest, IsStatusAfter, OldOrNew, IsCommitted};
+ghost use Rattle.redo_core.specs.Phases.{targets, of_body, of_commit, TakeWrites, MayGo, IsAtRest, IsStatusAfter, OldOrNew, IsCommitted};
 ghost use Rattle.redo_core.specs.Steps.{IsJournal, IsPlaced, IsShut, HasEntries, HoldsEither, IsDone};
 
 use crate::blocks::{put_block, put_directory, set_gate};
 use crate::entries::Entry;
 use dasd_pool::{Pool, PoolFault};
+
+/// Asks whether each unit that the entries name may be written.
+fn ask<P: Pool>(pool: &mut P, journal: u32, entries: &[Entry]) -> Result<(), PoolFault>
+    requires journal { IsJournal (P.shape pool.old) journal (length entries.now) }
+    requires entries { All (IsPlaced (P.shape pool.old) journal) entries.now }
+    ensures shape { P.shape pool.new ≡ P.shape pool.old }
+    ensures may { OnOk result (TakeWrites (P.shape pool.old) entries.now) }
+    ensures same { P.tells → (P.disk pool.new).state ≡ (P.disk pool.old).state }
+    ensures runs { P.tells → Runs none (P.disk pool.old) (P.disk pool.new) }
+    ensures cause { HasCause (P.faults pool.old) (P.faults pool.new) result }
+{
+    for entry in entries {
+        pool.ask_to_write(entry.unit)?;
+    }
+    Ok(())
+}
 
 /// Writes the images of the body.
 fn stage<P: Pool>(
@@ -38,7 +54,7 @@ fn stage<P: Pool>(
 }
 
 /// Writes the body, and syncs it.
-fn write_body<P: Pool>(
+fn put_body<P: Pool>(
     pool: &mut P,
     journal: u32,
     buffer: &mut [u8],
@@ -58,6 +74,28 @@ fn write_body<P: Pool>(
     pool.write(journal, 3, buffer)?;
     pool.sync()?; // before the gate opens
     Ok(())
+}
+
+/// Writes the body, and syncs it. Nothing is written where an entry names a unit that may not be written.
+fn write_body<P: Pool>(
+    pool: &mut P,
+    journal: u32,
+    buffer: &mut [u8],
+    entries: &[Entry],
+) -> Result<(), PoolFault>
+    requires journal { IsJournal (P.shape pool.old) journal (length entries.now) }
+    requires size { length buffer.old ≡ wide }
+    requires entries { All (IsPlaced (P.shape pool.old) journal) entries.now }
+    ensures shape { P.shape pool.new ≡ P.shape pool.old }
+    ensures body { P.tells → OnOk result (HasEntries (P.shape pool.old).block_size journal (P.disk pool.new).state.contents entries.now) }
+    ensures synced { P.tells → OnOk result (IsSynced (P.disk pool.new).state) }
+    ensures runs { P.tells → Runs (of_body journal (length entries.now)) (P.disk pool.old) (P.disk pool.new) }
+    ensures may { OnOk result (TakeWrites (P.shape pool.old) entries.now) }
+    ensures careful { P.tells → TakeWrites (P.shape pool.old) entries.now ⊎ Runs none (P.disk pool.old) (P.disk pool.new) }
+    ensures cause { HasCause (P.faults pool.old) (P.faults pool.new) result }
+{
+    ask(pool, journal, entries)?;
+    put_body(pool, journal, buffer, entries)
 }
 
 /// Writes the targets, and syncs them.
@@ -94,6 +132,8 @@ fn apply_steps<P: Pool>(
         (HoldsEither (P.shape pool.old).block_size journal (P.disk pool.old).state entries.now) }
     ensures runs { P.tells → Runs (of_commit journal entries.now) (P.disk pool.old) (P.disk pool.new) }
     ensures done { P.tells → OnOk result (IsDone journal (P.disk pool.old).state entries.now (P.disk pool.new).state) }
+    ensures may { OnOk result (TakeWrites (P.shape pool.old) entries.now) }
+    ensures careful { P.tells → TakeWrites (P.shape pool.old) entries.now ⊎ Runs none (P.disk pool.old) (P.disk pool.new) }
     ensures cause { HasCause (P.faults pool.old) (P.faults pool.new) result }
 {
     write_body(pool, journal, buffer, entries)?;
@@ -120,6 +160,8 @@ fn apply_all<P: Pool>(
     ensures runs { P.tells → Runs (of_commit journal entries.now) (P.disk pool.old) (P.disk pool.new) }
     ensures done { P.tells → OnOk result (IsDone journal (P.disk pool.old).state entries.now (P.disk pool.new).state) }
     ensures still { P.tells → entries.now ≡ [] → Runs none (P.disk pool.old) (P.disk pool.new) }
+    ensures may { OnOk result (TakeWrites (P.shape pool.old) entries.now) }
+    ensures careful { P.tells → TakeWrites (P.shape pool.old) entries.now ⊎ Runs none (P.disk pool.old) (P.disk pool.new) }
     ensures cause { HasCause (P.faults pool.old) (P.faults pool.new) result }
 {
     if entries.is_empty() {
@@ -151,6 +193,8 @@ pub fn apply<P: Pool>(
     ensures at_rest { P.tells → OnOk result ((room : ℕ) (control after : Control) (fills later : List Bool) → IsAtRest (P.shape pool.old) (P.disk pool.old).state room control fills
         → IsStatusAfter (P.shape pool.old) entries.now control fills after later → IsAtRest (P.shape pool.old) (P.disk pool.new).state room after later) }
     ensures committed { P.tells → OnOk result (IsCommitted (P.shape pool.old) (P.disk pool.old).state entries.now (P.disk pool.new).state) }
+    ensures may { OnOk result (TakeWrites (P.shape pool.old) entries.now) }
+    ensures careful { P.tells → TakeWrites (P.shape pool.old) entries.now ⊎ Runs none (P.disk pool.old) (P.disk pool.new) }
     ensures cause { HasCause (P.faults pool.old) (P.faults pool.new) result }
 {
     apply_all(pool, journal, buffer, entries)?;

@@ -8,7 +8,7 @@ ghost use Rattle.dasd_pool.specs.Disk.{Image, LeavesOnly, Runs, IsSynced, none, 
 ghost use Rattle.redo_core.specs.declared.control.Control.TheVariants.{Idle};
 ghost use Rattle.redo_core.specs.Reading.{journal_of, fills_of, IsLawful};
 ghost use Rattle.redo_core.specs.Steps.{IsJournal, of_making};
-ghost use Rattle.redo_core.specs.Phases.{targets, of_commit, AreEntries, IsAtRest, IsStatusAfter, OldOrNew, IsCommitted};
+ghost use Rattle.redo_core.specs.Phases.{targets, of_commit, TakeWrites, AreEntries, IsAtRest, IsStatusAfter, OldOrNew, IsCommitted};
 ghost use Rattle.redo_core.specs.Statuses.{AreVolumes, HasFour, control_alone, entries_at};
 ghost use Rattle.redo_core.specs.Opening.{AreNames, IsFormatted, IsOpened, MakingLeaves, ReadsSame, SparesVolumes, of_opening};
 ghost use Rattle.redo_core.specs.Faults.{IsFormatFault, IsOpenFault, MayFormat, MayOpen};
@@ -329,6 +329,10 @@ impl<P: Pool> Journal<P> {
 
         // With no entries nothing is written.
         ensures still { P.tells → entries_at (journal_of (P.shape self.pool)) entries ≡ [] → Runs none (P.disk self.pool) (P.disk (pool_after result)) }
+
+        // Where one of the units may not be written, nothing is.
+        ensures may { OnOk result (TakeWrites (P.shape self.pool) (entries_at (journal_of (P.shape self.pool)) entries)) }
+        ensures careful { P.tells → TakeWrites (P.shape self.pool) (entries_at (journal_of (P.shape self.pool)) entries) ⊎ Runs none (P.disk self.pool) (P.disk (pool_after result)) }
         ensures rest { P.tells → IfOk result (λ journal. IsAtRest (P.shape self.pool) (P.disk journal.pool).state journal.room journal.control journal.fills) }
         ensures committed { P.tells → IfOk result (λ journal. IsCommitted (P.shape self.pool) (P.disk self.pool).state
             (entries_at (journal_of (P.shape self.pool)) entries) (P.disk journal.pool).state) }
@@ -388,6 +392,10 @@ impl<P: Pool> Journal<P> {
         ensures each_image { P.tells → (image : Image) → (P.disk (pool_after result)).left_since (P.disk self.pool).moment image
             → OldOrNew (P.shape self.pool) (P.disk self.pool).state (control_alone (journal_of (P.shape self.pool)) control filling) image }
         ensures runs { P.tells → Runs (of_commit (journal_of (P.shape self.pool)) (control_alone (journal_of (P.shape self.pool)) control filling)) (P.disk self.pool) (P.disk (pool_after result)) }
+
+        // Where one of the units may not be written, nothing is.
+        ensures may { OnOk result (TakeWrites (P.shape self.pool) (control_alone (journal_of (P.shape self.pool)) control filling)) }
+        ensures careful { P.tells → TakeWrites (P.shape self.pool) (control_alone (journal_of (P.shape self.pool)) control filling) ⊎ Runs none (P.disk self.pool) (P.disk (pool_after result)) }
         ensures rest { P.tells → IfOk result (λ journal. IsAtRest (P.shape self.pool) (P.disk journal.pool).state journal.room journal.control journal.fills) }
         ensures committed { P.tells → IfOk result (λ journal. IsCommitted (P.shape self.pool) (P.disk self.pool).state
             (control_alone (journal_of (P.shape self.pool)) control filling) (P.disk journal.pool).state) }

@@ -50,29 +50,63 @@ fn assert_counts(rt: &impl Abort, refit: &Refit, counts: &[usize]) {
     }
 }
 
-/// A sequential data set of a 3380 on a 3390. A track of either takes two blocks of 23,476 bytes, and on a 3390 an end of file behind them.
+/// A sequential data set on another device.
 fn packed(
     alloc: Global,
+    devices: [Device; 2],
     lengths: &[&[u16]],
     last: [u8; 3],
 ) -> Result<Result<Refit, RelocFault>, NoMemory> {
     let tracks = tracks_of(alloc, lengths)?;
-    Ok(refit_ps(alloc, Device::D3380, Device::D3390, tracks.as_slice(), last))
+    let [from, to] = devices;
+    Ok(refit_ps(alloc, from, to, tracks.as_slice(), last))
 }
 
+/// A track of either device takes two of the blocks, and on a 3390 an end of file behind them.
 #[test]
 fn a_sequential_data_set_is_packed_anew(rt: HostRuntime) -> Result<(), Fail> {
     let half = 23_476;
-    let refit = packed(rt.alloc(), &[&[half, half], &[half, half], &[0]], [0, 1, 2])??;
+    let devices = [Device::D3380, Device::D3390];
+    let refit = packed(
+        rt.alloc(),
+        devices,
+        &[&[half, half], &[half, half], &[0]],
+        [0, 1, 2],
+    )??;
     assert_counts(&rt, &refit, &[2, 3]);
     assert_eq!(rt; refit.last, [0, 1, 2]);
     let refit = packed(
         rt.alloc(),
+        devices,
         &[&[half, half], &[half, half], &[half, 0, 1]],
         [0, 2, 1],
     )??;
     assert_counts(&rt, &refit, &[2, 2, 2]);
     assert_eq!(rt; refit.last, [0, 2, 1]);
+    Ok(())
+}
+
+/// Two of the blocks take all of a 3350's track, so that the end of file has one of its own.
+#[test]
+fn a_3350_takes_blocks_of_a_3390(rt: HostRuntime) -> Result<(), Fail> {
+    let refit = packed(
+        rt.alloc(),
+        [Device::D3390, Device::D3350],
+        &[&[9_442; 5], &[9_442; 5], &[9_442, 9_442, 0]],
+        [0, 2, 2],
+    )??;
+    assert_counts(&rt, &refit, &[2, 2, 2, 2, 2, 2, 1]);
+    assert_eq!(rt; refit.last, [0, 5, 2]);
+    Ok(())
+}
+
+#[test]
+fn a_block_is_too_long_for_a_3350(rt: HostRuntime) -> Result<(), Fail> {
+    let devices = [Device::D3390, Device::D3350];
+    let refit = packed(rt.alloc(), devices, &[&[19_069, 0]], [0, 0, 1])??;
+    assert_counts(&rt, &refit, &[1, 1]);
+    let refused = packed(rt.alloc(), devices, &[&[19_070, 0]], [0, 0, 1])?.err();
+    assert_eq!(rt; refused, Some(RelocFault::BlockTooLong(19_070, 19_069)));
     Ok(())
 }
 

@@ -111,6 +111,24 @@ fn costs_are_those_of_the_tables(rt: HostRuntime) {
 }
 
 #[test]
+fn a_3350_counts_bytes(rt: HostRuntime) {
+    let device = Device::D3350;
+    assert_eq!(rt; device.cost(0, 19_069), 19_254);
+    assert_eq!(rt; device.cost(0, 19_070), 19_255);
+    assert!(rt; fits(device, &[(0, 19_069)]));
+    assert!(rt; !fits(device, &[(0, 19_070)]));
+    assert_eq!(rt;
+        (47 * device.cost(44, 96), 48 * device.cost(44, 96)),
+        (19_129, 19_536)
+    );
+    assert_eq!(rt;
+        (36 * device.cost(8, 256), 37 * device.cost(8, 256)),
+        (19_116, 19_647)
+    );
+    assert_capacity(&rt, device, 47, 36);
+}
+
+#[test]
 fn lists_and_words_hold_what_is_put_in(rt: HostRuntime) -> Result<(), Fail> {
     let word = Word::copy_of(rt.alloc(), "--unit")?;
     assert_eq!(rt; word.as_str(), "--unit");

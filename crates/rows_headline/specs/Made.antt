@@ -5,12 +5,11 @@ use Rattle.vol_label.specs.declared.serial.Serial.{Serial}
 use Rattle.redo_core.specs.Faults.{MayFormat}
 use Rattle.redo_core.specs.Opening.{IsFormatted}
 use Rattle.redo_core.specs.Reading.{Reading, Reads}
-use Rattle.volume_model.specs.Reads.{IsTextAt}
 use Rattle.vtoc_core.specs.declared.volume.Volume.{Volume as LoadedVolume}
 use Rattle.unit_load.specs.declared.state.UnitState.TheVariants as states
 use Rattle.unit_load.specs.State.{IsStateOf}
-use Rattle.volume_model.specs.Sound.{Slots, Volume, IsVolume}
-use Rattle.volume_model.specs.Unit.{Text, OnlineVolume, UnitModel, online}
+use Rattle.volume_model.specs.Sound.{Volume, IsVolume}
+use Rattle.volume_model.specs.Unit.{OnlineVolume, UnitModel, online}
 use Rattle.run_words.specs.declared.run.Run.{Run}
 use Rattle.run_words.specs.declared.run.Run.TheVariants.{Format}
 use Rattle.move_core.specs.Facts.{Facts}
@@ -24,18 +23,6 @@ pub record IsSettledVolume (shape : Shape) (state : State) : Type 0 where
   pub settled : IsSettled facts state units
   pub volume : OnlineVolume
   pub is_first : slice_get units 0 ≡ Some (online volume)
-
--- what a slot says of a track: its text, or that it has none
-abbrev pub SaysSome : ℕ → ℕ → List ℕ → Type 0
-SaysSome heads track slot = (text : Text) × IsTextAt heads track slot text
-
--- what the slot of a track says of it
-abbrev pub IsTold : ℕ → Slots → ℕ → Type 0
-IsTold heads slots track = SaysSome heads track (slots track)
-
--- so of each of so many tracks
-abbrev pub AreTold : ℕ → Slots → ℕ → Type 0
-AreTold heads slots count = (track : ℕ) → track < count → IsTold heads slots track
 
 -- a run is not the making of a journal
 abbrev pub MakesNoJournal : Run → Type 0

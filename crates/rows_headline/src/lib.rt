@@ -6,7 +6,6 @@ mod made;
 mod stopped;
 #[cfg(test)]
 mod tests;
-mod told;
 
 pub use made::make_and_list;
 pub use stopped::{Ran, Resumed, Stopped, run, run_again, run_and_stop};

@@ -5,7 +5,6 @@ ghost use Rattle.adr_top.specs.Asked.{AsksForJournal};
 ghost use Rattle.rows_headline.specs.Made.{IsSettledVolume, MakesNoJournal, IsMade, StaysSettled};
 
 use crate::looked::look;
-use crate::told::are_told;
 use adr_top::{Day, Run, batch, read_words};
 use ckd_image::Word;
 use dasd_pool::{Pool, Sink, Source};
@@ -100,8 +99,7 @@ pub fn make_and_list<S: Source, H: Source, O: Sink, P: Pool + Drop>(
     ensures settled { P.tells → IfSome result (λ listed. IsSettledVolume (P.shape listed) (P.disk listed).state) }
     ensures shape { IfSome result (λ listed. P.shape listed ≡ P.shape pool) }
 {
-    let mut pool = pool;
-    if pool.units() != 2 || !are_told(alloc, &mut pool) {
+    if pool.units() != 2 {
         return None;
     }
     let made = make(alloc, making, sysin, held, out, pool)?;

@@ -73,18 +73,23 @@ ADR101I (002) RELEASE STARTED
 ADR516T (000) RUN ENDED WITH STATUS 16
 ";
 
-const CUT: &str = "ADR101I (001) RELEASE STARTED\nADR120I (001) A.B RELEASED 7\n";
+const FIRST_ALONE: &str = "ADR101I (001) RELEASE STARTED
+ADR120I (001) A.B RELEASED 7
+ADR102I (001) RELEASE ENDED CODE 0
+";
 
 const ONE: Steps = (&[('S', 0, 3)], None);
+
+const BOTH: Steps = (&[('S', 0, 3), ('S', 1, 3)], None);
 
 const BEGUN: Steps = (&[('S', 0, 3)], Some(('S', 1, 3)));
 
 static HALTS: [Row; 4] = [
     (&WORDS_OF_TWO, &[(Pool, SECOND_RELEASE)], 16, HALTED, ONE),
     (&WORDS_OF_TWO, &[(Pool, SECOND_WRITE)], 16, HALTED, BEGUN),
-    // a line of the first isn't written, and so the second doesn't run
+    // the lines of the first aren't written, and so the second doesn't run
     (&WORDS_OF_TWO, &[(Lines, 0)], 28, "", ONE),
-    (&WORDS_OF_TWO, &[(Lines, 2)], 28, CUT, ONE),
+    (&WORDS_OF_TWO, &[(Lines, 1)], 28, FIRST_ALONE, BOTH),
 ];
 
 #[test]

@@ -6,7 +6,6 @@ use Rattle.dd_names.specs.declared.dd.DdName.{DdName}
 use Rattle.dsn_filter.specs.declared.dsn.Dsn.{Dsn}
 use Rattle.free_map.specs.declared.run.Run.{Run}
 use Rattle.volume_model.specs.Changed.{IsPut, ChangesSets}
-use Rattle.vol_label.specs.declared.serial.Serial.{Serial}
 use Rattle.volume_model.specs.Reads.{IsUnit}
 use Rattle.volume_model.specs.Sound.{Slots}
 use Rattle.volume_model.specs.Unit.{DataSet, OnlineVolume, UnitModel}

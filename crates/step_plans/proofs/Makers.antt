@@ -8,7 +8,7 @@ use Rattle.std.proofs.lemmas.List.Sums.{sum_by-cons}
 use Rattle.std.proofs.lemmas.Option.{same_Some, none-some}
 use Rattle.ckd_image.specs.Device.{heads_of, ceil_div}
 use Rattle.ckd_image.specs.declared.device.Device.{Device}
-use Rattle.ckd_image.specs.declared.device.Device.TheVariants.{D3390, D3380}
+use Rattle.ckd_image.specs.declared.device.Device.TheVariants.{D3390, D3380, D3350}
 use Rattle.dscb_rec.specs.declared.field.Extent.{Extent as Field}
 use Rattle.dsn_filter.specs.declared.dsn.Dsn.{Dsn}
 use Rattle.dsn_filter.specs.Dsn.{IsDsn}
@@ -71,8 +71,10 @@ kind_some extents kind (inr by) none = absurd (omega (arith, by.1, none))
 step_some : (device : Device) (extents : List Extent) (step : ℕ) → IsStepOf (heads_of device) extents step → 1 ≤ step
 step_some D3390 extents step (inl by) = omega (arith, by.1)
 step_some D3380 extents step (inl by) = omega (arith, by.1)
+step_some D3350 extents step (inl by) = omega (arith, by.1)
 step_some D3390 extents step (inr by) = omega (arith, by.1)
 step_some D3380 extents step (inr by) = omega (arith, by.1)
+step_some D3350 extents step (inr by) = omega (arith, by.1)
 
 -- of cylinders, a step has a cylinder's tracks
 step_whole : (heads : ℕ) (extents : List Extent) (step kind : ℕ) → IsStepOf heads extents step → IsNewKind extents kind → kind ≡ 0x81 → step ≡ heads
@@ -189,6 +191,10 @@ rounded_for D3390 extents step kind n (inl by) (inl new) = ap (rounded n) by.1 �
 rounded_for D3380 extents step kind n (inl by) (inl new) = ap (rounded n) by.1 ∙ whole n ∙ sym (ap (λ (k : ℕ). tracks_for 15 k n) new.1)
   where
     whole : (n : ℕ) → rounded n 15 ≡ ceil_div n 15 * 15
+    whole n = omega arith
+rounded_for D3350 extents step kind n (inl by) (inl new) = ap (rounded n) by.1 ∙ whole n ∙ sym (ap (λ (k : ℕ). tracks_for 30 k n) new.1)
+  where
+    whole : (n : ℕ) → rounded n 30 ≡ ceil_div n 30 * 30
     whole n = omega arith
 rounded_for device extents step kind n (inr by) (inr new) = ap (rounded n) by.1 ∙ whole n ∙ sym (ap (λ (k : ℕ). tracks_for (heads_of device) k n) new.1)
   where

@@ -1,16 +1,20 @@
 -- Extents on runs of tracks.
-use Rattle.std.proofs.Common.{◌≡◌, ◌≢◌, inl, inr, ℕ, ◌+◌, ◌-◌, ◌<◌, ◌≤◌, ◌&&◌, List, [], ◌∷◌, length, map, All, true, refl, ap, arith}
-use Rattle.std.proofs.lemmas.Bool.{le-leb, lt-ltb}
+use Rattle.std.proofs.Common.{◌≡◌, ◌≢◌, inl, inr, ℕ, ◌+◌, ◌-◌, ◌<◌, ◌≤◌, ◌&&◌, List, [], ◌∷◌, length, map, All, true, refl, sym, ap, subst, arith}
+use Rattle.std.specs.Prelude.{nat_le, nat_lt}
+use Rattle.std.proofs.lemmas.Bool.{le-leb, lt-ltb, and_parts}
 use Rattle.std.proofs.lemmas.List.Elements.{All-nil, All-cons, All-head, All-tail}
 use Rattle.ckd_image.specs.Address.{address_of}
 use Rattle.ckd_image.specs.Device.{heads_of}
 use Rattle.ckd_image.specs.declared.device.Device.{Device}
-use Rattle.ckd_image.specs.declared.device.Device.TheVariants.{D3390, D3380}
+use Rattle.ckd_image.specs.declared.track.TrackAt.{TrackAt}
+use Rattle.ckd_image.specs.declared.device.Device.TheVariants.{D3390, D3380, D3350}
 use Rattle.dscb_rec.specs.declared.field.Extent.{Extent as Field}
 use Rattle.free_map.specs.declared.run.Run.{Run}
 use Rattle.volume_model.specs.Pinned.{AreByCylinders}
 use Rattle.volume_model.specs.Reads.{extent_in}
-use Rattle.volume_model.specs.Space.{is_run, track_at}
+use Rattle.volume_model.specs.Space.{is_run, run_of, track_at}
+use Rattle.volume_model.specs.declared.extent.ExtentField.{ExtentField}
+use Rattle.vtoc_check.proofs.Overlapping.{run_facts}
 use Rattle.volume_model.specs.Unit.{Extent}
 use Rattle.vtoc_core.specs.Loaded.{field_of}
 use Rattle.move_core.specs.Steps.{IsNewKind, extents_on}
@@ -21,10 +25,41 @@ use Rattle.step_plans.specs.Plans.{IsRoom, extents_from, field_on}
 track_there : (device : Device) (track : ℕ) → track_at (heads_of device) (address_of (heads_of device) track) ≡ track
 track_there D3390 track = omega arith
 track_there D3380 track = omega arith
+track_there D3350 track = omega arith
 
 head_there : (device : Device) (track : ℕ) → (address_of (heads_of device) track).head < heads_of device
 head_there D3390 track = omega arith
 head_there D3380 track = omega arith
+head_there D3350 track = omega arith
+
+-- the front of a run is one
+pub front_is_run : (device : Device) (field : ExtentField) (keep : ℕ) (last : TrackAt) → is_run (heads_of device) 65536 field ≡ true → 0 < keep → keep < (run_of (heads_of device) field).len
+    → last ≡ address_of (heads_of device) (track_at (heads_of device) field.first + keep - 1) → is_run (heads_of device) 65536 (record { kind = field.kind; first = field.first; last = last }) ≡ true
+front_is_run device field keep last e some fewer is =
+    subst (λ (at : TrackAt). is_run (heads_of device) 65536 (record { kind = field.kind; first = field.first; last = at }) ≡ true) (sym is) front
+  where
+    heads : ℕ
+    heads = heads_of device
+
+    track : ℕ
+    track = track_at heads field.first + keep - 1
+
+    there : track_at heads (address_of heads track) ≡ track
+    there = track_there device track
+
+    within : (run_of heads field).first + (run_of heads field).len ≤ 65536
+    within = (run_facts heads 65536 field e).0
+
+    heads_in : (nat_lt field.first.head heads && nat_lt field.last.head heads) ≡ true
+    heads_in = (and_parts (nat_lt field.first.head heads && nat_lt field.last.head heads) (nat_le (track_at heads field.first) (track_at heads field.last))
+        (and_parts (nat_lt field.first.head heads && nat_lt field.last.head heads && nat_le (track_at heads field.first) (track_at heads field.last)) (nat_lt (track_at heads field.last) 65536) e).0).0
+
+    front : is_run heads 65536 (record { kind = field.kind; first = field.first; last = address_of heads track }) ≡ true
+    front =
+        let first_in = (and_parts (nat_lt field.first.head heads) (nat_lt field.last.head heads) heads_in).0 in
+        let order = le-leb (track_at heads field.first) (track_at heads (address_of heads track)) (omega (arith, there, some)) in
+        let below = lt-ltb (track_at heads (address_of heads track)) 65536 (omega (arith, there, some, fewer, within)) in
+        (λ i. first_in i && lt-ltb (address_of heads track).head heads (head_there device track) i && order i && below i)
 
 module _ (device : Device) (kind : ℕ) (run : Run) (room : IsRoom run) where
   abbrev heads : ℕ

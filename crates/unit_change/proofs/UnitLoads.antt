@@ -2,7 +2,7 @@
 use Rattle.std.proofs.Common.{◌≡◌, ℕ, ◌+◌, ◌-◌, ◌*◌, ◌<◌, ◌≤◌, List, length, take, drop, false, refl, sym, ap, subst, ◌∙◌, arith}
 use Rattle.std.proofs.lemmas.List.{length-take, length-drop}
 use Rattle.ckd_image.specs.declared.device.Device.{Device}
-use Rattle.ckd_image.specs.declared.device.Device.TheVariants.{D3390, D3380}
+use Rattle.ckd_image.specs.declared.device.Device.TheVariants.{D3390, D3380, D3350}
 use Rattle.ckd_image.specs.declared.head.Head.{Head}
 use Rattle.ckd_image.specs.Device.{slot_of}
 use Rattle.free_map.specs.declared.run.Run.{Run}
@@ -27,6 +27,8 @@ slot_long D3390 first k len slots less long =
     omega (arith, length-take (slot_of D3390) (drop ((first + k - first) * slot_of D3390) slots), length-drop ((first + k - first) * slot_of D3390) slots, less, long)
 slot_long D3380 first k len slots less long =
     omega (arith, length-take (slot_of D3380) (drop ((first + k - first) * slot_of D3380) slots), length-drop ((first + k - first) * slot_of D3380) slots, less, long)
+slot_long D3350 first k len slots less long =
+    omega (arith, length-take (slot_of D3350) (drop ((first + k - first) * slot_of D3350) slots), length-drop ((first + k - first) * slot_of D3350) slots, less, long)
 
 module _ {head : List ℕ} {blocks : ℕ} {slots : Slots} {image : Head} {label : Label} {volume : OnlineVolume} {loaded : Volume} {vtoc_slots : List ℕ}
     (of : IsUnitOf head blocks slots image label volume loaded vtoc_slots) where

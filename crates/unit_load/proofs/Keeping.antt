@@ -1,7 +1,7 @@
 -- The slots from which a volume was loaded are those of its VTOC.
 use Rattle.std.proofs.Common.{◌≡◌, ℕ, ◌+◌, ◌*◌, ◌<◌, ◌≤◌, List, length, Bool, refl, sym, ap, subst, ◌∙◌, arith}
 use Rattle.ckd_image.specs.declared.device.Device.{Device}
-use Rattle.ckd_image.specs.declared.device.Device.TheVariants.{D3390, D3380}
+use Rattle.ckd_image.specs.declared.device.Device.TheVariants.{D3390, D3380, D3350}
 use Rattle.ckd_image.specs.declared.head.Head.{Head}
 use Rattle.ckd_image.specs.declared.track.Cchhr.{Cchhr}
 use Rattle.ckd_image.specs.declared.track.TrackAt.{TrackAt}
@@ -27,6 +27,7 @@ use Rattle.unit_load.proofs.Runs.{run_holds}
 address_in : (device : Device) (at : TrackAt) (tracks : ℕ) → at.head < heads_of device → at.cylinder * heads_of device + at.head < tracks → tracks ≤ 65535 → IsAddress at
 address_in D3390 at tracks head within few = (omega (arith, within, few), omega (arith, head))
 address_in D3380 at tracks head within few = (omega (arith, within, few), omega (arith, head))
+address_in D3350 at tracks head within few = (omega (arith, within, few), omega (arith, head))
 
 pub few_tracks : (head : List ℕ) (blocks : ℕ) (image : Head) → HasImage head blocks image → image.tracks ≤ 65535
 few_tracks head blocks image has = omega (arith, has.tracks_are, has.stands.cylinders.1)

@@ -3,7 +3,7 @@ use Rattle.std.proofs.Common.{◌≡◌, ℕ, ◌+◌, ◌≤◌, List, ap, arit
 use Rattle.std.specs.Prelude.{◌==◌, ◌||◌, if◌then◌else◌}
 use Rattle.std.proofs.Math.Nat.{min-le_right}
 use Rattle.ckd_image.specs.declared.device.Device.{Device}
-use Rattle.ckd_image.specs.declared.device.Device.TheVariants.{D3390, D3380}
+use Rattle.ckd_image.specs.declared.device.Device.TheVariants.{D3390, D3380, D3350}
 use Rattle.ckd_image.specs.declared.head.Head.{Head}
 use Rattle.ckd_image.specs.declared.track.Cchhr.{Cchhr}
 use Rattle.ckd_image.specs.Device.{heads_of, slot_of}
@@ -24,6 +24,7 @@ size_said said = if (said == 56832) || (said == 47616) || (said == 19456) || (sa
 pub said_slot : (head : List ℕ) (device : Device) → HasSlot device head → size_in head ≡ slot_of device
 said_slot head D3390 said = ap size_said said
 said_slot head D3380 said = ap size_said said
+said_slot head D3350 said = ap size_said said
 
 -- its tracks are the unit's
 pub run_blocks : (head : Head) (slots : Slots) (pointer : Cchhr) (run : Run) (blocks : ℕ) → head.tracks ≡ blocks → IsVtocRun head slots pointer run → run.first + run.len ≤ blocks

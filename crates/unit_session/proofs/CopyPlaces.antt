@@ -8,7 +8,7 @@ use Rattle.std.proofs.lemmas.List.Sorted.{IsPermutation-map}
 use Rattle.std.proofs.lemmas.Option.{slice_get_within}
 use Rattle.std.proofs.lemmas.Simd.{map-map}
 use Rattle.ckd_image.specs.declared.device.Device.{Device}
-use Rattle.ckd_image.specs.declared.device.Device.TheVariants.{D3390, D3380}
+use Rattle.ckd_image.specs.declared.device.Device.TheVariants.{D3390, D3380, D3350}
 use Rattle.ckd_image.specs.Device.{heads_of, ceil_div}
 use Rattle.dasd_pool.specs.Disk.{Shape}
 use Rattle.dsn_filter.specs.declared.dsn.Dsn.{Dsn}
@@ -163,8 +163,10 @@ tracks_longer device kind tracks = by device (kind == 0x81)
     by : (d : Device) (whole : Bool) → tracks ≤ (if whole then ceil_div tracks (heads_of d) * heads_of d else tracks)
     by D3390 true = omega arith
     by D3380 true = omega arith
+    by D3350 true = omega arith
     by D3390 false = omega arith
     by D3380 false = omega arith
+    by D3350 false = omega arith
 
 put_row : (replaced : Bool) (name : Dsn) (row put : Row) → IsPutBy (putting replaced name row) put → put ≡ row
 put_row true name row put is = is

@@ -8,7 +8,7 @@ use Rattle.std.proofs.lemmas.List.{get_or-map, get_or_default, get_or-append-add
 use Rattle.std.proofs.lemmas.Bool.Decides.{eqb_tells}
 use Rattle.std.proofs.lemmas.List.Elements.{Contains-get_or, All-contains, Contains-append_left, Contains-append_right}
 use Rattle.ckd_image.specs.declared.device.Device.{Device}
-use Rattle.ckd_image.specs.declared.device.Device.TheVariants.{D3390, D3380}
+use Rattle.ckd_image.specs.declared.device.Device.TheVariants.{D3390, D3380, D3350}
 use Rattle.ckd_image.specs.declared.track.Track.{Track}
 use Rattle.ckd_image.specs.declared.track.TrackAt.{TrackAt}
 use Rattle.ckd_image.specs.Address.{IsAddress, address_of}
@@ -49,6 +49,7 @@ few_cylinders device heads track blocks is few less = subst (λ (h : ℕ). track
     by : (d : Device) → track / heads_of d < 65536
     by D3390 = omega (arith, few, less)
     by D3380 = omega (arith, few, less)
+    by D3350 = omega (arith, few, less)
 
 -- ---- one text
 

@@ -1,5 +1,5 @@
 -- Plans that put a part of a dump.
-use Rattle.std.proofs.Common.{◌≡◌, ◌≢◌, inl, ℕ, ◌-◌, Bool, true, false, List, [], ◌∷◌, ◌++◌, length, map, replicate, Some, refl, sym, ap, subst, ◌∙◌}
+use Rattle.std.proofs.Common.{◌≡◌, ◌≢◌, inl, ℕ, ◌-◌, Bool, true, false, List, [], ◌∷◌, ◌++◌, length, map, replicate, refl, sym, ap, subst, ◌∙◌}
 use Rattle.std.specs.Prelude.{AllPairs}
 use Rattle.ckd_image.specs.declared.device.Device.{Device}
 use Rattle.ckd_image.specs.Device.{heads_of}
@@ -7,15 +7,12 @@ use Rattle.dasd_pool.specs.Disk.{Image, Shape}
 use Rattle.dd_names.specs.declared.dd.DdName.{DdName}
 use Rattle.dsn_filter.specs.declared.dsn.Dsn.{Dsn}
 use Rattle.free_map.specs.declared.run.Run.{Run}
-use Rattle.volume_model.specs.Reads.{AreTexts}
 use Rattle.volume_model.specs.Unit.{Text, DataSet, UnitModel, run_in, tracks_of}
 use Rattle.volume_change.specs.declared.change.Change.{Change}
-use Rattle.volume_change.specs.declared.change.Change.TheVariants.{Mark}
 use Rattle.volume_change.specs.Runs.{runs_in}
 use Rattle.unit_change.specs.vtoc_render.declared.change.Rendered.{Rendered}
 use Rattle.unit_change.specs.vtoc_render.Next.{MayChange}
 use Rattle.unit_change.specs.Changed.{AreGone, AreTextsPut, extents_of, set_put, sets_put}
-use Rattle.unit_change.specs.Described.{own_place}
 use Rattle.unit_load.specs.declared.state.UnitState.{UnitState}
 use Rattle.move_core.specs.declared.steps.Origin.TheVariants as origins
 use Rattle.move_core.specs.declared.steps.Step.{Step}
@@ -27,7 +24,7 @@ use Rattle.unit_steps.specs.Parts.{HoldsPart, GivesPart, PlansPart}
 use Rattle.unit_steps.specs.Plans.{putting}
 use Rattle.unit_steps.specs.Rendering.{WereRendered, entries_of}
 use Rattle.unit_steps.proofs.OneChange.{TakesModelsFor, IsHere, to_unit, take_one, from_one}
-use Rattle.unit_steps.proofs.Putting.{put_by, put_sets, put_texts, may_put}
+use Rattle.unit_steps.proofs.Putting.{put_sets, put_texts, may_put}
 use Rattle.unit_steps.proofs.Rows.{AreSome, ShareNone, free_track, names_differ, put_runs, runs_on, runs_of_extents}
 use Rattle.unit_steps.proofs.Small.{put_small}
 use Rattle.unit_steps.proofs.Units.{IsTaken}

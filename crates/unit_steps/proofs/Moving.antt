@@ -1,7 +1,6 @@
 -- Plans that move a data set on its unit.
 use Rattle.std.proofs.Common.{◌≡◌, ◌⊎◌, inl, inr, ℕ, ◌-◌, Bool, List, [], ◌∷◌, ◌++◌, length, map, replicate, Contains, refl, sym, ap, subst, ◌∙◌, arith}
 use Rattle.std.proofs.lemmas.List.{append-nil}
-use Rattle.ckd_image.specs.declared.device.Device.{Device}
 use Rattle.ckd_image.specs.Device.{heads_of}
 use Rattle.dasd_pool.specs.Disk.{Image, Shape}
 use Rattle.dsn_filter.specs.declared.dsn.Dsn.{Dsn}

@@ -2,7 +2,7 @@
 use Rattle.std.proofs.Common.{◌≡◌, ℕ, ◌+◌, ◌*◌, ◌/◌, ◌%◌, ◌≤◌, List, [], ◌∷◌, ◌++◌, length, refl, ap, sym, ◌∙◌, arith}
 use Rattle.std.specs.List.{flat_map}
 use Rattle.ckd_image.specs.declared.device.Device.{Device}
-use Rattle.ckd_image.specs.declared.device.Device.TheVariants.{D3390, D3380}
+use Rattle.ckd_image.specs.declared.device.Device.TheVariants.{D3390, D3380, D3350}
 use Rattle.ckd_image.specs.declared.track.Rec.{Rec}
 use Rattle.ckd_image.specs.declared.track.Track.{Track}
 use Rattle.ckd_image.specs.declared.track.TrackAt.{TrackAt}
@@ -61,12 +61,8 @@ one_address a b slot s t p q one other =
     let h0 : a.head % 256 ≡ b.head % 256 = cc in
     same_address a b (same_two _ _ p.0 q.0 c1 c0) (same_two _ _ p.1 q.1 h1 h0)
 
--- both devices have 15 heads
-pub track_is : (device : Device) (at : TrackAt) → at.cylinder * 15 + at.head ≡ track_at (heads_of device) at
-track_is D3390 at = refl
-track_is D3380 at = refl
-
 -- the address of a track of an image fits its bytes
 pub address_fits : (device : Device) (at : TrackAt) → track_at (heads_of device) at ≤ 65535 → IsAddress at
 address_fits D3390 at small = (omega (arith, small), omega (arith, small))
 address_fits D3380 at small = (omega (arith, small), omega (arith, small))
+address_fits D3350 at small = (omega (arith, small), omega (arith, small))

@@ -1,7 +1,7 @@
 -- A slot spells one track text at most, however long it is: no record on a head that isn't numbered 65,535 begins as the end mark does.
 use Rattle.std.proofs.Common.{◌≡◌, ℕ, ◌<◌, ◌/◌, ◌%◌, List, ◌++◌, length, refl, sym, ◌∙◌, append_assoc, arith}
 use Rattle.ckd_image.specs.declared.device.Device.{Device}
-use Rattle.ckd_image.specs.declared.device.Device.TheVariants.{D3390, D3380}
+use Rattle.ckd_image.specs.declared.device.Device.TheVariants.{D3390, D3380, D3350}
 use Rattle.ckd_image.specs.declared.track.Rec.{Rec}
 use Rattle.ckd_image.specs.declared.track.Track.{Track}
 use Rattle.ckd_image.specs.declared.track.TrackAt.{TrackAt}
@@ -54,10 +54,12 @@ one_text at slot a b low one other =
 pub few_heads : (device : Device) → heads_of device < 65535
 few_heads D3390 = omega arith
 few_heads D3380 = omega arith
+few_heads D3350 = omega arith
 
 low_head : (device : Device) (track : ℕ) → track % heads_of device < 65535
 low_head D3390 track = omega arith
 low_head D3380 track = omega arith
+low_head D3350 track = omega arith
 
 pub one_text_on : (device : Device) (track : ℕ) (slot : List ℕ) (a b : Track) → IsTrackText (address_of (heads_of device) track) slot a
     → IsTrackText (address_of (heads_of device) track) slot b → a ≡ b

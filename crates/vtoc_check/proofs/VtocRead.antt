@@ -29,10 +29,12 @@ use Rattle.ckd_image.proofs.Devices.{short_slot}
 pub few_heads : (device : Device) → heads_of device ≤ 255
 few_heads devices.D3390 = omega arith
 few_heads devices.D3380 = omega arith
+few_heads devices.D3350 = omega arith
 
 pub some_heads : (device : Device) → 1 ≤ heads_of device
 some_heads devices.D3390 = omega arith
 some_heads devices.D3380 = omega arith
+some_heads devices.D3350 = omega arith
 
 pub slot_short : (device : Device) (run : Run) (bytes : List ℕ) (track : ℕ) → length (slot_in run (slot_of device) bytes track) ≤ 65536
 slot_short device run bytes track = omega (arith, length-take (slot_of device) (drop ((track - run.first) * slot_of device) bytes), short_slot device)

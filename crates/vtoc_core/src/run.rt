@@ -12,7 +12,7 @@ use free_map::Run;
 /// The tracks of an extent, none where its last one is before its first.
 pub fn run_of(device: Device, extent: &Extent) -> Run
     ensures run { result ≡ run_in (heads_of device) (field_of extent.now) }
-    ensures few { result.len ≤ 2 ^ 20 }
+    ensures few { result.len ≤ 2 ^ 21 }
 {
     let first = device.track_of(extent.first);
     let end = device.track_of(extent.last) + 1;

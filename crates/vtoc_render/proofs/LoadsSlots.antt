@@ -5,7 +5,7 @@ use Rattle.std.proofs.lemmas.Bool.{and_parts, leb-true, ltb-true, eqb-true}
 use Rattle.std.proofs.lemmas.List.{length-take, length-drop}
 use Rattle.std.proofs.lemmas.List.Elements.{All-get_or}
 use Rattle.ckd_image.specs.declared.device.Device.{Device}
-use Rattle.ckd_image.specs.declared.device.Device.TheVariants.{D3390, D3380}
+use Rattle.ckd_image.specs.declared.device.Device.TheVariants.{D3390, D3380, D3350}
 use Rattle.ckd_image.specs.declared.head.Head.{Head}
 use Rattle.ckd_image.specs.declared.track.Rec.{Rec}
 use Rattle.ckd_image.specs.declared.track.Track.{Track}
@@ -82,6 +82,7 @@ in_tracks first (suc k) (Some here ∷ tracks) dscbs placed e c =
 slot_long : (device : Device) (k len : ℕ) (slots : List ℕ) → k < len → length slots ≡ len * slot_of device → length (take (slot_of device) (drop (k * slot_of device) slots)) ≡ slot_of device
 slot_long D3390 k len slots less long = omega (arith, length-take (slot_of D3390) (drop (k * slot_of D3390) slots), length-drop (k * slot_of D3390) slots, less, long)
 slot_long D3380 k len slots less long = omega (arith, length-take (slot_of D3380) (drop (k * slot_of D3380) slots), length-drop (k * slot_of D3380) slots, less, long)
+slot_long D3350 k len slots less long = omega (arith, length-take (slot_of D3350) (drop (k * slot_of D3350) slots), length-drop (k * slot_of D3350) slots, less, long)
 
 module _ (head : Head) (label : Label) (unit : Slots) (sliding : Bool) (slots : List ℕ) (volume : Volume) (small : head.tracks ≤ 65535) (loaded : IsLoadedVtoc head label unit sliding volume)
     (slots_are : AreSlotsOf volume.vtoc (slot_of head.device) slots unit) (whole : length slots ≡ volume.vtoc.len * slot_of head.device) where

@@ -55,7 +55,7 @@ returns-in_err-vtoc-clause-stops c =
     (behind_device c.in_ok-full.full c.in_ok-device.device c.in_ok-full.rest.now c.in_ok-device.rest.now c.in_err-vtoc.field-0.0 c.in_ok-device.ensures.found
     (behind_serial c.in_ok-full.full c.in_ok-device.device c.in_ok-serial.serial.text c.in_ok-device.rest.now c.in_ok-serial.rest.now c.in_err-vtoc.field-0.0 c.in_ok-serial.ensures.found.0 c.in_ok-serial.ensures.found.1
     (behind_tracks c.in_ok-full.full c.in_ok-device.device c.in_ok-tracks.tracks c.in_ok-serial.rest.now c.in_ok-tracks.rest.now c.in_err-vtoc.field-0.0 c.in_ok-tracks.ensures.found.0 c.in_ok-tracks.ensures.found.1
-    (behind_day c.in_ok-full.full c.in_ok-tracks.tracks c.in_ok-day.day.year c.in_ok-day.day.day c.in_ok-tracks.rest.now c.in_ok-day.rest.now c.in_err-vtoc.field-0.0 c.in_ok-day.ensures.found
+    (behind_day c.in_ok-full.full c.in_ok-tracks.tracks c.in_ok-day.day.year c.in_ok-day.day.day c.in_ok-tracks.rest.now c.in_ok-day.rest.now c.in_err-vtoc.field-0.0 c.in_ok-day.ensures.found.0 c.in_ok-day.ensures.found.1
     (at_vtoc c.in_ok-full.full c.in_ok-tracks.tracks c.in_ok-day.rest.now c.in_err-vtoc.field-0.0 (many_tracks c.in_ok-device.device c.in_ok-tracks.tracks c.in_ok-tracks.ensures.found.0) c.in_err-vtoc.ensures.stops))))))))
 
 pub returns-in_err-fixed_in-clause-stops : goal.returns-in_err-fixed_in-clause-stops
@@ -66,13 +66,13 @@ returns-in_err-fixed_in-clause-stops c =
     (behind_device c.in_ok-full.full c.in_ok-device.device c.in_ok-full.rest.now c.in_ok-device.rest.now c.in_err-fixed_in.field-0.0 c.in_ok-device.ensures.found
     (behind_serial c.in_ok-full.full c.in_ok-device.device c.in_ok-serial.serial.text c.in_ok-device.rest.now c.in_ok-serial.rest.now c.in_err-fixed_in.field-0.0 c.in_ok-serial.ensures.found.0 c.in_ok-serial.ensures.found.1
     (behind_tracks c.in_ok-full.full c.in_ok-device.device c.in_ok-tracks.tracks c.in_ok-serial.rest.now c.in_ok-tracks.rest.now c.in_err-fixed_in.field-0.0 c.in_ok-tracks.ensures.found.0 c.in_ok-tracks.ensures.found.1
-    (behind_day c.in_ok-full.full c.in_ok-tracks.tracks c.in_ok-day.day.year c.in_ok-day.day.day c.in_ok-tracks.rest.now c.in_ok-day.rest.now c.in_err-fixed_in.field-0.0 c.in_ok-day.ensures.found
+    (behind_day c.in_ok-full.full c.in_ok-tracks.tracks c.in_ok-day.day.year c.in_ok-day.day.day c.in_ok-tracks.rest.now c.in_ok-day.rest.now c.in_err-fixed_in.field-0.0 c.in_ok-day.ensures.found.0 c.in_ok-day.ensures.found.1
     (behind_vtoc c.in_ok-full.full c.in_ok-tracks.tracks c.in_ok-vtoc.vtoc c.in_ok-day.rest.now c.in_ok-vtoc.rest.now c.in_err-fixed_in.field-0.0 c.in_ok-vtoc.ensures.found.0 c.in_ok-vtoc.ensures.found.1
     (at_zeros c.in_ok-vtoc.rest.now c.in_err-fixed_in.field-0.0 c.in_err-fixed_in.ensures.stops)))))))))
 
 pub returns-clause-read : goal.returns-clause-read
 returns-clause-read c =
     header_read (record { full = c.in_ok-full.full; device = c.in_ok-device.device; serial = c.in_ok-serial.serial; tracks = c.in_ok-tracks.tracks; day = c.in_ok-day.day; vtoc = c.in_ok-vtoc.vtoc })
-    c.args.bytes.now c.in_ok-rest.rest.now c.in_ok-full.rest.now c.in_ok-device.rest.now c.in_ok-serial.rest.now c.in_ok-tracks.rest.now c.in_ok-day.rest.now c.in_ok-vtoc.rest.now c.in_ok-fixed_in.field-0.now c.in_ok-serial.ensures.found.0 c.in_ok-tracks.ensures.found.0 c.in_ok-vtoc.ensures.found.0
-    c.in_ok-rest.ensures.found c.in_ok-full.ensures.found c.in_ok-device.ensures.found c.in_ok-serial.ensures.found.1 c.in_ok-tracks.ensures.found.1 c.in_ok-day.ensures.found c.in_ok-vtoc.ensures.found.1
+    c.args.bytes.now c.in_ok-rest.rest.now c.in_ok-full.rest.now c.in_ok-device.rest.now c.in_ok-serial.rest.now c.in_ok-tracks.rest.now c.in_ok-day.rest.now c.in_ok-vtoc.rest.now c.in_ok-fixed_in.field-0.now c.in_ok-serial.ensures.found.0 c.in_ok-tracks.ensures.found.0 c.in_ok-day.ensures.found.0 c.in_ok-vtoc.ensures.found.0
+    c.in_ok-rest.ensures.found c.in_ok-full.ensures.found c.in_ok-device.ensures.found c.in_ok-serial.ensures.found.1 c.in_ok-tracks.ensures.found.1 c.in_ok-day.ensures.found.1 c.in_ok-vtoc.ensures.found.1
     c.in_ok-fixed_in.ensures.found

@@ -1,34 +1,34 @@
 use Rattle.std.proofs.Common.{arith}
 use Rattle.std.proofs.lemmas.Result.{err_from_is_err_and}
-use Rattle.run_lines.proofs.Appending.{written_some}
 use Rattle.job_script.specs.Runs.{lines_in}
-use Rattle.job_script.proofs.Printing.{lines_next, lines_front, lines_less, lines_all}
+use Rattle.job_script.proofs.Printing.{parted, written_piece, written_front, written_front_less}
 use Rattle.job_script.proofs.lines.write_messages.Goals as goal
 
-pub loop-message-preserved : goal.loop-message-preserved
-loop-message-preserved g c = record {
-  later = omega (arith, c.loop-message.invariant.later, c.in_ok-write_message.ensures.later);
-  written =
-      lines_next (g.O.Sink.taken c.args.out.now) (g.O.Sink.taken c.loop-message.out) _ c.args.statement c.args.messages.now c.loop-message.message-index _
-      c.loop-message-test.true c.loop-message.invariant.written c.in_ok-write_message.ensures.written;
-}
+pub loop-rest-preserved : goal.loop-rest-preserved
+loop-rest-preserved g c =
+    let now = c.split_at.result.0.now in
+    let later = c.split_at.result.1.now in
+    record {
+      later = omega (arith, c.loop-rest.invariant.later, c.write_together.ensures.later);
+      written = written_piece (g.O.Sink.taken c.args.out.now) (g.O.Sink.taken c.loop-rest.out) _ (lines_in c.args.statement c.args.messages.now) (lines_in c.args.statement now) (lines_in c.args.statement later)
+          (parted (g.O.Sink.taken c.args.out.now) (g.O.Sink.taken c.loop-rest.out) c.args.statement c.args.messages.now c.loop-rest.rest.now now later c.split_at.ensures.by_index.0 c.loop-rest.invariant.written)
+          c.in_ok-write_together.ensures.written;
+    }
 
-pub returns-in_err-write_message-clause-some : goal.returns-in_err-write_message-clause-some
-returns-in_err-write_message-clause-some g c =
-    lines_front (g.O.Sink.taken c.args.out.now) (g.O.Sink.taken c.loop-message.out) _ c.args.statement c.args.messages.now c.loop-message.message-index _
-    c.loop-message-test.true c.loop-message.invariant.written c.in_err-write_message.ensures.some
+pub returns-in_err-write_together-clause-some : goal.returns-in_err-write_together-clause-some
+returns-in_err-write_together-clause-some g c =
+    let now = c.split_at.result.0.now in
+    let later = c.split_at.result.1.now in
+    written_front (g.O.Sink.taken c.args.out.now) (g.O.Sink.taken c.loop-rest.out) _ (lines_in c.args.statement c.args.messages.now) (lines_in c.args.statement now) (lines_in c.args.statement later)
+    (parted (g.O.Sink.taken c.args.out.now) (g.O.Sink.taken c.loop-rest.out) c.args.statement c.args.messages.now c.loop-rest.rest.now now later c.split_at.ensures.by_index.0 c.loop-rest.invariant.written)
+    c.write_together.ensures.some
 
-pub returns-clause-written : goal.returns-clause-written
-returns-clause-written g c =
-    lines_all (g.O.Sink.taken c.args.out.now) (g.O.Sink.taken c.loop-message.out) c.args.statement c.args.messages.now c.loop-message.message-index
-    c.loop-message-test.false c.loop-message.invariant.written
-
-pub returns-clause-some : goal.returns-clause-some
-returns-clause-some g c = written_some (g.O.Sink.taken c.args.out.now) (g.O.Sink.taken c.loop-message.out) (lines_in c.args.statement c.args.messages.now) _ c.loop-message.invariant.written
-
-pub returns-in_err-write_message-clause-less : goal.returns-in_err-write_message-clause-less
-returns-in_err-write_message-clause-less g c =
+pub returns-in_err-write_together-clause-less : goal.returns-in_err-write_together-clause-less
+returns-in_err-write_together-clause-less g c =
+    let now = c.split_at.result.0.now in
+    let later = c.split_at.result.1.now in
     let p = err_from_is_err_and c.from_residual.result c.from_residual.ensures.1 in
     rw (p.1, p.2) (λ sink.
-    lines_less (g.O.Sink.taken c.args.out.now) (g.O.Sink.taken c.loop-message.out) _ c.args.statement c.args.messages.now c.loop-message.message-index _
-    c.loop-message-test.true c.loop-message.invariant.written (c.in_err-write_message.ensures.less sink))
+    written_front_less (g.O.Sink.taken c.args.out.now) (g.O.Sink.taken c.loop-rest.out) _ (lines_in c.args.statement c.args.messages.now) (lines_in c.args.statement now) (lines_in c.args.statement later)
+    (parted (g.O.Sink.taken c.args.out.now) (g.O.Sink.taken c.loop-rest.out) c.args.statement c.args.messages.now c.loop-rest.rest.now now later c.split_at.ensures.by_index.0 c.loop-rest.invariant.written)
+    (c.in_err-write_together.ensures.less sink))

@@ -14,6 +14,8 @@ invariant-statements g l = record {
         state = out.state;
         held = (goal.Medium-dyn g (out.medium.vtable, out.medium.value)).held out.medium.value;
         faults = (goal.Medium-dyn g (out.medium.vtable, out.medium.value)).faults out.medium.value;
+        puts = (goal.Medium-dyn g (out.medium.vtable, out.medium.value)).puts out.medium.value;
+        finished = (goal.Medium-dyn g (out.medium.vtable, out.medium.value)).finished out.medium.value;
       })
       (λ one. record {
         name = one.name;
@@ -27,6 +29,8 @@ invariant-statements g l = record {
         state = out.state;
         held = (goal.Medium-dyn g (out.medium.vtable, out.medium.value)).held out.medium.value;
         faults = (goal.Medium-dyn g (out.medium.vtable, out.medium.value)).faults out.medium.value;
+        puts = (goal.Medium-dyn g (out.medium.vtable, out.medium.value)).puts out.medium.value;
+        finished = (goal.Medium-dyn g (out.medium.vtable, out.medium.value)).finished out.medium.value;
       })
       (λ one. record {
         name = one.name;

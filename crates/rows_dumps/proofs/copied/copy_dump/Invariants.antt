@@ -12,6 +12,8 @@ invariant-pieces g l = record {
         state = out.state;
         held = (goal.Medium-dyn g (out.medium.vtable, out.medium.value)).held out.medium.value;
         faults = (goal.Medium-dyn g (out.medium.vtable, out.medium.value)).faults out.medium.value;
+        puts = (goal.Medium-dyn g (out.medium.vtable, out.medium.value)).puts out.medium.value;
+        finished = (goal.Medium-dyn g (out.medium.vtable, out.medium.value)).finished out.medium.value;
       })
       l.fn.outs.items (seen_of l.reel) l.reader l.writer.progress l.writer.outs.items;
   places : l.writer.progress.places.items ≡ 0 ∷ [];

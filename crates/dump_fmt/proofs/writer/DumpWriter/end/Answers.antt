@@ -1,5 +1,5 @@
 use Rattle.std.proofs.Common.{refl, ap, ◌∙◌}
-use Rattle.dump_fmt.proofs.Written.{end_so, sent_so, finished_so}
+use Rattle.dump_fmt.proofs.Written.{end_so, sent_so, finished_so, whole_finished}
 use Rattle.dump_fmt.proofs.writer.DumpWriter.end.Goals as goal
 
 pub returns-clause-whole : goal.returns-clause-whole
@@ -17,3 +17,8 @@ returns-clause-sent g c =
       finished_so _ c.send.new.self.progress.places.items c.args.self.progress.places.items c.send.new.self.outs.items c.finish.new.self.outs.items (c.send.ensures.places ∙ places)
           c.finish.ensures.outs,
     )
+
+pub returns-clause-finished : goal.returns-clause-finished
+returns-clause-finished g c =
+    whole_finished _ c.send.new.self.progress.places.items c.args.self.progress.places.items c.send.new.self.outs.items c.finish.new.self.outs.items
+    (c.send.ensures.places ∙ ap (λ places. places.items) c.trailer-trailer.ensures.places) c.finish.ensures.outs

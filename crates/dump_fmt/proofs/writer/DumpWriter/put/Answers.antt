@@ -16,6 +16,6 @@ returns-clause-put g c = λ before head front next w adds stands.
     c.send.ensures.digest c.send.ensures.outs
 
 pub returns-clause-sent : goal.returns-clause-sent
-returns-clause-sent g c =
+returns-clause-sent g c = λ before head front next w adds stands.
     sent_so _ c.as_slice.result.now _ c.count.new.self.places.items c.args.self.now.progress.places.items c.args.self.now.outs.items c.send.new.self.outs.items
     (c.as_slice.ensures.same ∙ c.in_ok-text.ensures) (ap (λ places. places.items) c.count.ensures.places) c.send.ensures.outs

@@ -1,8 +1,8 @@
-use Rattle.std.proofs.Common.{◌≡◌, ◌≢◌, ℕ, ◌+◌, List, [], All, AllPairs, sym, subst, ap, ◌∙◌, arith}
+use Rattle.std.proofs.Common.{◌≡◌, ◌≢◌, ◌⊎◌, ℕ, ◌+◌, List, [], All, AllPairs, sym, subst, ap, ◌∙◌, arith}
 use Rattle.std.proofs.lemmas.Grind.{common_steps}
 use Rattle.dasd_pool.specs.Disk.{Image, LeavesOnly, Runs, Shape, none}
 use Rattle.redo_core.specs.declared.entries.Entry.{Entry}
-use Rattle.redo_core.specs.Phases.{AreEntries, IsAtRest, IsCommitted, IsStatusAfter, MayGo, OldOrNew, of_commit, targets}
+use Rattle.redo_core.specs.Phases.{AreEntries, IsAtRest, IsCommitted, IsStatusAfter, MayGo, OldOrNew, TakeWrites, of_commit, targets}
 use Rattle.redo_core.specs.Reading.{journal_of}
 use Rattle.redo_core.specs.Statuses.{entries_at}
 use Rattle.redo_core.specs.Steps.{IsJournal}
@@ -108,3 +108,21 @@ apply-requires-clause-apart g c =
     let shape = g.P.Pool.shape j.pool in
     let each : AreEntries shape c.args.entries = subst (λ (v : JournalView _). AreEntries (g.P.Pool.shape v.pool) c.args.entries) (sym c.self.view_is) c.requires.each in
     subst (λ (l : List Entry). AllPairs (λ one other. one ≢ other) (targets l)) (sym (c.as_slice-list.ensures.value ∙ c.into_list-all.ensures ∙ ap (λ (u : ℕ). entries_at u c.args.entries) (journal_is c.self.invariant.0))) (all_apart shape c.args.entries each c.requires.apart)
+
+pub returns-in-Ok-clause-may : goal.returns-in-Ok-clause-may
+returns-in-Ok-clause-may g c =
+    rw (sym c.self.view_is)
+    (subst (λ (l : List Entry). TakeWrites (g.P.Pool.shape c.self.inside.pool) l)
+    (c.as_slice-list.ensures.value ∙ c.into_list-all.ensures ∙ ap (λ (u : ℕ). entries_at u c.args.entries) (journal_is c.self.invariant.0)) c.in-Ok.ensures.may)
+
+pub returns-in-Ok-clause-careful : goal.returns-in-Ok-clause-careful
+returns-in-Ok-clause-careful g c =
+    rw (sym c.self.view_is)
+    (subst (λ (l : List Entry). g.P.Pool.tells → TakeWrites (g.P.Pool.shape c.self.inside.pool) l ⊎ Runs none (g.P.Pool.disk c.self.inside.pool) (g.P.Pool.disk c.apply.new.pool))
+    (c.as_slice-list.ensures.value ∙ c.into_list-all.ensures ∙ ap (λ (u : ℕ). entries_at u c.args.entries) (journal_is c.self.invariant.0)) c.apply.ensures.careful)
+
+pub returns-in-Err-clause-careful : goal.returns-in-Err-clause-careful
+returns-in-Err-clause-careful g c =
+    rw (sym c.self.view_is)
+    (subst (λ (l : List Entry). g.P.Pool.tells → TakeWrites (g.P.Pool.shape c.self.inside.pool) l ⊎ Runs none (g.P.Pool.disk c.self.inside.pool) (g.P.Pool.disk c.apply.new.pool))
+    (c.as_slice-list.ensures.value ∙ c.into_list-all.ensures ∙ ap (λ (u : ℕ). entries_at u c.args.entries) (journal_is c.self.invariant.0)) c.apply.ensures.careful)

@@ -1,11 +1,11 @@
-use Rattle.std.proofs.Common.{◌≡◌, ◌≢◌, ℕ, ◌+◌, List, [], All, AllPairs, sym, subst, ap, ◌∙◌, arith}
+use Rattle.std.proofs.Common.{◌≡◌, ◌≢◌, ◌⊎◌, ℕ, ◌+◌, List, [], All, AllPairs, sym, subst, ap, ◌∙◌, arith}
 use Rattle.std.proofs.lemmas.Grind.{common_steps}
-use Rattle.dasd_pool.specs.Disk.{Image, LeavesOnly, Runs, Shape}
+use Rattle.dasd_pool.specs.Disk.{Image, LeavesOnly, Runs, Shape, none}
 use Rattle.redo_core.specs.declared.entries.Entry.{Entry}
 use Rattle.redo_core.specs.declared.target.Target.{Target}
 use Rattle.std.proofs.lemmas.List.Elements.{All-nil}
 use Rattle.std.proofs.lemmas.List.Kept.{AllPairs-cons}
-use Rattle.redo_core.specs.Phases.{IsAtRest, IsCommitted, IsStatusAfter, MayGo, OldOrNew, of_commit, targets}
+use Rattle.redo_core.specs.Phases.{IsAtRest, IsCommitted, IsStatusAfter, MayGo, OldOrNew, TakeWrites, of_commit, targets}
 use Rattle.redo_core.specs.Reading.{journal_of, IsLawful}
 use Rattle.redo_core.specs.Statuses.{AreVolumes, IsSpare, control_alone}
 use Rattle.redo_core.specs.Steps.{IsJournal}
@@ -111,3 +111,21 @@ returns-in-Ok-clause-says g c =
     let status : IsStatusAfter shape (control_alone (journal_of shape) c.args.control c.args.filling) j.control j.fills c.status_after-after.result.control c.status_after-after.result.fills =
     subst (λ (l : List Entry). IsStatusAfter shape l j.control j.fills c.status_after-after.result.control c.status_after-after.result.fills) (c.as_slice-list.ensures ∙ c.say.ensures.says ∙ ap (λ (u : ℕ). control_alone u c.args.control c.args.filling) (journal_is c.self.invariant.0)) c.status_after-after.ensures in
     rw (sym c.self.view_is) (status_said shape c.args.control c.args.filling j.control c.status_after-after.result.control j.fills c.status_after-after.result.fills c.self.invariant.0 c.say.ensures.fits status)
+
+pub returns-in-Ok-clause-may : goal.returns-in-Ok-clause-may
+returns-in-Ok-clause-may g c =
+    subst (λ (v : JournalView _). TakeWrites (g.P.Pool.shape v.pool) (control_alone (journal_of (g.P.Pool.shape v.pool)) c.args.control c.args.filling)) c.self.view_is
+    (subst (λ (l : List Entry). TakeWrites (g.P.Pool.shape c.self.inside.pool) l)
+    (c.as_slice-list.ensures ∙ c.say.ensures.says ∙ ap (λ (u : ℕ). control_alone u c.args.control c.args.filling) (journal_is c.self.invariant.0)) c.in-Ok.ensures.may)
+
+pub returns-in-Ok-clause-careful : goal.returns-in-Ok-clause-careful
+returns-in-Ok-clause-careful g c =
+    subst (λ (v : JournalView _). g.P.Pool.tells → TakeWrites (g.P.Pool.shape v.pool) (control_alone (journal_of (g.P.Pool.shape v.pool)) c.args.control c.args.filling) ⊎ Runs none (g.P.Pool.disk v.pool) (g.P.Pool.disk c.apply.new.pool)) c.self.view_is
+    (subst (λ (l : List Entry). g.P.Pool.tells → TakeWrites (g.P.Pool.shape c.self.inside.pool) l ⊎ Runs none (g.P.Pool.disk c.self.inside.pool) (g.P.Pool.disk c.apply.new.pool))
+    (c.as_slice-list.ensures ∙ c.say.ensures.says ∙ ap (λ (u : ℕ). control_alone u c.args.control c.args.filling) (journal_is c.self.invariant.0)) c.apply.ensures.careful)
+
+pub returns-in-Err-clause-careful : goal.returns-in-Err-clause-careful
+returns-in-Err-clause-careful g c =
+    subst (λ (v : JournalView _). g.P.Pool.tells → TakeWrites (g.P.Pool.shape v.pool) (control_alone (journal_of (g.P.Pool.shape v.pool)) c.args.control c.args.filling) ⊎ Runs none (g.P.Pool.disk v.pool) (g.P.Pool.disk c.apply.new.pool)) c.self.view_is
+    (subst (λ (l : List Entry). g.P.Pool.tells → TakeWrites (g.P.Pool.shape c.self.inside.pool) l ⊎ Runs none (g.P.Pool.disk c.self.inside.pool) (g.P.Pool.disk c.apply.new.pool))
+    (c.as_slice-list.ensures ∙ c.say.ensures.says ∙ ap (λ (u : ℕ). control_alone u c.args.control c.args.filling) (journal_is c.self.invariant.0)) c.apply.ensures.careful)

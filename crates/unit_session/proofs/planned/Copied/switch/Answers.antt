@@ -1,7 +1,7 @@
-use Rattle.std.proofs.Common.{◌≡◌, ℕ, ◌<◌, List, All, AllPairs, None, length, sym, ap, subst, ◌∙◌}
+use Rattle.std.proofs.Common.{◌≡◌, ℕ, ◌<◌, List, All, None, length, sym, ap, subst, ◌∙◌}
 use Rattle.dasd_pool.specs.Disk.{Runs, Shape, IsSynced}
 use Rattle.redo_core.specs.declared.entries.Entry.{Entry}
-use Rattle.redo_core.specs.Phases.{IsCommitted, IsStatusAfter, OldOrNew, of_commit, targets}
+use Rattle.redo_core.specs.Phases.{IsCommitted, IsStatusAfter, of_commit}
 use Rattle.redo_core.specs.Reading.{journal_of}
 use Rattle.redo_core.specs.Statuses.{entries_at}
 use Rattle.volume_change.specs.declared.change.Change.{Change}
@@ -19,7 +19,7 @@ use Rattle.unit_session.specs.Planned.{MayPatch}
 use Rattle.unit_session.specs.Sessions.{SessionView}
 use Rattle.unit_session.proofs.Loading.{free_after}
 use Rattle.unit_session.proofs.Sparing.{rendered_spared}
-use Rattle.unit_session.proofs.Switched.{are_entries, are_there, may_patch, committed_placed, only_blocks, session_after, volumes_after}
+use Rattle.unit_session.proofs.Switched.{are_there, may_patch, committed_placed, only_blocks, session_after, volumes_after}
 use Rattle.unit_session.proofs.planned.Copied.switch.Goals as goal
 
 pub invariant_of-result : goal.invariant_of-result
