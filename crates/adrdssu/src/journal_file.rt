@@ -169,10 +169,21 @@ fn replace(rt: &HostRuntime, making: Path<'_>, path: &str, empty: &File) -> io::
     fs::rename(rt, making, path)
 }
 
-/// Gives a file its name, which no file has, in place of the one under which it was made.
+/// Gives a file its name, which no file has, in place of the one under which it was made. A rename would take the place of a file that came
+/// there meanwhile, so it is done only where the file system has no links.
 fn add_name(rt: &HostRuntime, making: Path<'_>, path: &str, file: &File) -> io::Result<()> {
-    fs::hard_link(rt, making, path)?;
-    take_back(rt, making, file)
+    match fs::hard_link(rt, making, path) {
+        Ok(()) => take_back(rt, making, file),
+        Err(error) if is_without_links(error.kind()) => fs::rename(rt, making, path),
+        Err(error) => Err(error),
+    }
+}
+
+fn is_without_links(kind: io::ErrorKind) -> bool {
+    matches!(
+        kind,
+        io::ErrorKind::PermissionDenied | io::ErrorKind::Unsupported
+    )
 }
 
 fn sync_folder(rt: &HostRuntime, path: &str) -> io::Result<()> {
