@@ -7,7 +7,9 @@ mod Marking
 mod Effects
 mod Ordered
 mod Whole
+mod FileSizes
 mod Left
 pub mod Moments
 pub mod Streams
+pub mod Written
 pub mod Slices

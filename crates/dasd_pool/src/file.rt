@@ -197,6 +197,8 @@ impl<F: Read + Write + Seek + OpenFile + Drop> Pool for FilePool<F> {
         self.units[unit as usize].size
     }
 
+    fn sizes(&self) {}
+
     fn blocks(&self, unit: u32) -> u32 {
         self.units[unit as usize].count
     }

@@ -294,6 +294,10 @@ impl Pool for MemoryPool {
         said_size(&self.first[unit as usize].head)
     }
 
+    fn sizes(&self) {
+        let _ = &self.texts;
+    }
+
     fn blocks(&self, unit: u32) -> u32 {
         let unit = &self.first[unit as usize];
         block_count(unit.blocks.len(), said_size(&unit.head))

@@ -41,6 +41,12 @@ pub trait Pool {
         ensures said { result ≡ size_in ((shape self.now).head unit) }
         ensures whole { tells → (b : ℕ) → b < (shape self.now).blocks unit → length ((disk self.now).state.contents unit b) ≡ result };
 
+    /// What holds of the sizes of all units. Nothing is done.
+    fn sizes(&self)
+        ensures said { (u : ℕ) → u < (shape self.now).units → (shape self.now).block_size u ≡ size_in ((shape self.now).head u) }
+        ensures fits { (u : ℕ) → u < (shape self.now).units → (shape self.now).block_size u ≤ 65536 }
+        ensures whole { tells → (u b : ℕ) → u < (shape self.now).units → b < (shape self.now).blocks u → length ((disk self.now).state.contents u b) ≡ (shape self.now).block_size u };
+
     fn blocks(&self, unit: u32) -> u32
         requires { unit < (shape self.now).units }
         ensures { result ≡ (shape self.now).blocks unit };

@@ -3,11 +3,12 @@
 ghost use Rattle.std.specs.Prelude.{◌≡◌, ◌≤◌, [], length, IfOk, IfErr};
 ghost use Rattle.dasd_pool.specs.Stream.{Takes};
 ghost use Rattle.httparse.specs.Spans.{IsRequestWithin};
-ghost use Rattle.desk_head.specs.Head.{IsLook, IsHeadAt, IsHeadFault};
+ghost use Rattle.desk_head.specs.Head.{IsLook, IsHeadAt, IsHeadFault, WantsHead};
+ghost use Rattle.desk_head.specs.Received.{TakesEnough, UnlessFailed};
 
 use crate::fault::RequestFault;
 use crate::receiving::receive_more;
-use desk_link::Link;
+use dasd_pool::Link;
 use httparse::Status;
 use httparse::spans::{HeaderSpan, RequestSpans, parse_request};
 
@@ -50,6 +51,8 @@ pub fn receive_head<L: Link>(
     ensures received { IfOk result (λ _. Takes (L.left link.old) (L.left link.new) input.new.items) }
     ensures head { IfOk result (IsHeadAt input.new.items headers.new) }
     ensures refused { IfErr result (IsHeadFault (L.left link.old) (L.faults link.old) (L.faults link.new)) }
+    ensures enough { IfOk result (λ _. TakesEnough WantsHead (L.left link.old) (L.left link.new)) }
+    ensures enough_refused { IfErr result (λ fault. UnlessFailed fault (TakesEnough WantsHead (L.left link.old) (L.left link.new))) }
     ensures silent { L.taken link.new ≡ L.taken link.old }
     ensures later { L.faults link.old ≤ L.faults link.new }
 {

@@ -1,11 +1,11 @@
 //! Receiving bytes behind those that came before.
 
-ghost use Rattle.std.specs.Prelude.{◌≡◌, ◌<◌, ◌≤◌, length, true, false, Ok, IfErr};
+ghost use Rattle.std.specs.Prelude.{◌≡◌, ◌<◌, ◌≤◌, length, true, false, Ok, IfOk, IfErr};
 ghost use Rattle.dasd_pool.specs.Stream.{EndsOnly};
-ghost use Rattle.desk_head.specs.Received.{Receives, IsCallFault};
+ghost use Rattle.desk_head.specs.Received.{Receives, TakesFew, IsCallFault, UnlessFailed};
 
 use crate::fault::RequestFault;
-use desk_link::Link;
+use dasd_pool::Link;
 
 /// How many bytes are asked for at once, at most.
 const CHUNK: usize = 1024;
@@ -22,6 +22,8 @@ pub fn receive_more<L: Link>(
     ensures within { length input.new.items ≤ most }
     ensures end { result ≡ Ok false → EndsOnly (L.left link.old) }
     ensures same { result ≡ Ok false → input.new.items ≡ input.old.items }
+    ensures few { IfOk result (λ _. TakesFew (L.left link.old) (L.left link.new)) }
+    ensures few_refused { IfErr result (λ fault. UnlessFailed fault (TakesFew (L.left link.old) (L.left link.new))) }
     ensures silent { L.taken link.new ≡ L.taken link.old }
     ensures fault { IfErr result (IsCallFault (L.faults link.old) (L.faults link.new)) }
     ensures later { L.faults link.old ≤ L.faults link.new }

@@ -1,3 +1,4 @@
 pub mod Paths
 pub mod Requests
 pub mod Readings
+pub mod Steps

@@ -1,8 +1,8 @@
 //! What holds of requests whatever reads them.
 
-ghost use Rattle.desk_laws.specs.One.{OnePlace, OneRequest, OneReading};
+ghost use Rattle.desk_laws.specs.One.{OnePlace, OneRequest, OneReading, OneAnswer};
 
-/// A path, a request and an input mean one thing.
+/// A path, a request and an input mean one thing, and what a request does is one thing.
 pub fn request_laws()
     // A path is that of one route at most.
     ensures place { OnePlace }
@@ -10,4 +10,6 @@ pub fn request_laws()
     ensures request { OneRequest }
     // An input is one request, or is refused with one status.
     ensures reading { OneReading }
+    // In a desk whose holds are a table, a request has one answer and leaves one desk.
+    ensures answer { OneAnswer }
 {}

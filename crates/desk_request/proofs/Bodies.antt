@@ -4,7 +4,7 @@ use Rattle.std.specs.Prelude.{IfSome}
 use Rattle.std.proofs.lemmas.List.{append-nil}
 use Rattle.dasd_pool.specs.Stream.{EndsOnly}
 use Rattle.dasd_pool.proofs.Streams.{takes_then}
-use Rattle.desk_link.proofs.Written.{takes_none}
+use Rattle.dasd_pool.proofs.Written.{takes_none}
 use Rattle.desk_head.specs.Received.{Receives}
 
 pub receives_none : (left : Option (List ℕ)) (came : List ℕ) → Receives left left came came

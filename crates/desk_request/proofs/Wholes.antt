@@ -6,14 +6,15 @@ use Rattle.dasd_pool.specs.Stream.{Takes}
 use Rattle.httparse.specs.declared.spans.HeaderSpan.{HeaderSpan}
 use Rattle.httparse.specs.declared.spans.RequestSpans.{RequestSpans}
 use Rattle.httparse.specs.Grammar.{print_request}
-use Rattle.desk_head.specs.Received.{Receives}
+use Rattle.dasd_pool.proofs.Streams.{takes_then}
+use Rattle.desk_head.specs.Received.{Receives, TakesEnough}
 use Rattle.desk_head.specs.Head.{HasHead, IsHeadAt}
 use Rattle.desk_route.specs.Asks.{Wish}
 use Rattle.desk_body.specs.Wanted.{Makes}
 use Rattle.desk_state.specs.declared.request.Request.{Request}
 use Rattle.desk_head.specs.declared.fault.RequestFault.{RequestFault}
 use Rattle.desk_head.specs.declared.fault.RequestFault.TheVariants as faults
-use Rattle.desk_request.specs.Reads.{Reads, HeadAsks, BodyAsks, IsReadFault, IsBodyFault, IsMadeFault}
+use Rattle.desk_request.specs.Reads.{Reads, HeadAsks, BodyAsks, IsReadFault, IsBodyFault, IsMadeFault, WantsMore}
 
 -- a head at the front of what came is one of all
 has_head : (input : List ℕ) (headers : List HeaderSpan) (spans : RequestSpans) (at : IsHeadAt input headers spans) (more : List ℕ) → HasHead (input ++ more) at.head (drop spans.len input ++ more)
@@ -72,6 +73,28 @@ body_whole (Some whole) now after input headers spans at wish size front body an
       subst (λ (l : List ℕ). HasHead l at.head rest) (sym takes.2) (has_head input headers spans at takes.0),
       inr (wish, size, asks, body_asks wish size rest (take size body) answer enough (ap (take size) all ∙ take-append-le size body then'.0 long) makes),
     )
+
+-- of a body no more is received than what its head says
+pub body_enough : (before now after : Option (List ℕ)) (input : List ℕ) (headers : List HeaderSpan) (spans : RequestSpans) (at : IsHeadAt input headers spans) (wish : Wish) (size : ℕ) (front : List ℕ)
+    → Takes before now input → HeadAsks at.head (Ok (wish, size)) → front ≡ drop spans.len input → TakesEnough WantsMore before now → TakesEnough (λ came. length (front ++ came) < size) now after
+    → TakesEnough WantsMore before after
+body_enough before now after input headers spans at wish size front takes asks is was (inl same) = let P : Option (List ℕ) → Type 0 = λ o. TakesEnough WantsMore before o in subst P (sym same) was
+body_enough before now after input headers spans at wish size front takes asks is was (inr h) = inr (record {
+  front = input ++ h.front;
+  last = h.last;
+  wanted = inr (
+    at.head,
+    drop spans.len input ++ h.front,
+    wish,
+    size,
+    has_head input headers spans at h.front,
+    asks,
+    subst (λ (l : List ℕ). length (l ++ h.front) < size) is h.wanted,
+  );
+  few = h.few;
+  takes = let P : List ℕ → Type 0 = Takes before after in
+      subst P (sym (append_assoc input h.front h.last)) (takes_then before now after input (h.front ++ h.last) takes h.takes);
+})
 
 -- ---- by what a call answered
 

@@ -5,7 +5,7 @@ use Rattle.httparse.specs.Grammar.{RequestHead}
 use Rattle.httparse.specs.Spans.{name_and_value}
 use Rattle.desk_head.specs.declared.fault.RequestFault.{RequestFault}
 use Rattle.desk_head.specs.declared.fault.RequestFault.TheVariants as faults
-use Rattle.desk_head.specs.Head.{HasHead, HasNoHead}
+use Rattle.desk_head.specs.Head.{HasHead, HasNoHead, WantsHead}
 use Rattle.desk_head.specs.Fields.{values_of, IsNumber, number}
 use Rattle.desk_route.specs.Asks.{Wish, Judges, IsHeadStatus}
 use Rattle.desk_body.specs.Wanted.{Makes}
@@ -44,6 +44,12 @@ abbrev pub Reads : List ℕ → Result Request ℕ → Type 0
 Reads input answer =
     (HasNoHead input × (answer ≡ Err 400))
     ⊎ ((head : RequestHead) × (rest : List ℕ) × HasHead input head rest × RestAsks head rest answer)
+
+-- no whole request stands at the front: its head may come still, or its head is there and its body isn't yet
+abbrev pub WantsMore : List ℕ → Type 0
+WantsMore input =
+    WantsHead input
+    ⊎ ((head : RequestHead) × (rest : List ℕ) × (wish : Wish) × (size : ℕ) × HasHead input head rest × HeadAsks head (Ok (wish, size)) × (length rest < size))
 
 -- a request was read of what the other side gives, where the link tells
 abbrev pub IsRead : Option (List ℕ) → Request → Type 0

@@ -12,7 +12,8 @@ use Rattle.std.proofs.lemmas.Option.{none-some}
 use Rattle.std.specs.Prelude.{IsTrue}
 use Rattle.desk_head.specs.declared.fault.RequestFault.{RequestFault}
 use Rattle.desk_head.specs.declared.fault.RequestFault.TheVariants as faults
-use Rattle.desk_request.specs.Reads.{IsReadFault, IsStatusFault}
+use Rattle.desk_head.specs.Received.{TakesEnough, UnlessFailed}
+use Rattle.desk_request.specs.Reads.{IsReadFault, IsStatusFault, WantsMore}
 use Rattle.desk_text.specs.Answers.{IsDeskStatus, IsDeskAnswer}
 use Rattle.desk_text.specs.declared.job.UnitLine.{UnitLine}
 use Rattle.desk_text.specs.Values.{error_value}
@@ -26,7 +27,7 @@ use Rattle.desk_state.specs.Ends.{IsQueued}
 use Rattle.desk_state.specs.Laws.{asked, ran, broke}
 use Rattle.desk_serve.specs.declared.runner.RunEnd.TheVariants as ends
 use Rattle.desk_serve.specs.Runs.{lines_shown}
-use Rattle.desk_serve.specs.Serves.{AfterRun, Settles, Hears, Sends, Serves, Refuses, LivesOn, refusal_of, status_said, body_said}
+use Rattle.desk_serve.specs.Serves.{AfterRun, Settles, Hears, Sends, Serves, ReceivesEnough, Refuses, LivesOn, refusal_of, status_said, body_said}
 
 sends_since : (taken mid sent : Option (List ℕ)) (was then' is : ℕ) (said : Said) (answer : Option ℕ) → mid ≡ taken → was ≤ then' → Sends mid sent then' is said answer → Sends taken sent was is said answer
 sends_since taken mid sent was then' is said answer same later h = record {
@@ -51,6 +52,17 @@ module _ {S : Type 0} (runs : S → List ℕ → List Hold → Option S → RunE
       inr (same_desk, same_session, sends.0 ∙ same, sends.1, λ below. omega (arith, why (omega (arith, below, more)), more))
   refused_by left taken mid sent was then' is old before faults.NoMemory new after answer why same_desk same_session same later more sends =
       serves_by left taken mid sent was then' is old old before before (saids.Error 507) new after answer (inr (inr (refl, refl, refl))) same_desk same_session same later sends
+
+-- what is told leaves unread what was
+pub enough_by : (left mid rest taken sent : Option (List ℕ)) (was is : ℕ) (answer : Option ℕ) → TakesEnough WantsMore left mid → rest ≡ mid → ReceivesEnough left rest taken sent was is answer
+enough_by left mid rest taken sent was is answer enough same = let P : Option (List ℕ) → Type 0 = λ o. TakesEnough WantsMore left o in inl (subst P (sym same) enough)
+
+pub enough_refused : (left between rest taken mid sent : Option (List ℕ)) (was then' is : ℕ) (fault : RequestFault) (answer : Option ℕ) → IsReadFault left was then' fault → UnlessFailed fault (TakesEnough WantsMore left between)
+    → rest ≡ between → mid ≡ taken → then' ≤ is → Refuses mid sent then' is (refusal_of fault) answer → ReceivesEnough left rest taken sent was is answer
+enough_refused left between rest taken mid sent was then' is (faults.Status status) answer why enough same silent more sends = enough_by left between rest taken sent was is answer enough same
+enough_refused left between rest taken mid sent was then' is faults.Read answer why enough same silent more sends =
+    inr (sends.0 ∙ silent, sends.1, λ below. omega (arith, why (omega (arith, below, more)), more))
+enough_refused left between rest taken mid sent was then' is faults.NoMemory answer why enough same silent more sends = enough_by left between rest taken sent was is answer enough same
 
 -- what a run leaves is a piece of the desk's life
 lives_ran : (old : Desk) (number : ℕ) (end : RunEnd) (lines : List UnitLine) (new : Desk) (said : Said) → IsQueued old.jobs number → old.broken ≡ None → AfterRun old number end lines new said → LivesOn old new

@@ -18,7 +18,8 @@ use Rattle.desk_serve.specs.declared.runner.RunEnd.{RunEnd}
 use Rattle.desk_serve.specs.declared.runner.RunEnd.TheVariants as ends
 use Rattle.desk_head.specs.declared.fault.RequestFault.{RequestFault}
 use Rattle.desk_head.specs.declared.fault.RequestFault.TheVariants as faults
-use Rattle.desk_request.specs.Reads.{Reads, IsRead}
+use Rattle.desk_head.specs.Received.{TakesEnough}
+use Rattle.desk_request.specs.Reads.{Reads, IsRead, WantsMore}
 use Rattle.desk_serve.specs.Runs.{IsGoing, lines_shown}
 use Rattle.desk_serve.specs.declared.settling.Said.{Said}
 use Rattle.desk_serve.specs.declared.settling.Said.TheVariants as saids
@@ -98,6 +99,10 @@ abbrev pub Serves : {S : Type 0} → (S → List ℕ → List Hold → Option S 
 Serves runs shows left taken sent was is old before new after answer =
     ((said : Said) × Hears runs shows left old before new after said × Sends taken sent was is said answer)
     ⊎ ((new ≡ old) × (after ≡ before) × (sent ≡ taken) × (answer ≡ None) × Rose was is)
+
+-- No more is received than one receive brings past a request; or a receive failed, and nothing was sent.
+abbrev pub ReceivesEnough : Option (List ℕ) → Option (List ℕ) → Option (List ℕ) → Option (List ℕ) → ℕ → ℕ → Option ℕ → Type 0
+ReceivesEnough left rest taken sent was is answer = TakesEnough WantsMore left rest ⊎ ((sent ≡ taken) × (answer ≡ None) × Rose was is)
 
 -- what happened to the desk is a piece of its life
 abbrev pub LivesOn : Desk → Desk → Type 0

@@ -2,14 +2,14 @@
 
 ghost use Rattle.std.specs.Prelude.{◌≡◌, ◌≤◌, None, IsSome};
 ghost use Rattle.desk_state.specs.Ends.{AreNumbered};
-ghost use Rattle.desk_serve.specs.Serves.{Sends, Serves, Refuses, refusal_of, status_said, body_said, LivesOn};
+ghost use Rattle.desk_serve.specs.Serves.{Sends, Serves, ReceivesEnough, Refuses, refusal_of, status_said, body_said, LivesOn};
 ghost use Rattle.desk_request.specs.Reads.{IsStatusFault};
 ghost use Rattle.desk_text.specs.Answers.{IsDeskAnswer};
 
 use crate::runner::Runner;
 use crate::settling::{Said, Settled, settle};
+use dasd_pool::Link;
 use desk_head::RequestFault;
-use desk_link::Link;
 use desk_request::read_request;
 use desk_state::Desk;
 use desk_text::{AnswerHead, send};
@@ -19,6 +19,7 @@ use std::alloc::Global;
 fn tell<L: Link>(link: &mut L, said: &Said) -> Option<u16>
     requires { IsDeskAnswer (status_said said.now) (body_said said.now) }
     ensures sends { Sends (L.taken link.old) (L.taken link.new) (L.faults link.old) (L.faults link.new) said.now result }
+    ensures unread { L.left link.new ≡ L.left link.old }
     ensures later { L.faults link.old ≤ L.faults link.new }
 {
     let (status, sent) = match said {
@@ -48,6 +49,7 @@ fn told<L: Link, S: Runner>(link: &mut L, settled: Settled<S>) -> Served<S>
     ensures desk { result.desk ≡ settled.desk }
     ensures session { result.session ≡ settled.session }
     ensures sends { Sends (L.taken link.old) (L.taken link.new) (L.faults link.old) (L.faults link.new) settled.said result.answer }
+    ensures unread { L.left link.new ≡ L.left link.old }
     ensures later { L.faults link.old ≤ L.faults link.new }
 {
     let Settled {
@@ -85,6 +87,7 @@ fn refuse<L: Link, S: Runner>(
     ensures desk { result.desk ≡ desk }
     ensures session { result.session ≡ session }
     ensures sends { Refuses (L.taken link.old) (L.taken link.new) (L.faults link.old) (L.faults link.new) (refusal_of fault) result.answer }
+    ensures unread { L.left link.new ≡ L.left link.old }
     ensures later { L.faults link.old ≤ L.faults link.new }
 {
     match refusal(fault) {
@@ -114,6 +117,7 @@ pub fn serve_one<L: Link, S: Runner>(
     requires numbered { AreNumbered desk.jobs }
     requires there { desk.broken ≡ None → IsSome session }
     ensures serves { Serves S.runs S.shows (L.left link.old) (L.taken link.old) (L.taken link.new) (L.faults link.old) (L.faults link.new) desk session result.desk result.session result.answer }
+    ensures enough { ReceivesEnough (L.left link.old) (L.left link.new) (L.taken link.old) (L.taken link.new) (L.faults link.old) (L.faults link.new) result.answer }
     ensures lives { LivesOn desk result.desk }
     ensures stays_numbered { AreNumbered result.desk.jobs }
     ensures stays_there { result.desk.broken ≡ None → IsSome result.session }

@@ -39,3 +39,4 @@ mod CopyEnds
 mod CopyGoesOn
 mod CopyOrder
 mod CopyGoing
+mod OfUnits

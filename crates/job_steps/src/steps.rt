@@ -4,7 +4,7 @@ ghost use Rattle.std.specs.Prelude.{◌≡◌, [], ◌++◌, IfOk, IfErr};
 ghost use Rattle.move_core.specs.Facts.{shown};
 ghost use Rattle.move_core.specs.Runs.{IsRun, Ended};
 ghost use Rattle.unit_session.specs.Planned.{MayBegin, pool_switched, done_by};
-ghost use Rattle.unit_session.specs.unit_steps.Plans.{IsPlan};
+ghost use Rattle.unit_session.specs.unit_steps.Plans.{IsOfUnits, IsPlan};
 ghost use Rattle.job_steps.specs.Carried.{pool_left, pending_left, Continues, steps_of, pool_tried, pending_tried, IsTried, IsReadyOrFull, IsCutBefore, AreAfter, IsUnderWay, IsCutIn, pending_made};
 
 use crate::cut::Cut;
@@ -39,6 +39,7 @@ pub fn try_plan<P: Pool>(session: Session<P>, plan: Plan) -> Result<Attempt<P>, 
 
 /// Copies and switches.
 fn make<P: Pool>(planned: Planned<P>) -> Result<Session<P>, Broken<P>>
+    requires { IsOfUnits planned.plan.step }
     ensures run { IsRun P.tells (shown P.Pool planned.session.pool) (shown P.Pool (pool_switched result)) (Ended result) (done_by planned.plan.step result) (pending_made result) }
     ensures after { IfOk result (AreAfter P.Pool planned) }
     ensures pending { IfErr result (IsUnderWay planned.plan.step) }
@@ -46,13 +47,14 @@ fn make<P: Pool>(planned: Planned<P>) -> Result<Session<P>, Broken<P>>
     planned.copy()?.switch()
 }
 
-/// Carries out a planned step, and adds it to the steps of the run. Its place in that list is taken before anything is written.
+/// Carries out a planned step whose texts, if it has any, come from units, and adds it to the steps of the run. Its place in that list is taken before anything is written.
 pub fn carry_out<P: Pool>(
     planned: Planned<P>,
     step: Step,
     steps: &mut Vec<Step>,
 ) -> Result<Session<P>, Cut<P>>
-    requires { planned.plan.step ≡ step }
+    requires step { planned.plan.step ≡ step }
+    requires units { IsOfUnits step }
     ensures steps { steps.new.items ≡ steps.old.items ++ steps_of step result }
     ensures run { IsRun P.tells (shown P.Pool planned.session.pool) (shown P.Pool (pool_left result)) (Continues result) (steps_of step result) (pending_left result) }
     ensures after { IfOk result (AreAfter P.Pool planned) }

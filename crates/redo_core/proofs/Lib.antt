@@ -7,6 +7,7 @@ pub mod Controls
 pub mod Readings
 mod ControlTexts
 pub mod Redoing
+mod Looking
 mod Surveying
 mod Faulting
 mod Heads

@@ -1,14 +1,13 @@
 -- The refusals of an opening, in their order.
-use Rattle.std.proofs.Common.{◌≡◌, ◌≢◌, ◌⊎◌, ⊎_elim, inl, inr, ℕ, ◌+◌, ◌<◌, ◌≤◌, List, sym, subst, true, arith}
+use Rattle.std.proofs.Common.{◌≡◌, inl, inr, ℕ, ◌+◌, ◌≤◌, List, sym, subst}
 use Rattle.dasd_pool.specs.Disk.{Image, Shape, State}
 use Rattle.vol_label.specs.declared.serial.Serial.{Serial}
-use Rattle.redo_core.specs.declared.control.Control.TheVariants.{Idle}
 use Rattle.redo_core.specs.declared.fault.JournalFault.{JournalFault}
 use Rattle.redo_core.specs.declared.fault.JournalFault.TheVariants.{Pool, BadJournal, WrongUnit, JournalSmall, NoMemory}
 use Rattle.redo_core.specs.declared.target.Target.{Target}
 use Rattle.redo_core.specs.Reading.{journal_of, overlay, Reading}
 use Rattle.redo_core.specs.Steps.{HasTargets}
-use Rattle.redo_core.specs.Faults.{zeroed, IsRuleFault, IsBusy, IsIdle, IsNameFault, IsLabelsFault, IsWhoFault, IsOpenFault, LabelsAre, MayOpen}
+use Rattle.redo_core.specs.Faults.{zeroed, IsRuleFault, IsIdle, IsNameFault, IsLabelsFault, IsWhoFault, IsOpenFault, LabelsAre, MayOpen}
 use Rattle.redo_core.proofs.Heads.{labelled}
 use Rattle.redo_core.proofs.Redoing.{overlay_has}
 

@@ -5,5 +5,6 @@ pub mod Statuses
 pub mod Steps
 pub mod Opening
 pub mod Faults
+pub mod Looks
 pub mod Stops
 pub mod Laws

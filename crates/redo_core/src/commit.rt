@@ -7,6 +7,7 @@ ghost use Rattle.redo_core.specs.declared.control.Control.{Control};
 ghost use Rattle.redo_core.specs.Format.{wide, room_in};
 ghost use Rattle.redo_core.specs.Reading.{journal_of, among, placed, body_for};
 ghost use Rattle.redo_core.specs.Phases.{targets, of_body, of_commit, TakeWrites, MayGo, IsAtRest, IsStatusAfter, OldOrNew, IsCommitted};
+ghost use Rattle.redo_core.specs.Looks.{OnlyLooks};
 ghost use Rattle.redo_core.specs.Steps.{IsJournal, IsPlaced, IsShut, HasEntries, HoldsEither, IsDone};
 
 use crate::blocks::{put_block, put_directory, set_gate};
@@ -17,10 +18,8 @@ use dasd_pool::{Pool, PoolFault};
 fn ask<P: Pool>(pool: &mut P, journal: u32, entries: &[Entry]) -> Result<(), PoolFault>
     requires journal { IsJournal (P.shape pool.old) journal (length entries.now) }
     requires entries { All (IsPlaced (P.shape pool.old) journal) entries.now }
-    ensures shape { P.shape pool.new ≡ P.shape pool.old }
+    ensures looks { OnlyLooks P.Pool pool.old pool.new }
     ensures may { OnOk result (TakeWrites (P.shape pool.old) entries.now) }
-    ensures same { P.tells → (P.disk pool.new).state ≡ (P.disk pool.old).state }
-    ensures runs { P.tells → Runs none (P.disk pool.old) (P.disk pool.new) }
     ensures cause { HasCause (P.faults pool.old) (P.faults pool.new) result }
 {
     for entry in entries {

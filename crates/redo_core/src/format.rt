@@ -5,6 +5,7 @@ ghost use Rattle.dasd_pool.specs.Count.{Rose, HasCause};
 ghost use Rattle.dasd_pool.specs.Disk.{IsSynced, LeavesOnly, Runs, none, is_at};
 ghost use Rattle.vol_label.specs.declared.serial.Serial.{Serial};
 ghost use Rattle.redo_core.specs.Opening.{AreNames, IsFormatted, MakingLeaves, SparesVolumes};
+ghost use Rattle.redo_core.specs.Looks.{OnlyLooks};
 ghost use Rattle.redo_core.specs.Faults.{zeroed, IsInUse, IsShort, IsFormatFault, MayFormat};
 ghost use Rattle.redo_core.specs.Reading.{HasHead};
 ghost use Rattle.redo_core.specs.Steps.{IsJournal, of_making, of_status};
@@ -148,10 +149,8 @@ fn is_in_use<P: Pool>(pool: &mut P, journal: u32, buffer: &mut [u8]) -> Result<b
     requires last { journal + 1 ≡ (P.shape pool.old).units }
     requires width { (P.shape pool.old).block_size journal ≡ wide }
     requires size { length buffer.old ≡ wide }
-    ensures shape { P.shape pool.new ≡ P.shape pool.old }
+    ensures looks { OnlyLooks P.Pool pool.old pool.new }
     ensures used { P.tells → IfOk result (λ used. IsTrue used ↔ IsInUse (P.shape pool.old) (zeroed (P.shape pool.old) (P.disk pool.old).state.contents)) }
-    ensures same { P.tells → (P.disk pool.new).state ≡ (P.disk pool.old).state }
-    ensures runs { P.tells → Runs none (P.disk pool.old) (P.disk pool.new) }
     ensures cause { HasCause (P.faults pool.old) (P.faults pool.new) result }
 {
     read_or_zeros(pool, journal, 0, buffer)?;
@@ -196,14 +195,11 @@ fn may_format<P: Pool>(
     requires size { length buffer.old ≡ wide }
     requires names { length names.now ≡ journal }
     requires most { room ≤ 8191 }
-    ensures shape { P.shape pool.new ≡ P.shape pool.old }
+    ensures looks { OnlyLooks P.Pool pool.old pool.new }
     ensures head { OnOk result (HasHead (P.shape pool.old)) }
     ensures long { OnOk result (4 + room ≤ (P.shape pool.old).blocks journal) }
     ensures allowed { P.tells → OnOk result (MayFormat (P.shape pool.old) (P.disk pool.old).state.contents names.now room) }
     ensures refused { P.tells → IfErr result (IsFormatFault (P.shape pool.old) (P.disk pool.old).state.contents names.now room) }
-    ensures same { P.tells → (P.disk pool.new).state ≡ (P.disk pool.old).state }
-    ensures runs { P.tells → Runs none (P.disk pool.old) (P.disk pool.new) }
-    ensures faults { P.faults pool.old ≤ P.faults pool.new }
     ensures cause { IfErr result (λ fault. fault ≡ JournalFault.Pool → Rose (P.faults pool.old) (P.faults pool.new)) }
 {
     if !has_head(pool, journal) {

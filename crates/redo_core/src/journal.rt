@@ -1,6 +1,6 @@
 //! The journal of a pool, between two commits.
 
-ghost use Rattle.std.specs.Prelude.{◌≡◌, ◌≢◌, ◌⊎◌, ◌≤◌, ◌<◌, ℕ, [], AllPairs, length, ◌==◌, IfOk, IfErr, OnOk};
+ghost use Rattle.std.specs.Prelude.{◌≡◌, ◌≢◌, ◌⊎◌, ◌≤◌, ◌<◌, ℕ, [], AllPairs, length, ◌==◌, IsTrue, IfOk, IfErr, OnOk};
 ghost use Rattle.std.specs.Int.{bit_at};
 ghost use Rattle.dasd_pool.specs.Calls.{size_in};
 ghost use Rattle.dasd_pool.specs.Count.{Rose, HasCause};
@@ -254,6 +254,16 @@ impl<P: Pool> Journal<P> {
         self.pool.block_size(unit)
     }
 
+    /// What holds of the sizes of all volumes. Nothing is done.
+    pub fn sizes(&self)
+        ensures said { (u : ℕ) → u < journal_of (P.shape self.now.pool) → (P.shape self.now.pool).block_size u ≡ size_in ((P.shape self.now.pool).head u) }
+        ensures fits { (u : ℕ) → u < journal_of (P.shape self.now.pool) → (P.shape self.now.pool).block_size u ≤ 65536 }
+        ensures whole { P.tells → (u b : ℕ) → u < journal_of (P.shape self.now.pool) → b < (P.shape self.now.pool).blocks u
+            → length ((P.disk self.now.pool).state.contents u b) ≡ (P.shape self.now.pool).block_size u }
+    {
+        self.pool.sizes();
+    }
+
     /// How many blocks a volume has.
     pub fn blocks(&self, unit: u32) -> u32
         requires { unit < journal_of (P.shape self.now.pool) }
@@ -276,6 +286,20 @@ impl<P: Pool> Journal<P> {
         ensures cause { HasCause (P.faults self.old.pool) (P.faults self.new.pool) result }
     {
         self.pool.read(unit, block, buf)
+    }
+
+    /// Asks whether a volume may be written, before anything is begun that would end there. Where it may not, that is a fault.
+    pub fn ask_to_write(&mut self, unit: u32) -> Result<(), PoolFault>
+        requires { unit < journal_of (P.shape self.old.pool) }
+        ensures shape { P.shape self.new.pool ≡ P.shape self.old.pool }
+        ensures may { OnOk result (IsTrue ((P.shape self.old.pool).may_write unit)) }
+        ensures same { P.tells → (P.disk self.new.pool).state ≡ (P.disk self.old.pool).state }
+        ensures runs { P.tells → Runs none (P.disk self.old.pool) (P.disk self.new.pool) }
+        ensures status { IsStatusOf self.old self.new }
+        ensures rest { P.tells → IsAtRest (P.shape self.new.pool) (P.disk self.new.pool).state self.new.room self.new.control self.new.fills }
+        ensures cause { HasCause (P.faults self.old.pool) (P.faults self.new.pool) result }
+    {
+        self.pool.ask_to_write(unit)
     }
 
     /// Writes a block of a volume, past the journal: until the next sync a stop may leave any bytes there.

@@ -2,10 +2,10 @@
 
 ghost use Rattle.std.specs.Prelude.{◌≡◌, ◌≢◌, ◌⊎◌, IfNone, ◌<◌, ◌≤◌, ◌+◌, Some, length, take, IfSome, IfOk, IfErr, OnOk};
 ghost use Rattle.dasd_pool.specs.Count.{Rose, HasCause};
-ghost use Rattle.dasd_pool.specs.Disk.{Runs, none};
 ghost use Rattle.vol_label.specs.declared.serial.Serial.{Serial};
 ghost use Rattle.redo_core.specs.Format.{wide};
 ghost use Rattle.redo_core.specs.Reading.{placed, body_for};
+ghost use Rattle.redo_core.specs.Looks.{OnlyLooks};
 ghost use Rattle.redo_core.specs.Faults.{HasSerial, HasLabel, LabelsAre, IsLabelsFault};
 
 use crate::fault::JournalFault;
@@ -42,10 +42,8 @@ fn read_first<P: Pool>(pool: &mut P, unit: u32, buffer: &mut [u8]) -> Result<(),
     requires unit { unit < (P.shape pool.old).units }
     requires some { 0 < (P.shape pool.old).blocks unit }
     requires size { length buffer.old ≡ wide }
-    ensures shape { P.shape pool.new ≡ P.shape pool.old }
+    ensures looks { OnlyLooks P.Pool pool.old pool.new }
     ensures bytes { P.tells → OnOk result (take ((P.shape pool.old).block_size unit) buffer.new ≡ (P.disk pool.old).state.contents unit 0) }
-    ensures same { P.tells → (P.disk pool.new).state ≡ (P.disk pool.old).state }
-    ensures runs { P.tells → Runs none (P.disk pool.old) (P.disk pool.new) }
     ensures cause { HasCause (P.faults pool.old) (P.faults pool.new) result }
 {
     let size = pool.block_size(unit) as usize;
@@ -68,11 +66,9 @@ fn read_shown<P: Pool>(
     requires long { 0 < length targets.now → 4 + length targets.now ≤ (P.shape pool.old).blocks journal }
     requires unit { unit < journal }
     requires some { 0 < (P.shape pool.old).blocks unit }
-    ensures shape { P.shape pool.new ≡ P.shape pool.old }
+    ensures looks { OnlyLooks P.Pool pool.old pool.new }
     ensures bytes { P.tells → OnOk result (take ((P.shape pool.old).block_size unit) buffer.new
         ≡ placed (P.disk pool.old).state.contents (body_for (P.shape pool.old).block_size journal (P.disk pool.old).state.contents targets.now) unit 0) }
-    ensures same { P.tells → (P.disk pool.new).state ≡ (P.disk pool.old).state }
-    ensures runs { P.tells → Runs none (P.disk pool.old) (P.disk pool.new) }
     ensures cause { HasCause (P.faults pool.old) (P.faults pool.new) result }
 {
     match image_of(targets, unit, 0) {
@@ -102,16 +98,13 @@ fn unit_label<P: Pool>(
     requires few { length targets.now ≤ 8191 }
     requires long { 0 < length targets.now → 4 + length targets.now ≤ (P.shape pool.old).blocks journal }
     requires unit { unit < journal }
-    ensures shape { P.shape pool.new ≡ P.shape pool.old }
+    ensures looks { OnlyLooks P.Pool pool.old pool.new }
     ensures found { P.tells → IfOk result (λ found. IfSome found
         (HasLabel (P.shape pool.old) (placed (P.disk pool.old).state.contents (body_for (P.shape pool.old).block_size journal (P.disk pool.old).state.contents targets.now)) unit)) }
     ensures only { P.tells → IfOk result (λ found. (serial : Serial)
         → HasLabel (P.shape pool.old) (placed (P.disk pool.old).state.contents (body_for (P.shape pool.old).block_size journal (P.disk pool.old).state.contents targets.now)) unit serial
         → found ≡ Some serial) }
     ensures kind { IfErr result (λ fault. (fault ≡ JournalFault.Pool) ⊎ (fault ≡ JournalFault.NoMemory)) }
-    ensures same { P.tells → (P.disk pool.new).state ≡ (P.disk pool.old).state }
-    ensures runs { P.tells → Runs none (P.disk pool.old) (P.disk pool.new) }
-    ensures faults { P.faults pool.old ≤ P.faults pool.new }
     ensures cause { IfErr result (λ fault. fault ≡ JournalFault.Pool → Rose (P.faults pool.old) (P.faults pool.new)) }
 {
     let Ok(head) = Head::read(&pool.head(unit), pool.blocks(unit)) else {
@@ -150,14 +143,11 @@ pub fn check_labels<P: Pool>(
     requires few { length targets.now ≤ 8191 }
     requires long { 0 < length targets.now → 4 + length targets.now ≤ (P.shape pool.old).blocks journal }
     requires names { length names.now ≡ journal }
-    ensures shape { P.shape pool.new ≡ P.shape pool.old }
+    ensures looks { OnlyLooks P.Pool pool.old pool.new }
     ensures labels { P.tells → OnOk result
         (LabelsAre (P.shape pool.old) (placed (P.disk pool.old).state.contents (body_for (P.shape pool.old).block_size journal (P.disk pool.old).state.contents targets.now)) names.now journal) }
     ensures refused { P.tells → IfErr result
         (IsLabelsFault (P.shape pool.old) (placed (P.disk pool.old).state.contents (body_for (P.shape pool.old).block_size journal (P.disk pool.old).state.contents targets.now)) names.now) }
-    ensures same { P.tells → (P.disk pool.new).state ≡ (P.disk pool.old).state }
-    ensures runs { P.tells → Runs none (P.disk pool.old) (P.disk pool.new) }
-    ensures faults { P.faults pool.old ≤ P.faults pool.new }
     ensures cause { IfErr result (λ fault. fault ≡ JournalFault.Pool → Rose (P.faults pool.old) (P.faults pool.new)) }
 {
     for unit in 0..journal {

@@ -11,6 +11,7 @@ ghost use Rattle.redo_core.specs.Reading.{journal_of, placed, body_for, fills_of
 ghost use Rattle.redo_core.specs.Phases.{IsAtRest};
 ghost use Rattle.redo_core.specs.Opening.{IsOpened, ReadsSame, of_opening};
 ghost use Rattle.redo_core.specs.Steps.{IsJournal, HasTargets, shown};
+ghost use Rattle.redo_core.specs.Looks.{OnlyLooks};
 ghost use Rattle.redo_core.specs.Faults.{zeroed, Fails, IsRuleFault, IsNameFault, IsIdle, IsWhoFault, IsOpenFault, LabelsAre, MayOpen};
 
 use crate::control::Control;
@@ -37,16 +38,13 @@ fn find_registration<P: Pool>(
     requires some { 1 ≤ journal }
     requires few { journal ≤ 64 }
     requires size { length buffer.old ≡ wide }
-    ensures shape { P.shape pool.new ≡ P.shape pool.old }
+    ensures looks { OnlyLooks P.Pool pool.old pool.new }
     ensures head { OnOk result (HasHead (P.shape pool.old)) }
     ensures count { IfOk result (λ r. length r.names.items ≡ journal) }
     ensures least { IfOk result (λ r. 3 ≤ r.room) }
     ensures most { IfOk result (λ r. r.room ≤ 8191) }
     ensures found { P.tells → IfOk result (λ r. IsRegistration (journal_of (P.shape pool.old)) (zeroed (P.shape pool.old) (P.disk pool.old).state.contents (journal_of (P.shape pool.old)) 0) r.names.items r.room) }
     ensures refused { P.tells → IfErr result (IsRuleFault (P.shape pool.old) (zeroed (P.shape pool.old) (P.disk pool.old).state.contents)) }
-    ensures same { P.tells → (P.disk pool.new).state ≡ (P.disk pool.old).state }
-    ensures runs { P.tells → Runs none (P.disk pool.old) (P.disk pool.new) }
-    ensures faults { P.faults pool.old ≤ P.faults pool.new }
     ensures cause { IfErr result (λ fault. fault ≡ JournalFault.Pool → Rose (P.faults pool.old) (P.faults pool.new)) }
 {
     if !has_head(pool, journal) {
@@ -93,15 +91,12 @@ fn find_body<P: Pool>(
     requires width { (P.shape pool.old).block_size journal ≡ wide }
     requires size { length buffer.old ≡ wide }
     requires room { room ≤ 8191 }
-    ensures shape { P.shape pool.new ≡ P.shape pool.old }
+    ensures looks { OnlyLooks P.Pool pool.old pool.new }
     ensures few { IfOk result (λ targets. length targets.items ≤ room) }
     ensures there { IfOk result (λ targets. All (IsTarget (P.shape pool.old) journal) targets.items) }
     ensures found { P.tells → IfOk result (λ targets. HasTargets (journal_of (P.shape pool.old)) (zeroed (P.shape pool.old) (P.disk pool.old).state.contents) targets.items) }
     ensures lawful { P.tells → OnOk result (HasBody (P.shape pool.old) (zeroed (P.shape pool.old) (P.disk pool.old).state.contents) room) }
     ensures refused { P.tells → IfErr result (Fails JournalRule.Body (¬ HasBody (P.shape pool.old) (zeroed (P.shape pool.old) (P.disk pool.old).state.contents) room)) }
-    ensures same { P.tells → (P.disk pool.new).state ≡ (P.disk pool.old).state }
-    ensures runs { P.tells → Runs none (P.disk pool.old) (P.disk pool.new) }
-    ensures faults { P.faults pool.old ≤ P.faults pool.new }
     ensures cause { IfErr result (λ fault. fault ≡ JournalFault.Pool → Rose (P.faults pool.old) (P.faults pool.new)) }
 {
     read_or_zeros(pool, journal, 1, buffer)?;
@@ -124,15 +119,12 @@ fn find_control<P: Pool>(
     requires size { length buffer.old ≡ wide }
     requires few { length targets.now ≤ 8191 }
     requires targets { P.tells → HasTargets (journal_of (P.shape pool.old)) (zeroed (P.shape pool.old) (P.disk pool.old).state.contents) targets.now }
-    ensures shape { P.shape pool.new ≡ P.shape pool.old }
+    ensures looks { OnlyLooks P.Pool pool.old pool.new }
     ensures lawful { P.tells → OnOk result (IsControl (P.shape pool.old) (control_block (P.shape pool.old) (zeroed (P.shape pool.old) (P.disk pool.old).state.contents))) }
     ensures control { P.tells → IfOk result (λ status. status.control ≡ control_in (control_block (P.shape pool.old) (zeroed (P.shape pool.old) (P.disk pool.old).state.contents))) }
     ensures fills { P.tells → IfOk result (λ status. (u : ℕ) → u < 64
         → fills_of status.fills u ≡ is_filling (control_block (P.shape pool.old) (zeroed (P.shape pool.old) (P.disk pool.old).state.contents)) u) }
     ensures refused { P.tells → IfErr result (Fails JournalRule.Control (¬ IsControl (P.shape pool.old) (control_block (P.shape pool.old) (zeroed (P.shape pool.old) (P.disk pool.old).state.contents)))) }
-    ensures same { P.tells → (P.disk pool.new).state ≡ (P.disk pool.old).state }
-    ensures runs { P.tells → Runs none (P.disk pool.old) (P.disk pool.new) }
-    ensures faults { P.faults pool.old ≤ P.faults pool.new }
     ensures cause { IfErr result (λ fault. fault ≡ JournalFault.Pool → Rose (P.faults pool.old) (P.faults pool.new)) }
 {
     let place = image_of(targets, journal, 2).unwrap_or(2);
@@ -165,7 +157,7 @@ fn find_all<P: Pool>(
     requires some { 1 ≤ journal }
     requires few { journal ≤ 64 }
     requires size { length buffer.old ≡ wide }
-    ensures shape { P.shape pool.new ≡ P.shape pool.old }
+    ensures looks { OnlyLooks P.Pool pool.old pool.new }
     ensures head { OnOk result (HasHead (P.shape pool.old)) }
     ensures count { IfOk result (λ s. length s.names.items ≡ journal) }
     ensures least { IfOk result (λ s. 3 ≤ s.room) }
@@ -176,9 +168,6 @@ fn find_all<P: Pool>(
     ensures found { P.tells → IfOk result (λ s. Obeys (P.shape pool.old) (zeroed (P.shape pool.old) (P.disk pool.old).state.contents)
         (record { volumes = (P.disk pool.old).state.contents; names = s.names.items; room = s.room; control = s.control; fills = fills_of s.fills })) }
     ensures refused { P.tells → IfErr result (IsRuleFault (P.shape pool.old) (zeroed (P.shape pool.old) (P.disk pool.old).state.contents)) }
-    ensures same { P.tells → (P.disk pool.new).state ≡ (P.disk pool.old).state }
-    ensures runs { P.tells → Runs none (P.disk pool.old) (P.disk pool.new) }
-    ensures faults { P.faults pool.old ≤ P.faults pool.new }
     ensures cause { IfErr result (λ fault. fault ≡ JournalFault.Pool → Rose (P.faults pool.old) (P.faults pool.new)) }
 {
     let Registration { names, room } = match find_registration(alloc, pool, journal, buffer) {
@@ -245,7 +234,7 @@ fn find_idle<P: Pool>(
     requires some { 1 ≤ journal }
     requires few { journal ≤ 64 }
     requires size { length buffer.old ≡ wide }
-    ensures shape { P.shape pool.new ≡ P.shape pool.old }
+    ensures looks { OnlyLooks P.Pool pool.old pool.new }
     ensures head { OnOk result (HasHead (P.shape pool.old)) }
     ensures count { IfOk result (λ f. length f.names.items ≡ journal) }
     ensures least { IfOk result (λ f. 3 ≤ f.room) }
@@ -258,9 +247,6 @@ fn find_idle<P: Pool>(
         (record { volumes = (P.disk pool.old).state.contents; names = f.names.items; room = f.room; control = f.control; fills = fills_of f.fills })) }
     ensures quiet { IfOk result (λ f. f.control ≡ Idle) }
     ensures refused { P.tells → IfErr result (λ fault. (names : List Serial) → IsOpenFault (P.shape pool.old) (P.disk pool.old).state.contents names fault) }
-    ensures same { P.tells → (P.disk pool.new).state ≡ (P.disk pool.old).state }
-    ensures runs { P.tells → Runs none (P.disk pool.old) (P.disk pool.new) }
-    ensures faults { P.faults pool.old ≤ P.faults pool.new }
     ensures cause { IfErr result (λ fault. fault ≡ JournalFault.Pool → Rose (P.faults pool.old) (P.faults pool.new)) }
 {
     let found = match find_all(alloc, pool, journal, buffer) {
@@ -295,15 +281,12 @@ fn check_who<P: Pool>(
     requires registered { length found.now.names.items ≡ length names.now }
     requires names { length names.now ≡ journal }
     requires few { journal ≤ 64 }
-    ensures shape { P.shape pool.new ≡ P.shape pool.old }
+    ensures looks { OnlyLooks P.Pool pool.old pool.new }
     ensures names { OnOk result (found.now.names.items ≡ names.now) }
     ensures labels { P.tells → OnOk result
         (LabelsAre (P.shape pool.old) (placed (P.disk pool.old).state.contents (body_for (P.shape pool.old).block_size journal (P.disk pool.old).state.contents found.now.targets.items)) names.now journal) }
     ensures refused { P.tells → IfErr result
         (IsWhoFault (P.shape pool.old) (placed (P.disk pool.old).state.contents (body_for (P.shape pool.old).block_size journal (P.disk pool.old).state.contents found.now.targets.items)) found.now.names.items names.now) }
-    ensures same { P.tells → (P.disk pool.new).state ≡ (P.disk pool.old).state }
-    ensures runs { P.tells → Runs none (P.disk pool.old) (P.disk pool.new) }
-    ensures faults { P.faults pool.old ≤ P.faults pool.new }
     ensures cause { IfErr result (λ fault. fault ≡ JournalFault.Pool → Rose (P.faults pool.old) (P.faults pool.new)) }
 {
     match check_names(&found.names, names) {

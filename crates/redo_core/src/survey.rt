@@ -2,13 +2,13 @@
 
 ghost use Rattle.std.specs.Prelude.{◌≡◌, ◌≢◌, ◌<◌, ◌≤◌, ◌+◌, ◌*◌, ◌↔◌, ℕ, List, All, AllPairs, Contains, length, take, drop, slice_index, slice_index_or, true, false, IsTrue, IfSome, IfNone, IfOk, IfErr, OnOk};
 ghost use Rattle.dasd_pool.specs.Count.{HasCause};
-ghost use Rattle.dasd_pool.specs.Disk.{Runs, none};
 ghost use Rattle.redo_core.specs.declared.target.Target.{Target};
 ghost use Rattle.vol_label.specs.declared.serial.Serial.{Serial};
 ghost use Rattle.vol_label.specs.Serial.{IsSerial};
 ghost use Rattle.redo_core.specs.declared.fault.JournalRule.{JournalRule};
 ghost use Rattle.redo_core.specs.Format.{wide, number_at, control_in, is_filling, targets_in, directory_in, serials_in};
 ghost use Rattle.redo_core.specs.Reading.{journal_of, IsTarget, IsDirectory, IsControl, IsRegistration};
+ghost use Rattle.redo_core.specs.Looks.{OnlyLooks};
 ghost use Rattle.redo_core.specs.Faults.{zeroed, Breaks};
 
 use crate::control::Control;
@@ -33,10 +33,8 @@ pub fn read_or_zeros<P: Pool>(
 ) -> Result<(), PoolFault>
     requires last { journal + 1 ≡ (P.shape pool.old).units }
     requires size { length buffer.old ≡ (P.shape pool.old).block_size journal }
-    ensures shape { P.shape pool.new ≡ P.shape pool.old }
+    ensures looks { OnlyLooks P.Pool pool.old pool.new }
     ensures bytes { P.tells → OnOk result (buffer.new ≡ zeroed (P.shape pool.old) (P.disk pool.old).state.contents (journal_of (P.shape pool.old)) block) }
-    ensures same { P.tells → (P.disk pool.new).state ≡ (P.disk pool.old).state }
-    ensures runs { P.tells → Runs none (P.disk pool.old) (P.disk pool.new) }
     ensures cause { HasCause (P.faults pool.old) (P.faults pool.new) result }
 {
     if block >= pool.blocks(journal) {

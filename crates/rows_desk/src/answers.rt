@@ -1,6 +1,6 @@
 //! Each route, and its answers in the order in which one desk gives them.
 
-use crate::standing::{End, Row, first_wrong_of};
+use rows_standing::{End, Row, first_wrong_of};
 use std::test::*;
 
 const GET_JOBS: &str = "GET /jobs HTTP/1.1\r\n\r\n";

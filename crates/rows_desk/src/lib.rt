@@ -1,15 +1,9 @@
-//! Tests: requests of the desk byte by byte, and the bytes of their answers.
+//! Tests: jobs, holds and runs of the desk byte by byte, the bytes of their answers, and connections that fail.
 #![tactic(auto)]
 
 #[cfg(test)]
 mod answers;
 #[cfg(test)]
-mod limits;
-#[cfg(test)]
 mod links;
 #[cfg(test)]
-mod refusals;
-#[cfg(test)]
 mod runs;
-#[cfg(test)]
-mod standing;

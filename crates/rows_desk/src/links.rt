@@ -1,8 +1,8 @@
 //! Connections that fail, and one over a stream.
 
-use crate::standing::{End, Standing};
 use ckd_image::{Bytes, NoMemory};
-use desk_link::{Link, MemoryLink, StreamLink, send_all};
+use dasd_pool::{Link, MemoryLink, StreamLink, send_all};
+use rows_standing::{End, Standing};
 use std::alloc::Global;
 use std::io;
 use std::test::*;

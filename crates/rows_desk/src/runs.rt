@@ -1,6 +1,6 @@
 //! Runs that end for want of memory, that never start, and that break the pool.
 
-use crate::standing::{End, Row, first_wrong_of};
+use rows_standing::{End, Row, first_wrong_of};
 use std::test::*;
 
 const POST_ONE: &str = "POST /jobs/K1 HTTP/1.1\r\ncontent-length: 13\r\n\r\n{\"sysin\":\"A\"}";

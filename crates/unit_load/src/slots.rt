@@ -63,7 +63,7 @@ pub(crate) fn slot_at<P: Pool>(
     ensures short { IfOk result (λ slot. length slot.items ≤ 65536) }
     ensures stop { IfErr result (IsReadStop (P.faults journal.old.pool) (P.faults journal.new.pool)) }
 {
-    let _size = journal.block_size(unit);
+    journal.sizes();
     let Some(hand) = hand else {
         return read_slot(alloc, journal, unit, track);
     };

@@ -22,7 +22,7 @@ use Rattle.unit_steps.specs.declared.plan.Tracks.{Tracks}
 use Rattle.unit_steps.specs.declared.plan.Tracks.TheVariants as texts
 use Rattle.unit_steps.specs.Copied.{AreHeld, AreShortOn, DifferOnFree}
 use Rattle.unit_steps.specs.Loaded.{AreLoaded, AreVtocsOf, HaveFills, HaveStates, KeepVtocs, TakeLoaded}
-use Rattle.unit_steps.specs.Plans.{IsPlan}
+use Rattle.unit_steps.specs.Plans.{IsOfUnits, IsPlan}
 use Rattle.unit_steps.specs.Rendering.{AreReady, WereRendered, entries_of}
 use Rattle.unit_steps.proofs.Copying.{copied_load}
 use Rattle.unit_steps.proofs.Freeing.{may_be_written}
@@ -79,9 +79,9 @@ module _ {shape : Shape} (units : List UnitState) (vtocs : List (List ℕ)) (pla
     copied_volumes = copied_load shape old new units vtocs have loaded vtocs_are differ_on_free (still_short loaded short)
 
     copied_takes : (room : ℕ) (rendered : List Rendered) → WereRendered units vtocs plan.changes rendered → OnCopies (HaveTexts old) copies → CopiesLeave old new copies
-        → TakeLoaded (HasInputs None) shape room units new plan.step (entries_of plan.changes rendered)
-    copied_takes room rendered were texts leave =
-        plans_take shape room old new units vtocs plan rendered have loaded keep vtocs_are is were differ_on_free (still_short loaded short) (held texts leave)
+        → IsOfUnits plan.step → TakeLoaded (HasInputs None) shape room units new plan.step (entries_of plan.changes rendered)
+    copied_takes room rendered were texts leave of =
+        plans_take shape room old new units vtocs plan rendered have loaded keep vtocs_are is of were differ_on_free (still_short loaded short) (held texts leave)
 
 -- ---- over a journal
 
@@ -111,11 +111,11 @@ module _ {P : Type 0} (pools : Ghosts P) (old new : JournalView P) (units : List
   pub takes_copied : pools.tells → AreLoaded (pools.shape old.pool) (contents_of pools old) units → AreVtocsOf (contents_of pools old) units vtocs
       → OnCopies (IsShortFor (pools.shape old.pool) (contents_of pools new)) copies → (rendered : List Rendered) → WereRendered units vtocs plan.changes rendered
       → OnCopies (HaveTexts (contents_of pools old)) copies → CopiesLeave (contents_of pools old) (contents_of pools new) copies
-      → (entries : List Entry) → entries ≡ entries_of plan.changes rendered → TakeLoaded (HasInputs None) (pools.shape new.pool) new.room units (contents_of pools new) plan.step entries
-  takes_copied told loaded vtocs_are short rendered were texts leave entries entries_are =
+      → (entries : List Entry) → entries ≡ entries_of plan.changes rendered → IsOfUnits plan.step → TakeLoaded (HasInputs None) (pools.shape new.pool) new.room units (contents_of pools new) plan.step entries
+  takes_copied told loaded vtocs_are short rendered were texts leave entries entries_are of =
       subst (λ (s : Shape). TakeLoaded (HasInputs None) s new.room units after plan.step entries) (sym writes.shape)
       (subst (λ (l : List Entry). TakeLoaded (HasInputs None) (pools.shape old.pool) new.room units after plan.step l) (sym entries_are)
-      (copied_takes units vtocs plan copies have keep is are before after (kept_blocks told) loaded vtocs_are short new.room rendered were texts leave))
+      (copied_takes units vtocs plan copies have keep is are before after (kept_blocks told) loaded vtocs_are short new.room rendered were texts leave of))
 
 -- ---- no meaning rests on what is written
 

@@ -168,7 +168,7 @@ tracks_longer device kind tracks = by device (kind == 0x81)
     by D3380 false = omega arith
     by D3350 false = omega arith
 
-put_row : (replaced : Bool) (name : Dsn) (row put : Row) → IsPutBy (putting replaced name row) put → put ≡ row
+pub put_row : (replaced : Bool) (name : Dsn) (row put : Row) → IsPutBy (putting replaced name row) put → put ≡ row
 put_row true name row put is = is
 put_row false name row put is = is
 
@@ -241,6 +241,13 @@ module _ (units : List UnitState) where
         by [] = tt
         by (change ∷ list) = tt
 
+    given_placed : (tracks : Tracks) (changes : List (ℕ × Change)) → tracks ≡ texts.Given → ArePlaced units tracks changes
+    given_placed tracks changes is = subst (λ (t : Tracks). ArePlaced units t changes) (sym is) (by changes)
+      where
+        by : (list : List (ℕ × Change)) → ArePlaced units texts.Given list
+        by [] = tt
+        by (change ∷ list) = tt
+
     some_placed : (tracks : Tracks) (changes : List (ℕ × Change)) (from : ℕ) (name : Dsn) (list : List (ℕ × Change)) → tracks ≡ texts.Rows from name → changes ≡ list
         → ArePlaced units (texts.Rows from name) list → ArePlaced units tracks changes
     some_placed tracks changes from name list is are placed =
@@ -253,6 +260,8 @@ module _ (units : List UnitState) where
         some_placed tracks changes from origin _ is plan.changes_are (copied_placed plan.copy [])
     plan_placed (steps.Replace unit name to (origins.Row from origin)) tracks changes (is, plan) =
         some_placed tracks changes from origin _ is plan.changes_are (copied_placed plan.copy [])
+    plan_placed (steps.Add unit name to (origins.Part input number)) tracks changes plan = given_placed tracks changes plan.0
+    plan_placed (steps.Replace unit name to (origins.Part input number)) tracks changes plan = given_placed tracks changes plan.0
     plan_placed (steps.Delete unit name) tracks changes (is, plan) = none_placed tracks changes is
     plan_placed (steps.Carry from origin unit name to replaced) tracks changes (is, plan) =
         some_placed tracks changes from origin _ is plan.changes_are (copied_placed plan.copy ((from, Remove origin) ∷ []))

@@ -32,6 +32,10 @@ none_copied : (units : List UnitState) (changes : List (ℕ × Change)) → IsCo
 none_copied units [] = tt
 none_copied units (change ∷ changes) = tt
 
+given_copied : (units : List UnitState) (changes : List (ℕ × Change)) → IsCopied units texts.Given changes
+given_copied units [] = tt
+given_copied units (change ∷ changes) = tt
+
 module _ (units : List UnitState) (tracks : Tracks) (changes : List (ℕ × Change)) where
   with_tracks : (is : Tracks) → tracks ≡ is → IsCopied units is changes → IsCopied units tracks changes
   with_tracks is same = subst (λ (t : Tracks). IsCopied units t changes) (sym same)
@@ -49,6 +53,8 @@ plan_copied units (steps.Add unit name to (origins.Row from origin)) tracks chan
     with_changes units tracks changes (texts.Rows from origin) is _ plan.changes_are (copied_put plan.copy)
 plan_copied units (steps.Replace unit name to (origins.Row from origin)) tracks changes (is, plan) =
     with_changes units tracks changes (texts.Rows from origin) is _ plan.changes_are (copied_put plan.copy)
+plan_copied units (steps.Add unit name to (origins.Part input number)) tracks changes plan = with_tracks units tracks changes texts.Given plan.0 (given_copied units changes)
+plan_copied units (steps.Replace unit name to (origins.Part input number)) tracks changes plan = with_tracks units tracks changes texts.Given plan.0 (given_copied units changes)
 plan_copied units (steps.Delete unit name) tracks changes (is, plan) = with_tracks units tracks changes texts.None is (none_copied units changes)
 plan_copied units (steps.Carry from origin unit name to replaced) tracks changes (is, plan) =
     with_changes units tracks changes (texts.Rows from origin) is _ plan.changes_are (copied_put plan.copy)

@@ -18,6 +18,8 @@ mod CopyingHeld
 mod CopyingTargets
 mod PlanVolumes
 mod CopyDone
+mod GivenPlans
+mod GivenDone
 mod Prepared
 mod SetTexts
 mod Seen

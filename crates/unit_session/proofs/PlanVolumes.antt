@@ -12,13 +12,14 @@ use Rattle.unit_steps.specs.vtoc_render.Next.{MayChange}
 use Rattle.unit_steps.proofs.unit_change.LoadedTracks.{four}
 use Rattle.unit_load.specs.declared.state.UnitState.{UnitState}
 use Rattle.unit_load.specs.Kept.{IsFromSlots}
+use Rattle.move_core.specs.Facts.{Original}
 use Rattle.move_core.specs.declared.steps.Origin.TheVariants as origins
 use Rattle.move_core.specs.declared.steps.Step.{Step}
 use Rattle.move_core.specs.declared.steps.Step.TheVariants as steps
 use Rattle.unit_steps.specs.declared.plan.Tracks.{Tracks}
 use Rattle.unit_steps.specs.declared.plan.Plan.{Plan}
 use Rattle.unit_steps.specs.Loaded.{HaveStates, KeepVtocs}
-use Rattle.unit_steps.specs.Plans.{IsLoadedAt, IsPlan, Plans, PlansCopy, SwapsRow}
+use Rattle.unit_steps.specs.Plans.{IsLoadedAt, IsPlan, Plans, PlansCopy, PlansPart, SwapsRow}
 use Rattle.unit_steps.proofs.Blocks.{few, from_slots, home_short}
 use Rattle.unit_session.specs.Planned.{HaveVolumes}
 use Rattle.unit_session.proofs.CopyPlaces.{kept_of}
@@ -49,11 +50,16 @@ module _ (units : List UnitState) where
   copy_made : {replaced : Bool} {from : ℕ} {origin : Dsn} {unit : ℕ} {name : Dsn} {to : List _} {change : Change} → PlansCopy replaced units from origin unit name to change → MayMake units (unit, change)
   copy_made copy = (copy.volume, copy.loaded, copy.may)
 
+  part_made : {replaced : Bool} {original : Original} {unit : ℕ} {name : Dsn} {to : List _} {changes : List (ℕ × Change)} → PlansPart replaced units original unit name to changes → All (MayMake units) changes
+  part_made {unit = unit} {changes = changes} part = one_made changes unit part.change part.changes_are (part.volume, part.loaded, part.may)
+
   all_made : (step : Step) (tracks : Tracks) (changes : List (ℕ × Change)) → Plans units step tracks changes → All (MayMake units) changes
   all_made (steps.Move unit name to) tracks changes (is, plan) = swap_made plan.swap
   all_made (steps.Shrink unit name keep) tracks changes (is, plan) = swap_made plan.swap
   all_made (steps.Add unit name to (origins.Row from origin)) tracks changes (is, plan) = one_made changes unit plan.change plan.changes_are (copy_made plan.copy)
   all_made (steps.Replace unit name to (origins.Row from origin)) tracks changes (is, plan) = one_made changes unit plan.change plan.changes_are (copy_made plan.copy)
+  all_made (steps.Add unit name to (origins.Part input number)) tracks changes plan = part_made plan.1.1
+  all_made (steps.Replace unit name to (origins.Part input number)) tracks changes plan = part_made plan.1.1
   all_made (steps.Delete unit name) tracks changes (is, plan) = one_made changes _ _ plan.changes_are (plan.volume, plan.loaded, plan.may)
   all_made (steps.Carry from origin unit name to replaced) tracks changes (is, plan) =
       let gone : ℕ × Change = (from, Remove origin) in

@@ -1,5 +1,5 @@
 -- What is read for a plan, and when all that it needs is ready.
-use Rattle.std.proofs.Common.{◌≡◌, inl, inr, get_or, ℕ, ◌-◌, ◌/◌, ◌≤◌, List, length, All, Option, Some, None, sym, ap, subst, ◌∙◌, arith}
+use Rattle.std.proofs.Common.{◌≡◌, inl, inr, get_or, ℕ, ◌<◌, ◌-◌, ◌/◌, ◌≤◌, List, length, All, Option, Some, None, sym, ap, subst, ◌∙◌, arith}
 use Rattle.std.proofs.lemmas.List.{get_or_default}
 use Rattle.std.proofs.lemmas.Bool.{cases_lt}
 use Rattle.ckd_image.specs.Device.{slot_of}
@@ -18,29 +18,39 @@ use Rattle.unit_load.specs.Reads.{OnlyReads}
 use Rattle.unit_load.specs.declared.state.UnitState.{UnitState}
 use Rattle.unit_steps.specs.declared.plan.Plan.{Plan}
 use Rattle.unit_steps.specs.Laws.{AreSized}
-use Rattle.unit_steps.specs.Loaded.{AreLoaded, AreVtocsOf, HaveStates, KeepVtocs}
+use Rattle.unit_steps.specs.Loaded.{HaveStates, KeepVtocs}
 use Rattle.unit_steps.specs.Plans.{IsLoadedAt, IsPlan}
 use Rattle.unit_steps.specs.Rendering.{AreReady, WereRendered, entries_of}
 use Rattle.unit_steps.proofs.Blocks.{from_slots}
 use Rattle.unit_steps.proofs.Readying.{entries_ready}
 use Rattle.unit_steps.proofs.Small.{plans_small}
 use Rattle.unit_session.specs.declared.copies.Copies.{Copies}
+use Rattle.unit_session.specs.declared.copies.GivenTracks.{GivenTracks}
+use Rattle.unit_session.specs.Given.{AreGivenOf, MayGive, OnGiven}
 use Rattle.unit_session.specs.declared.copies.Source.{Source}
 use Rattle.unit_session.specs.declared.fault.PlanFault.{PlanFault}
 use Rattle.unit_session.specs.declared.fault.PlanFault.TheVariants as faults
 use Rattle.unit_session.specs.Copies.{AreCopiesOf, HaveTexts, IsLookFault, MayCopy, OnCopies, contents_of}
-use Rattle.unit_session.specs.Planned.{AreRenderFault, HaveAllTexts, IsBar, IsLong, IsPlanFault, IsReady, MayBegin}
-use Rattle.unit_session.specs.Sessions.{HasOnlyFills, SessionView}
+use Rattle.unit_session.specs.Planned.{AreRenderFault, HaveAllTexts, IsBar, IsLong, IsPlanFault, IsReady, MayBegin, MayWriteAll}
+use Rattle.unit_session.specs.Sessions.{IsSession, SessionView}
 use Rattle.unit_session.specs.Texts.{AreSeen}
 use Rattle.unit_session.proofs.CopyMay.{may_copy}
 use Rattle.unit_session.proofs.CopyPlaces.{kept_of}
+use Rattle.unit_session.proofs.GivenPlans.{may_give}
 use Rattle.unit_session.proofs.Loading.{still_free, still_kept, still_loaded, still_vtocs, still_seen}
+use Rattle.unit_session.proofs.Switched.{are_there}
 
 -- ---- volumes
 
 pub rows_are_named : {shape : Shape} (units : List UnitState) (vtocs : List (List ℕ)) → HaveStates shape units → KeepVtocs shape units vtocs
     → (unit : ℕ) (volume : Volume) → IsLoadedAt units unit volume → AreNamed volume.rows
 rows_are_named units vtocs have keep unit volume loaded = rows_named (from_slots (kept_of units vtocs have keep unit volume loaded).2)
+
+-- the units of rendered changes are there, on a pool of the same shape
+pub changes_there : {shape now : Shape} (units : List UnitState) (vtocs : List (List ℕ)) (changes : List (ℕ × Change)) (rendered : List Rendered) → now ≡ shape → HaveStates shape units
+    → WereRendered units vtocs changes rendered → All (λ change. change.0 < journal_of now) changes
+changes_there units vtocs changes rendered same have were =
+    subst (λ (n : ℕ). All (λ change. change.0 < n) changes) (have ∙ ap (λ (s : Shape). journal_of s) (sym same)) (are_there units vtocs changes rendered were)
 
 -- ---- faults
 
@@ -74,10 +84,7 @@ module _ {P : Type 0} (pools : Ghosts P) (session : SessionView P) (plan : Plan)
 
 module _ {P : Type 0} (pools : Ghosts P) (old new : JournalView P) (names : List Serial) (units : List UnitState) (vtocs : List (List ℕ)) (reads : OnlyReads pools old new) where
   abbrev Stands : JournalView P → Option Source → Type 0
-  Stands j seen =
-      HasOnlyFills j.control j.fills units × (length names ≡ journal_of (pools.shape j.pool)) × HaveStates (pools.shape j.pool) units × KeepVtocs (pools.shape j.pool) units vtocs
-      × (pools.tells → AreLoaded (pools.shape j.pool) (pools.disk j.pool).state.contents units) × (pools.tells → AreVtocsOf (pools.disk j.pool).state.contents units vtocs)
-      × (pools.tells → AreSeen units (pools.disk j.pool).state.contents seen)
+  Stands j seen = IsSession pools j names units vtocs seen
 
   -- and a data set was seen
   pub session_saw : (before seen : Option Source) → (pools.tells → AreSeen units (contents_of pools old) seen) → Stands old before → Stands new seen
@@ -105,12 +112,13 @@ few_long room units changes none k change less volume loaded = elim (cases_lt ((
 ]
 
 module _ {P : Type 0} (pools : Ghosts P) (old new : JournalView P) (names : List Serial) (units : List UnitState) (vtocs : List (List ℕ)) (reads : OnlyReads pools old new)
-    (plan : Plan) (copies : Option Copies) (rendered : List Rendered) (entries : List Entry) (slot : List ℕ) (control : Option (List ℕ)) where
+    (plan : Plan) (copies : Option Copies) (given : Option GivenTracks) (rendered : List Rendered) (entries : List Entry) (slot : List ℕ) (control : Option (List ℕ)) where
   pub all_ready : HaveStates (pools.shape old.pool) units → KeepVtocs (pools.shape old.pool) units vtocs → IsPlan units plan → AreSized (pools.shape old.pool)
       → MayBegin old.room units plan.changes → AreCopiesOf units plan.tracks plan.changes copies → OnCopies (λ some. length slot ≡ slot_of some.device) copies
-      → (pools.tells → OnCopies (HaveTexts (contents_of pools old)) copies) → WereRendered units vtocs plan.changes rendered → entries ≡ entries_of plan.changes rendered → control ≡ None
-      → IsReady pools (record { session = record { pool = new.pool; room = new.room; names = names; units = units; vtocs = vtocs }; plan = plan; copies = copies; rendered = rendered; entries = entries }) slot control
-  all_ready have keep is sized may are size texts were entries_are alone =
+      → (pools.tells → OnCopies (HaveTexts (contents_of pools old)) copies) → WereRendered units vtocs plan.changes rendered → entries ≡ entries_of plan.changes rendered
+      → MayWriteAll (pools.shape new.pool) plan.changes → AreGivenOf units plan.tracks plan.changes given → OnGiven (λ some. length slot ≡ slot_of some.device) given → control ≡ None
+      → IsReady pools (record { session = record { pool = new.pool; room = new.room; names = names; units = units; vtocs = vtocs }; plan = plan; copies = copies; given = given; rendered = rendered; entries = entries }) slot control
+  all_ready have keep is sized may are size texts were entries_are writable given_are wide alone =
       let small = plans_small units plan is in
       let shape = pools.shape old.pool in
       let ready : AreReady shape old.room entries =
@@ -122,8 +130,12 @@ module _ {P : Type 0} (pools : Ghosts P) (old new : JournalView P) (names : List
         may = subst (λ (s : Shape). OnCopies (MayCopy s) copies) (sym reads.shape) (may_copy units vtocs plan have keep is copies sized are);
         size = size;
         texts = λ told. subst (λ (s : State). OnCopies (HaveTexts s.contents) copies) (sym (reads.same told)) (texts told);
+        given = given_are;
+        may_give = subst (λ (s : Shape). OnGiven (MayGive s) given) (sym reads.shape) (may_give units vtocs plan have keep is given sized given_are);
+        room = wide;
         rendered = were;
         entries_are = entries_are;
         entries = subst (λ (s : Shape). AreReady s new.room entries) (sym reads.shape) (subst (λ (room : ℕ). AreReady shape room entries) (sym reads.status.room) ready);
+        writable = writable;
         alone = alone;
       }

@@ -1,9 +1,11 @@
 -- A step that is planned or copied, what its calls hand on, and why a plan is refused.
-use Rattle.std.specs.Prelude.{◌≡◌, ℕ, ◌-◌, ◌*◌, ◌/◌, ◌<◌, true, List, [], ◌∷◌, ◌++◌, length, Any, All, slice_get, Option, Some, None, Result, Ok, Err}
+use Rattle.std.specs.Prelude.{◌≡◌, ℕ, ◌-◌, ◌*◌, ◌/◌, ◌<◌, Bool, true, List, [], ◌∷◌, ◌++◌, length, Any, All, slice_get, Option, Some, None, Result, Ok, Err}
 use Rattle.ckd_image.specs.Device.{slot_of}
 use Rattle.dasd_pool.specs.Count.{Rose}
 use Rattle.dasd_pool.specs.Disk.{Image, Shape, IsSynced}
 use Rattle.dasd_pool.specs.declared.pool.Pool.{Ghosts}
+use Rattle.dd_names.specs.declared.dd.DdName.{DdName}
+use Rattle.dsn_filter.specs.declared.dsn.Dsn.{Dsn}
 use Rattle.free_map.specs.declared.run.Run.{Run}
 use Rattle.free_map.specs.Runs.{HasTrack}
 use Rattle.redo_core.specs.declared.entries.Entry.{Entry}
@@ -16,27 +18,33 @@ use Rattle.unit_steps.specs.vtoc_render.declared.change.Rendered.{Rendered}
 use Rattle.unit_steps.specs.vtoc_render.Loads.{LoadsFrom}
 use Rattle.unit_steps.specs.vtoc_render.Next.{HasNoRoom, MayChange}
 use Rattle.unit_load.specs.declared.state.UnitState.{UnitState}
+use Rattle.move_core.specs.declared.steps.Origin.TheVariants as origins
 use Rattle.move_core.specs.declared.steps.Step.{Step}
-use Rattle.move_core.specs.Facts.{HasInputs}
+use Rattle.move_core.specs.declared.steps.Step.TheVariants as steps
+use Rattle.move_core.specs.Facts.{Facts, HasInputs, Original}
 use Rattle.unit_steps.specs.Loaded.{TakeLoaded}
 use Rattle.unit_steps.specs.declared.plan.Plan.{Plan}
-use Rattle.unit_steps.specs.Plans.{IsLoadedAt, IsPlan}
+use Rattle.unit_steps.specs.Parts.{GivesPart, HoldsPart, step_of_part}
+use Rattle.unit_steps.specs.Plans.{IsLoadedAt, IsOfUnits, IsPlan, PlansPart}
 use Rattle.unit_steps.specs.Rendering.{WereRendered, entries_of, AreReady}
 use Rattle.unit_session.specs.declared.copies.Copies.{Copies}
+use Rattle.unit_session.specs.declared.copies.GivenTracks.{GivenTracks}
 use Rattle.unit_session.specs.declared.fault.PlanFault.{PlanFault}
 use Rattle.unit_session.specs.declared.fault.PlanFault.TheVariants as faults
 use Rattle.unit_session.specs.declared.fault.PlanStop.{PlanStop}
 use Rattle.unit_session.specs.declared.fault.PlanStop.TheVariants as stops
 use Rattle.unit_session.specs.Copies.{AreCopiesOf, IsFirstBad, HaveTexts, MayCopy, OnCopies}
+use Rattle.unit_session.specs.Given.{AreGivenOf, MayGive, OnGiven}
 use Rattle.unit_session.specs.Sessions.{SessionView, BrokenView, IsSameSession}
 
 -- ---- views
 
--- a session, a plan of its units, the copies that the plan needs, its rendered changes, and their entries
+-- a session, a plan of its units, the copies that the plan needs or the tracks that the caller gives, its rendered changes, and their entries
 pub record PlannedView (P : Type 0) : Type 0 where
   pub session : SessionView P
   pub plan : Plan
   pub copies : Option Copies
+  pub given : Option GivenTracks
   pub rendered : List Rendered
   pub entries : List Entry
 
@@ -58,6 +66,10 @@ abbrev pub pool_copied : {P : Type 0} → Result (CopiedView P) (BrokenView P) �
 pool_copied (Ok next) = next.session.pool
 pool_copied (Err broken) = broken.pool
 
+abbrev pub pool_given : {P : Type 0} → Result (PlannedView P) (BrokenView P) → P
+pool_given (Ok next) = next.session.pool
+pool_given (Err broken) = broken.pool
+
 abbrev pub pool_switched : {P : Type 0} → Result (SessionView P) (BrokenView P) → P
 pool_switched (Ok session) = session.pool
 pool_switched (Err broken) = broken.pool
@@ -76,6 +88,10 @@ pending_by step (Err broken) = Some step
 abbrev pub SparesUnchanged : Shape → Image → List Entry → Image → Type 0
 SparesUnchanged shape contents entries image =
     (u b : ℕ) → u < journal_of shape → placed contents entries u b ≡ contents u b → image u b ≡ contents u b
+
+-- each unit that changes name may be written
+abbrev pub MayWriteAll : Shape → List (ℕ × Change) → Type 0
+MayWriteAll shape changes = All (λ change. shape.may_write change.0 ≡ true) changes
 
 -- ---- why a plan is refused
 
@@ -187,10 +203,34 @@ pub record IsReady {P : Type 0} (pools : Ghosts P) (planned : PlannedView P) (sl
   pub may : OnCopies (MayCopy (pools.shape planned.session.pool)) planned.copies
   pub size : OnCopies (λ copies. length slot ≡ slot_of copies.device) planned.copies
   pub texts : pools.tells → OnCopies (HaveTexts (pools.disk planned.session.pool).state.contents) planned.copies
+  pub given : AreGivenOf planned.session.units planned.plan.tracks planned.plan.changes planned.given
+  pub may_give : OnGiven (MayGive (pools.shape planned.session.pool)) planned.given
+  pub room : OnGiven (λ given. length slot ≡ slot_of given.device) planned.given
   pub rendered : WereRendered planned.session.units planned.session.vtocs planned.plan.changes planned.rendered
   pub entries_are : planned.entries ≡ entries_of planned.plan.changes planned.rendered
   pub entries : AreReady (pools.shape planned.session.pool) planned.session.room planned.entries
+  pub writable : MayWriteAll (pools.shape planned.session.pool) planned.plan.changes
   pub alone : control ≡ None
+
+-- ---- a part
+
+-- What is copied is a part of a dump: the step puts it, it was planned so, and its tracks hold its texts.
+pub record IsMadeOf {P : Type 0} (pools : Ghosts P) (copied : CopiedView P) (original : Original) : Type 0 where
+  pub replaced : Bool
+  pub unit : ℕ
+  pub name : Dsn
+  pub to : List Run
+  pub input : DdName
+  pub number : ℕ
+  pub step_is : copied.plan.step ≡ step_of_part replaced unit name to input number
+  pub part : PlansPart replaced copied.session.units original unit name to copied.plan.changes
+  pub gives : pools.tells → GivesPart part (pools.disk copied.session.pool).state.contents
+
+-- the input that a step takes a part from holds it
+abbrev pub HoldsOriginal : Step → Original → Facts → Type 0
+HoldsOriginal (steps.Add unit name to (origins.Part input number)) original facts = HoldsPart input number original facts
+HoldsOriginal (steps.Replace unit name to (origins.Part input number)) original facts = HoldsPart input number original facts
+HoldsOriginal step original facts = ⊥
 
 -- one commit makes the step, of these entries alone
 pub record MaySwitch {P : Type 0} (pools : Ghosts P) (copied : CopiedView P) (control : Option (List ℕ)) : Type 0 where
@@ -200,5 +240,8 @@ pub record MaySwitch {P : Type 0} (pools : Ghosts P) (copied : CopiedView P) (co
   pub entries : AreReady (pools.shape copied.session.pool) copied.session.room copied.entries
   pub alone : control ≡ None
   pub synced : pools.tells → IsSynced (pools.disk copied.session.pool).state
-  pub takes : pools.tells → TakeLoaded (HasInputs None) (pools.shape copied.session.pool) copied.session.room copied.session.units
+  pub takes : pools.tells → IsOfUnits copied.plan.step → TakeLoaded (HasInputs None) (pools.shape copied.session.pool) copied.session.room copied.session.units
+      (pools.disk copied.session.pool).state.contents copied.plan.step copied.entries
+  pub part : pools.tells → (original : Original) → IsMadeOf pools copied original
+      → TakeLoaded (HoldsOriginal copied.plan.step original) (pools.shape copied.session.pool) copied.session.room copied.session.units
       (pools.disk copied.session.pool).state.contents copied.plan.step copied.entries

@@ -12,7 +12,9 @@ ghost use Rattle.unit_steps.specs.unit_change.Changed.{extents_of};
 ghost use Rattle.unit_steps.specs.Plans.{IsLoadedAt, IsPlan};
 ghost use Rattle.unit_steps.specs.Copied.{IsPutBy};
 ghost use Rattle.unit_session.specs.Copies.{moves_between, HasSource, HasTarget, AreRowCopies, AreCopiesOf};
+ghost use Rattle.unit_session.specs.Given.{AreGivenOf, AreTracksPut};
 ghost use Rattle.unit_session.specs.declared.copies.Copies.{Copies as CopiesOf};
+ghost use Rattle.unit_session.specs.declared.copies.GivenTracks.{GivenTracks as GivenOf};
 
 use ckd_image::{Device, NoMemory};
 use dscb_rec::Extent;
@@ -38,6 +40,14 @@ pub struct Copies {
     pub unit: u32,
     pub moves: Vec<TextMove>,
     pub empty: Vec<u32>,
+}
+
+/// The tracks of a row that a plan puts on a unit, in order, where the caller gives the text of each.
+#[derive(Debug, Drop)]
+pub struct GivenTracks {
+    pub device: Device,
+    pub unit: u32,
+    pub tracks: Vec<u32>,
 }
 
 /// The volume of a unit, if it is online.
@@ -170,5 +180,41 @@ fn copies_from(
         unit,
         moves: moves_of(alloc, source.unit == unit, &old, &new)?,
         empty,
+    }))
+}
+
+/// The given tracks of a plan, if the caller gives the texts of its new tracks.
+pub(crate) fn given_of(
+    alloc: Global,
+    units: &[UnitState],
+    plan: &Plan,
+) -> Result<Option<GivenTracks>, NoMemory>
+    requires { IsPlan units.now plan.now }
+    ensures { IfOk result (AreGivenOf units.now plan.now.tracks plan.now.changes) }
+{
+    match (plan.tracks, plan.changes.as_slice().first()) {
+        (Tracks::Given, Some((unit, change))) => given_by(alloc, units, *unit, change),
+        _ => Ok(None),
+    }
+}
+
+/// The tracks of what a change puts on a unit.
+fn given_by(
+    alloc: Global,
+    units: &[UnitState],
+    unit: u32,
+    change: &Change,
+) -> Result<Option<GivenTracks>, NoMemory>
+    requires { HasTarget units.now unit change.now }
+    ensures { IfOk result (λ given. (some : GivenOf) × (given ≡ Some some) × AreTracksPut units.now unit change.now some) }
+{
+    let (Some(volume), Some(row)) = (volume_at(units, unit), put_by(change)) else {
+        unreachable!()
+    };
+    let tracks = tracks_of(alloc, volume.device, row)?;
+    Ok(Some(GivenTracks {
+        device: volume.device,
+        unit,
+        tracks,
     }))
 }

@@ -4,6 +4,7 @@
 mod copies;
 mod copying;
 mod fault;
+mod giving;
 mod load;
 mod patching;
 mod planned;
@@ -11,9 +12,9 @@ mod rendering;
 mod session;
 mod texts;
 
-pub use copies::{Copies, TextMove};
+pub use copies::{Copies, GivenTracks, TextMove};
 pub use fault::{Broken, PlanFault, PlanStop};
 pub use planned::{Copied, Planned};
-pub use session::Session;
+pub use session::{Session, SessionParts};
 pub use unit_steps;
 pub use unit_steps::vtoc_render;

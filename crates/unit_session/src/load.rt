@@ -30,7 +30,7 @@ fn load_one<P: Pool>(
     ensures short { P.tells → AreShort ((P.shape journal.old.pool).blocks unit) ((P.disk journal.old.pool).state.contents unit) }
     ensures fault { IfErr result (IsUnitFault (P.faults journal.old.pool) (P.faults journal.new.pool)) }
 {
-    let _size = journal.block_size(unit);
+    journal.sizes();
     let under_way = if journal.filling(unit) {
         UnderWay::Fill
     } else {

@@ -1,35 +1,39 @@
 //! A step that is planned, and carried out in two calls.
 
-ghost use Rattle.std.specs.Prelude.{◌≡◌, ◌↔◌, [], None, Some, length, IsTrue, IfOk, IfErr, OnOk, IsErr};
+ghost use Rattle.std.specs.Prelude.{◌≡◌, ◌↔◌, ◌<◌, [], None, Some, length, All, IsTrue, IfOk, IfErr, OnOk, IsErr};
 ghost use Rattle.ckd_image.specs.Device.{slot_of};
+ghost use Rattle.ckd_image.specs.Track.{IsTrack};
 ghost use Rattle.dasd_pool.specs.Count.{Rose};
 ghost use Rattle.dasd_pool.specs.Disk.{IsSynced, LeavesOnly, Runs, none};
-ghost use Rattle.move_core.specs.Facts.{shown};
-ghost use Rattle.move_core.specs.Runs.{AreCalls, IsRun, Ended};
+ghost use Rattle.move_core.specs.Facts.{Original, shown};
+ghost use Rattle.move_core.specs.Runs.{AreCalls, IsRun, IsRunFor, Ended};
 ghost use Rattle.redo_core.specs.Phases.{of_commit};
 ghost use Rattle.redo_core.specs.Reading.{journal_of};
 ghost use Rattle.unit_load.specs.Reads.{OnlyReads};
-ghost use Rattle.unit_steps.specs.Laws.{AreSized};
-ghost use Rattle.unit_steps.specs.Plans.{IsPlan};
+ghost use Rattle.unit_steps.specs.Plans.{IsOfUnits, IsPlan};
 ghost use Rattle.unit_steps.specs.Rendering.{WereRendered, entries_of, units_after};
 ghost use Rattle.unit_session.specs.Sessions.{IsSameSession};
 ghost use Rattle.unit_session.specs.declared.copies.Copies.{Copies as CopiesOf};
 ghost use Rattle.unit_session.specs.Copies.{AreCopiesOf, OnCopies, MayCopy, HaveTexts, IsLookFault, OnlyWrites, CopiesLeave, IsShortFor, contents_of, may_write_for};
+ghost use Rattle.unit_session.specs.Given.{AreGivenOf, AreNotBoth, FitsAt, GivesAt, IsGivenAt, OnGiven, is_given};
 ghost use Rattle.unit_session.specs.Texts.{IsSeen};
-ghost use Rattle.unit_session.specs.Planned.{pool_planned, pool_copied, pool_switched, done_by, pending_by, IsPlanFault, IsKeptAs, MayBegin, IsReady, SparesUnchanged};
+ghost use Rattle.unit_session.specs.Planned.{pool_planned, pool_copied, pool_given, pool_switched, done_by, pending_by, HoldsOriginal, IsMadeOf, IsPlanFault, IsKeptAs, MayBegin, MayWriteAll, IsReady, SparesUnchanged};
 
-use crate::copies::{Copies, Source, copies_of};
+use crate::copies::{Copies, GivenTracks, Source, copies_of, given_of};
 use crate::copying::{look_at_texts, place_copies};
 use crate::fault::{Broken, PlanFault, PlanStop};
+use crate::giving::write_given;
 use crate::patching::{patched, renewed};
 use crate::rendering::{bar_of, entries_for, render_all};
 use crate::session::Session;
+use ckd_image::Track;
 use dasd_pool::{Pool, PoolFault};
 use redo_core::{Entries, Journal};
 use std::alloc::Global;
 use std::marker::Model;
 use unit_steps::vtoc_render::Rendered;
 use unit_steps::{Plan, Tracks};
+use volume_change::Change;
 
 /// A session and a plan of which all is ready: nothing is written, and no memory is taken any more.
 #[derive(Drop)]
@@ -48,10 +52,11 @@ pub struct Copied<P: Pool> {
     entries: Entries,
 }
 
-/// What a plan needs: its copies with room for a slot, its rendered changes, and their entries.
+/// What a plan needs: its copies or the tracks that the caller gives, with room for a slot, its rendered changes, and their entries.
 #[derive(Drop)]
 struct Work {
     copies: Option<Copies>,
+    given: Option<GivenTracks>,
     slot: Vec<u8>,
     rendered: Vec<Rendered>,
     entries: Entries,
@@ -62,9 +67,9 @@ impl<P: Pool> Model for Planned<P> {
 
     ghost Value = { PlannedView P };
 
-    ghost view = { λ p. record { session = p.session; plan = p.plan; copies = p.work.copies; rendered = p.work.rendered.items; entries = p.work.entries.blocks } };
+    ghost view = { λ p. record { session = p.session; plan = p.plan; copies = p.work.copies; given = p.work.given; rendered = p.work.rendered.items; entries = p.work.entries.blocks } };
 
-    ghost invariant = { λ p. IsReady P.Pool (record { session = p.session; plan = p.plan; copies = p.work.copies; rendered = p.work.rendered.items; entries = p.work.entries.blocks })
+    ghost invariant = { λ p. IsReady P.Pool (record { session = p.session; plan = p.plan; copies = p.work.copies; given = p.work.given; rendered = p.work.rendered.items; entries = p.work.entries.blocks })
         p.work.slot.items p.work.entries.control };
 }
 
@@ -78,28 +83,52 @@ impl<P: Pool> Model for Copied<P> {
     ghost invariant = { λ c. MaySwitch P.Pool (record { session = c.session; plan = c.plan; rendered = c.rendered.items; entries = c.entries.blocks }) c.entries.control };
 }
 
-/// Room for a slot that is copied.
-fn slot_for(alloc: Global, copies: &Option<Copies>) -> Result<Vec<u8>, PlanFault>
+/// How many bytes the slots have that are copied or given.
+fn size_for(copies: &Option<Copies>, given: &Option<GivenTracks>) -> u32
+    requires { AreNotBoth copies.now given.now }
+    ensures copied { OnCopies (λ some. result ≡ slot_of some.device) copies.now }
+    ensures given { OnGiven (λ some. result ≡ slot_of some.device) given.now }
+{
+    if let Some(copies) = copies {
+        return copies.device.slot();
+    }
+    match given {
+        Some(given) => given.device.slot(),
+        None => 0,
+    }
+}
+
+/// Room for a slot that is copied or given.
+fn slot_for(
+    alloc: Global,
+    copies: &Option<Copies>,
+    given: &Option<GivenTracks>,
+) -> Result<Vec<u8>, PlanFault>
+    requires { AreNotBoth copies.now given.now }
     ensures size { IfOk result (λ slot. OnCopies (λ some. length slot.items ≡ slot_of some.device) copies.now) }
+    ensures given { IfOk result (λ slot. OnGiven (λ some. length slot.items ≡ slot_of some.device) given.now) }
     ensures fault { IfErr result (λ fault. fault ≡ PlanFault.NoMemory) }
 {
-    let size = match copies {
-        Some(copies) => copies.device.slot(),
-        None => 0,
-    };
+    let size = size_for(copies, given);
     match vec![in alloc; 0u8; size as usize] {
         Ok(slot) => Ok(slot),
         Err(_) => Err(PlanFault::NoMemory),
     }
 }
 
-/// The blocks of each unit have the size that its head says.
-fn are_sized<P: Pool>(journal: &Journal<P>)
-    ensures { AreSized (P.shape journal.now.pool) }
+/// Asks whether each unit that changes name may be written.
+fn ask_units<P: Pool>(journal: &mut Journal<P>, changes: &[(u32, Change)]) -> Result<(), PlanFault>
+    requires { All (λ change. change.0 < journal_of (P.shape journal.old.pool)) changes.now }
+    ensures reads { OnlyReads P.Pool journal.old journal.new }
+    ensures writable { OnOk result (MayWriteAll (P.shape journal.old.pool) changes.now) }
+    ensures fault { IfErr result (λ fault. (fault ≡ PlanFault.Pool) × Rose (P.faults journal.old.pool) (P.faults journal.new.pool)) }
 {
-    for unit in 0..journal.units() {
-        let _size = journal.block_size(unit);
+    for (unit, _) in changes {
+        let Ok(()) = journal.ask_to_write(*unit) else {
+            return Err(PlanFault::Pool);
+        };
     }
+    Ok(())
 }
 
 /// Looks whether each track that is to be copied has a text, if there are any.
@@ -157,7 +186,8 @@ fn look_unless_seen<P: Pool>(
 
 impl<P: Pool> Session<P> {
     /// Makes a step ready: nothing is written. The plan is refused where a volume that it changes has an index, or a VTOC of more tracks than half of
-    /// what a commit may have less one; where a track to be copied has no text; or where a VTOC has no room.
+    /// what a commit may have less one; where a track to be copied has no text; where a VTOC has no room; or, as a fault of the pool, where a unit that
+    /// it changes may not be written.
     pub fn plan(self, plan: Plan) -> Result<Planned<P>, PlanStop<P>>
         requires { IsPlan self.units plan }
         ensures run { IsRun P.tells (shown P.Pool self.pool) (shown P.Pool (pool_planned result)) (Unit {0}) [] None }
@@ -166,10 +196,14 @@ impl<P: Pool> Session<P> {
         ensures plan { IfOk result (λ planned. planned.plan ≡ plan) }
         ensures allowed { IfOk result (λ planned. MayBegin self.room self.units plan.changes) }
         ensures rendered { IfOk result (λ planned. WereRendered self.units self.vtocs plan.changes planned.rendered) }
+        ensures writable { IfOk result (λ planned. MayWriteAll (P.shape planned.session.pool) plan.changes) }
 
         // The copies are those of its tracks, each of which has a text.
         ensures copies { IfOk result (λ planned. AreCopiesOf self.units plan.tracks plan.changes planned.copies) }
         ensures texts { P.tells → IfOk result (λ planned. OnCopies (HaveTexts (P.disk planned.session.pool).state.contents) planned.copies) }
+
+        // The given tracks are those of the row that its change puts.
+        ensures given { IfOk result (λ planned. AreGivenOf self.units plan.tracks plan.changes planned.given) }
         ensures refused { IfErr result (IsKeptAs P.Pool self (λ kept. IsPlanFault P.Pool self plan kept.pool)) }
     {
         let mut session = self;
@@ -189,7 +223,7 @@ impl<P: Pool> Session<P> {
         ensures run { IsRun P.tells (shown P.Pool self.old.pool) (shown P.Pool self.new.pool) (Unit {0}) [] None }
         ensures writes { P.tells → Runs none (P.disk self.old.pool) (P.disk self.new.pool) }
         ensures session { IsSameSession P.Pool self.old self.new }
-        ensures ready { IfOk result (λ work. IsReady P.Pool (record { session = self.new; plan = plan.now; copies = work.copies; rendered = work.rendered.items; entries = work.entries.blocks })
+        ensures ready { IfOk result (λ work. IsReady P.Pool (record { session = self.new; plan = plan.now; copies = work.copies; given = work.given; rendered = work.rendered.items; entries = work.entries.blocks })
             work.slot.items work.entries.control) }
         ensures allowed { OnOk result (MayBegin self.old.room self.old.units plan.now.changes) }
         ensures fault { IfErr result (IsPlanFault P.Pool self.old plan.now self.new.pool) }
@@ -198,9 +232,10 @@ impl<P: Pool> Session<P> {
         if let Some(fault) = bar_of(self.journal.room(), &self.units, changes) {
             return Err(fault);
         }
-        are_sized(&self.journal);
+        self.journal.sizes();
         let copies = copies_of(self.alloc, &self.units, plan)?;
-        let mut slot = slot_for(self.alloc, &copies)?;
+        let given = given_of(self.alloc, &self.units, plan)?;
+        let mut slot = slot_for(self.alloc, &copies, &given)?;
         look_unless_seen(
             &mut self.journal,
             &self.seen,
@@ -210,8 +245,11 @@ impl<P: Pool> Session<P> {
         )?;
         let rendered = render_all(self.alloc, &self.units, &self.vtocs, changes)?;
         let entries = entries_for(self.alloc, changes, &rendered)?;
+        // A unit is asked last, so that another cause is told first also where it may only be read.
+        ask_units(&mut self.journal, changes)?;
         Ok(Work {
             copies,
+            given,
             slot,
             rendered,
             entries,
@@ -236,8 +274,7 @@ fn place_any<P: Pool>(
     match copies {
         Some(copies) => {
             place_copies(alloc, journal, copies, slot)?;
-            // A pool's blocks are never longer than a slot can be.
-            let _size = journal.block_size(copies.unit);
+            journal.sizes();
             Ok(())
         }
         None => Ok(()),
@@ -264,6 +301,64 @@ fn make_copies<P: Pool>(
 }
 
 impl<P: Pool> Planned<P> {
+    /// Writes the text of a given track, past the journal. Another text for the track takes the place of the first. No memory is taken.
+    pub fn give(self, index: u32, track: &Track) -> Result<Planned<P>, Broken<P>>
+        requires place { GivesAt self.given index }
+        requires track { IsTrack track.now }
+        requires fits { FitsAt self.given index track.now }
+        ensures run { AreCalls P.tells (shown P.Pool self.session.pool) (shown P.Pool (pool_given result)) (Ended result) [] None }
+        ensures writes { P.tells → Runs (is_given self.given index) (P.disk self.session.pool) (P.disk (pool_given result)) }
+        ensures text { P.tells → IfOk result (λ next. IsGivenAt self.given index track.now (P.disk next.session.pool).state.contents) }
+        ensures plan { IfOk result (λ next. next.plan ≡ self.plan) }
+        ensures copies { IfOk result (λ next. next.copies ≡ self.copies) }
+        ensures given { IfOk result (λ next. next.given ≡ self.given) }
+        ensures rendered { IfOk result (λ next. next.rendered ≡ self.rendered) }
+        ensures entries { IfOk result (λ next. next.entries ≡ self.entries) }
+        ensures session { IfOk result (λ next. (next.session.room ≡ self.session.room) × (next.session.names ≡ self.session.names)
+            × (next.session.units ≡ self.session.units) × (next.session.vtocs ≡ self.session.vtocs)) }
+        ensures pending { IfErr result (λ broken. broken.pending ≡ Some self.plan.step) }
+    {
+        let Planned {
+            session,
+            plan,
+            work,
+        } = self;
+        let Session {
+            alloc,
+            journal,
+            names,
+            units,
+            vtocs,
+            ..
+        } = session;
+        let mut journal = journal;
+        let mut work = work;
+        // What was seen is forgotten with the first write.
+        let seen = None;
+        journal.rests();
+        match write_given(&mut journal, &work.given, index, track, &mut work.slot) {
+            Ok(()) => Ok(Planned {
+                session: Session {
+                    alloc,
+                    journal,
+                    names,
+                    units,
+                    vtocs,
+                    seen,
+                },
+                plan,
+                work,
+            }),
+            Err(_) => {
+                let pending = Some(plan.step);
+                Err(Broken {
+                    pool: journal.into_pool(),
+                    pending,
+                })
+            }
+        }
+    }
+
     /// Copies texts to the new tracks, past the journal, and makes them durable with one sync, also where there are none. Where that fails, the step is
     /// under way: some of its tracks may be written, on which nothing rests, so that the units stand as before.
     pub fn copy(self) -> Result<Copied<P>, Broken<P>>
@@ -274,6 +369,7 @@ impl<P: Pool> Planned<P> {
         ensures of_plan { IsPlan self.session.units self.plan }
         ensures copies { AreCopiesOf self.session.units self.plan.tracks self.plan.changes self.copies }
         ensures may { OnCopies (MayCopy (P.shape self.session.pool)) self.copies }
+        ensures writable { MayWriteAll (P.shape self.session.pool) self.plan.changes }
         ensures plan { IfOk result (λ next. next.plan ≡ self.plan) }
         ensures rendered { IfOk result (λ next. next.rendered ≡ self.rendered) }
         ensures entries { IfOk result (λ next. next.entries ≡ self.entries) }
@@ -324,7 +420,7 @@ impl<P: Pool> Planned<P> {
         }
     }
 
-    /// Leaves the step undone. Nothing was written.
+    /// Leaves the step undone. Nothing was written, but for given texts, on which nothing rests.
     pub fn abandon(self) -> Session<P>
         ensures { result ≡ self.session }
     {
@@ -336,7 +432,12 @@ impl<P: Pool> Planned<P> {
 impl<P: Pool> Copied<P> {
     /// Makes the step, by one commit of the tracks of VTOCs that it changes.
     pub fn switch(self) -> Result<Session<P>, Broken<P>>
-        ensures run { IsRun P.tells (shown P.Pool self.session.pool) (shown P.Pool (pool_switched result)) (Ended result) (done_by self.plan.step result) (pending_by self.plan.step result) }
+        ensures run { IsOfUnits self.plan.step
+            → IsRun P.tells (shown P.Pool self.session.pool) (shown P.Pool (pool_switched result)) (Ended result) (done_by self.plan.step result) (pending_by self.plan.step result) }
+
+        // The step of a part is one wherever an input holds what its tracks hold.
+        ensures part { (original : Original) → IsMadeOf P.Pool self original
+            → IsRunFor (HoldsOriginal self.plan.step original) P.tells (shown P.Pool self.session.pool) (shown P.Pool (pool_switched result)) (Ended result) (done_by self.plan.step result) (pending_by self.plan.step result) }
 
         // Blocks of the journal are written, and those of the entries. Each is another slot than its block holds, so that a stop leaves every block of a
         // volume that stays the same with its bytes.

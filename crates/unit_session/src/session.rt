@@ -16,9 +16,11 @@ ghost use Rattle.unit_load.specs.Kept.{IsKept};
 ghost use Rattle.unit_load.specs.Reads.{OnlyReads};
 ghost use Rattle.unit_steps.specs.Loaded.{AreLoaded, HaveFills, HaveStates, KeepVtocs, AreVtocsOf, AreModels, IsModel};
 ghost use Rattle.standing_units.specs.Standing.{IsSettledFor};
-ghost use Rattle.unit_session.specs.Sessions.{begun, HasBegun, IsRefusal, IsSameSession};
+ghost use Rattle.unit_steps.specs.Plans.{IsLoadedAt};
+ghost use Rattle.unit_session.specs.Sessions.{begun, AreParts, HasBegun, IsRefusal, IsSameSession, IsSession};
+ghost use Rattle.vtoc_core.specs.declared.volume.Volume.{Volume as VolumeOf};
 
-use crate::copies::Source;
+use crate::copies::{Source, volume_at};
 use crate::load::{LoadedUnits, load_units};
 use ckd_image::{Bytes, CkdFault, Head};
 use dasd_pool::{Pool, PoolFault};
@@ -27,6 +29,7 @@ use std::alloc::{AllocError, Global};
 use std::marker::Model;
 use unit_load::{UnitFault, UnitState};
 use vol_label::Serial;
+use vtoc_core::Volume;
 
 /// The volumes of a pool between two steps: its open journal, in which no slide is open, the registered serials, and each unit as it was loaded, with
 /// the slots of its VTOC; and the data set of which each track was last seen to have a text, while nothing was written since.
@@ -41,23 +44,23 @@ pub struct Session<P: Pool> {
 }
 
 impl<P: Pool> Model for Session<P> {
-    ghost use Rattle.std.specs.Prelude.{◌≡◌, length};
-    ghost use Rattle.redo_core.specs.Reading.{journal_of};
-    ghost use Rattle.unit_steps.specs.Loaded.{AreLoaded, HaveStates, KeepVtocs, AreVtocsOf};
-    ghost use Rattle.unit_session.specs.Sessions.{SessionView, HasOnlyFills};
-    ghost use Rattle.unit_session.specs.Texts.{AreSeen};
+    ghost use Rattle.unit_session.specs.Sessions.{SessionView, IsSession};
 
     ghost Value = { SessionView P };
 
     ghost view = { λ s. record { pool = s.journal.pool; room = s.journal.room; names = s.names.items; units = s.units.items; vtocs = s.vtocs.items } };
 
-    ghost invariant = { λ s. HasOnlyFills s.journal.control s.journal.fills s.units.items
-        × (length s.names.items ≡ journal_of (P.shape s.journal.pool))
-        × HaveStates (P.shape s.journal.pool) s.units.items
-        × KeepVtocs (P.shape s.journal.pool) s.units.items s.vtocs.items
-        × (P.tells → AreLoaded (P.shape s.journal.pool) (P.disk s.journal.pool).state.contents s.units.items)
-        × (P.tells → AreVtocsOf (P.disk s.journal.pool).state.contents s.units.items s.vtocs.items)
-        × (P.tells → AreSeen s.units.items (P.disk s.journal.pool).state.contents s.seen) };
+    ghost invariant = { λ s. IsSession P.Pool s.journal s.names.items s.units.items s.vtocs.items s.seen };
+}
+
+/// What a session is made of.
+#[derive(Drop)]
+pub struct SessionParts<P: Pool> {
+    pub alloc: Global,
+    pub journal: Journal<P>,
+    pub names: Vec<Serial>,
+    pub units: Vec<UnitState>,
+    pub vtocs: Vec<Bytes>,
 }
 
 /// Copies of serials.
@@ -231,6 +234,17 @@ impl<P: Pool> Session<P> {
         &self.units[unit as usize]
     }
 
+    /// The volume of a unit that is online.
+    pub fn volume(&self, unit: u32) -> &Volume
+        requires { (volume : VolumeOf) × IsLoadedAt self.now.units unit volume }
+        ensures { IsLoadedAt self.now.units unit result.now }
+    {
+        let Some(volume) = volume_at(&self.units, unit) else {
+            unreachable!()
+        };
+        volume
+    }
+
     /// Reads the slot of a track.
     pub fn read_slot(&mut self, unit: u32, track: u32, buf: &mut [u8]) -> Result<(), PoolFault>
         requires unit { unit < journal_of (P.shape self.old.pool) }
@@ -243,6 +257,50 @@ impl<P: Pool> Session<P> {
         ensures same { IsSameSession P.Pool self.old self.new }
     {
         self.journal.read(unit, track, buf)
+    }
+
+    /// The parts of a session.
+    pub fn into_parts(self) -> SessionParts<P>
+        ensures parts { AreParts self result }
+        ensures session { IsSession P.Pool result.journal result.names.items result.units.items result.vtocs.items None }
+    {
+        let Session {
+            alloc,
+            journal,
+            names,
+            units,
+            vtocs,
+            ..
+        } = self;
+        SessionParts {
+            alloc,
+            journal,
+            names,
+            units,
+            vtocs,
+        }
+    }
+
+    /// A session of parts that are those of one.
+    pub fn from_parts(parts: SessionParts<P>) -> Session<P>
+        requires { IsSession P.Pool parts.journal parts.names.items parts.units.items parts.vtocs.items None }
+        ensures { AreParts result parts }
+    {
+        let SessionParts {
+            alloc,
+            journal,
+            names,
+            units,
+            vtocs,
+        } = parts;
+        Session {
+            alloc,
+            journal,
+            names,
+            units,
+            vtocs,
+            seen: None,
+        }
     }
 
     /// The pool alone.

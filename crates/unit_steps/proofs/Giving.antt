@@ -1,5 +1,5 @@
 -- Plans that put a part of a dump.
-use Rattle.std.proofs.Common.{◌≡◌, ◌≢◌, inl, ℕ, ◌-◌, Bool, true, false, List, [], ◌∷◌, ◌++◌, length, map, replicate, refl, sym, ap, subst, ◌∙◌}
+use Rattle.std.proofs.Common.{◌≡◌, inl, ℕ, ◌-◌, Bool, true, false, List, [], ◌∷◌, ◌++◌, length, map, replicate, refl, sym, ap, subst, ◌∙◌}
 use Rattle.std.specs.Prelude.{AllPairs}
 use Rattle.ckd_image.specs.declared.device.Device.{Device}
 use Rattle.ckd_image.specs.Device.{heads_of}
@@ -16,12 +16,11 @@ use Rattle.unit_change.specs.Changed.{AreGone, AreTextsPut, extents_of, set_put,
 use Rattle.unit_load.specs.declared.state.UnitState.{UnitState}
 use Rattle.move_core.specs.declared.steps.Origin.TheVariants as origins
 use Rattle.move_core.specs.declared.steps.Step.{Step}
-use Rattle.move_core.specs.declared.steps.Step.TheVariants as steps
 use Rattle.move_core.specs.Facts.{Facts, Original}
 use Rattle.move_core.specs.Steps.{MayTake, LieOnCylinders, fields_at, empty_text, tracks_for, IsCopy, Gives, Puts, IsStep}
 use Rattle.unit_steps.specs.Loaded.{HaveStates, AreLoaded, HaveFills, KeepVtocs, AreVtocsOf}
-use Rattle.unit_steps.specs.Parts.{HoldsPart, GivesPart, PlansPart}
-use Rattle.unit_steps.specs.Plans.{putting}
+use Rattle.unit_steps.specs.Parts.{HoldsPart, GivesPart}
+use Rattle.unit_steps.specs.Plans.{PlansPart, putting}
 use Rattle.unit_steps.specs.Rendering.{WereRendered, entries_of}
 use Rattle.unit_steps.proofs.OneChange.{TakesModelsFor, IsHere, to_unit, take_one, from_one}
 use Rattle.unit_steps.proofs.Putting.{put_sets, put_texts, may_put}

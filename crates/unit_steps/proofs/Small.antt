@@ -71,10 +71,12 @@ planned_small units (steps.Move unit name to) tracks changes is = small_one unit
 planned_small units (steps.Shrink unit name keep) tracks changes is = small_one unit (Swap name is.1.swap.row) changes is.1.swap.changes_are (swap_no_mark name is.1.swap.row)
 planned_small units (steps.Add unit name to (origins.Row from origin)) tracks changes is =
     small_one unit is.1.change changes is.1.changes_are (put_small false name is.1.copy.row is.1.change is.1.copy.change_is)
-planned_small units (steps.Add unit name to (origins.Part input number)) tracks changes is = absurd is
+planned_small units (steps.Add unit name to (origins.Part input number)) tracks changes is =
+    small_one unit is.1.1.change changes is.1.1.changes_are (put_small false name is.1.1.row is.1.1.change is.1.1.change_is)
 planned_small units (steps.Replace unit name to (origins.Row from origin)) tracks changes is =
     small_one unit is.1.change changes is.1.changes_are (put_small true name is.1.copy.row is.1.change is.1.copy.change_is)
-planned_small units (steps.Replace unit name to (origins.Part input number)) tracks changes is = absurd is
+planned_small units (steps.Replace unit name to (origins.Part input number)) tracks changes is =
+    small_one unit is.1.1.change changes is.1.1.changes_are (put_small true name is.1.1.row is.1.1.change is.1.1.change_is)
 planned_small units (steps.Delete unit name) tracks changes is = small_one unit (Remove name) changes is.1.changes_are (remove_no_mark name)
 planned_small units (steps.Carry from origin unit name to replaced) tracks changes is =
     small_two unit from is.1.change (Remove origin) changes is.1.changes_are (λ same. is.1.apart (sym same))

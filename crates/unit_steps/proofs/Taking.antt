@@ -1,9 +1,11 @@
 -- The entries of a plan take the units by its step.
-use Rattle.std.proofs.Common.{◌≡◌, ℕ, ◌<◌, ◌≤◌, Bool, List, [], ◌∷◌, map, All, false, refl, sym, ap, subst, ◌∙◌, arith}
+use Rattle.std.proofs.Common.{◌≡◌, ℕ, ◌<◌, ◌≤◌, Bool, List, [], ◌∷◌, map, All, true, false, refl, sym, ap, subst, ◌∙◌, arith}
 use Rattle.std.specs.Prelude.{if◌then◌else◌}
 use Rattle.std.proofs.lemmas.List.Elements.{All-nil, All-cons, All-append, All-head, All-map, All-tail, All-weaker}
 use Rattle.std.proofs.lemmas.Option.{slice_get_within}
 use Rattle.dasd_pool.specs.Disk.{Image, Shape, State}
+use Rattle.dd_names.specs.declared.dd.DdName.{DdName}
+use Rattle.dsn_filter.specs.declared.dsn.Dsn.{Dsn}
 use Rattle.free_map.specs.declared.run.Run.{Run}
 use Rattle.redo_core.specs.declared.control.Control.{Control}
 use Rattle.redo_core.specs.declared.entries.Entry.{Entry}
@@ -28,15 +30,16 @@ use Rattle.move_core.specs.declared.steps.Step.TheVariants as steps
 use Rattle.move_core.specs.Facts.{Facts}
 use Rattle.move_core.specs.Laws.{WillStand, OpensNoSlide}
 use Rattle.move_core.specs.Stands.{is_sliding, place_in, IsAfterSlide, Means, IsSettled}
+use Rattle.move_core.specs.Steps.{Puts, IsStep}
 use Rattle.move_core.specs.Taking.{IsQuiet, AreSame, TakeUnitsFor}
 use Rattle.unit_steps.specs.declared.plan.Tracks.{Tracks}
 use Rattle.unit_steps.specs.declared.plan.Tracks.TheVariants as texts
 use Rattle.unit_steps.specs.Copied.{DifferOnFree, AreHeld}
 use Rattle.unit_steps.specs.Laws.{PlansTakeUnits}
-use Rattle.unit_steps.specs.Parts.{PartsTakeUnits}
+use Rattle.unit_steps.specs.Parts.{PartsTakeUnits, step_of_part}
 use Rattle.unit_steps.proofs.Giving.{part_taken}
 use Rattle.unit_steps.specs.Loaded.{HaveStates, AreLoaded, HaveFills, KeepVtocs, AreVtocsOf}
-use Rattle.unit_steps.specs.Plans.{Plans}
+use Rattle.unit_steps.specs.Plans.{Plans, IsOfUnits}
 use Rattle.unit_steps.specs.Rendering.{WasRendered, WereRendered, entry_for, entries_of}
 use Rattle.unit_steps.proofs.Blocks.{rendered_blocks}
 use Rattle.unit_steps.proofs.Carrying.{carry_taken}
@@ -194,37 +197,43 @@ module _ (shape : Shape) (units : List UnitState) (fills : List Bool) (fit : Hav
   rows_held : (from : ℕ) (name : _) (tracks : Tracks) → tracks ≡ texts.Rows from name → AreHeld units tracks changes old new → AreHeld units (texts.Rows from name) changes old new
   rows_held from name tracks is held = subst (λ (t : Tracks). AreHeld units t changes old new) is held
 
-  planned_taken : (step : Step) (tracks : Tracks) → Plans units step tracks changes → AreHeld units tracks changes old new → TakesModels shape fills new step (entries_of changes rendered)
-  planned_taken (steps.Move unit name to) tracks is held =
+  planned_taken : (step : Step) (tracks : Tracks) → Plans units step tracks changes → IsOfUnits step → AreHeld units tracks changes old new → TakesModels shape fills new step (entries_of changes rendered)
+  planned_taken (steps.Move unit name to) tracks is of held =
       move_taken shape units fills fit vtocs old new have are keep vtocs_are differ changes rendered were unit name to is.1 (rows_held unit name tracks is.0 held)
-  planned_taken (steps.Shrink unit name kept) tracks is held = shrink_taken shape units fills fit vtocs new have are keep vtocs_are changes rendered were unit name kept is.1
-  planned_taken (steps.Add unit name to (origins.Row from origin)) tracks is held =
+  planned_taken (steps.Shrink unit name kept) tracks is of held = shrink_taken shape units fills fit vtocs new have are keep vtocs_are changes rendered were unit name kept is.1
+  planned_taken (steps.Add unit name to (origins.Row from origin)) tracks is of held =
       add_taken shape units fills fit vtocs old new have are keep vtocs_are differ changes rendered were from origin unit name to is.1 (rows_held from origin tracks is.0 held)
-  planned_taken (steps.Add unit name to (origins.Part input number)) tracks is held = absurd is
-  planned_taken (steps.Replace unit name to (origins.Row from origin)) tracks is held =
+  planned_taken (steps.Add unit name to (origins.Part input number)) tracks is of held = absurd of
+  planned_taken (steps.Replace unit name to (origins.Row from origin)) tracks is of held =
       replace_taken shape units fills fit vtocs old new have are keep vtocs_are differ changes rendered were from origin unit name to is.1 (rows_held from origin tracks is.0 held)
-  planned_taken (steps.Replace unit name to (origins.Part input number)) tracks is held = absurd is
-  planned_taken (steps.Delete unit name) tracks is held = delete_taken shape units fills fit vtocs new have are keep vtocs_are changes rendered were unit name is.1
-  planned_taken (steps.Carry from origin unit name to replaced) tracks is held =
+  planned_taken (steps.Replace unit name to (origins.Part input number)) tracks is of held = absurd of
+  planned_taken (steps.Delete unit name) tracks is of held = delete_taken shape units fills fit vtocs new have are keep vtocs_are changes rendered were unit name is.1
+  planned_taken (steps.Carry from origin unit name to replaced) tracks is of held =
       carry_taken shape units fills fit vtocs old new have are keep vtocs_are differ from origin unit name to replaced changes rendered were is.1 (rows_held from origin tracks is.0 held)
-  planned_taken (steps.ResetFlag unit name) tracks is held = reset_taken shape units fills fit vtocs new have are keep vtocs_are changes rendered were unit name is.1
-  planned_taken (steps.Repair unit) tracks is held = repair_taken shape units fills fit vtocs new have are keep vtocs_are changes rendered were unit is.1
-  planned_taken (steps.FillStart unit input) tracks is held = absurd is
-  planned_taken (steps.FillEnd unit input) tracks is held = absurd is
+  planned_taken (steps.ResetFlag unit name) tracks is of held = reset_taken shape units fills fit vtocs new have are keep vtocs_are changes rendered were unit name is.1
+  planned_taken (steps.Repair unit) tracks is of held = repair_taken shape units fills fit vtocs new have are keep vtocs_are changes rendered were unit is.1
+  planned_taken (steps.FillStart unit input) tracks is of held = absurd is
+  planned_taken (steps.FillEnd unit input) tracks is of held = absurd is
 
 pub plans_take : PlansTakeUnits
-plans_take shape room old new units vtocs plan rendered have are keep kept is were differ short held fills fit =
+plans_take shape room old new units vtocs plan rendered have are keep kept is of were differ short held fills fit =
     let now = copied_load shape old new units vtocs have are kept differ short in
     take_units shape room fills new plan.step (entries_of plan.changes rendered)
-    (planned_taken shape units fills fit vtocs old new have now.0 keep now.1 differ plan.changes rendered were plan.step plan.tracks is held)
+    (planned_taken shape units fills fit vtocs old new have now.0 keep now.1 differ plan.changes rendered were plan.step plan.tracks is of held)
     (entries_below shape units vtocs have plan.changes rendered were)
     (λ image u. firsts_stay shape units vtocs keep plan.changes rendered image u were)
 
+-- the step of a part
+puts_step : (replaced : Bool) (unit : ℕ) (name : Dsn) (to : List Run) (input : DdName) (number : ℕ) (facts : Facts) (before after : List UnitModel)
+    → Puts facts replaced (origins.Part input number) unit name to before after → IsStep facts (step_of_part replaced unit name to input number) before after
+puts_step false unit name to input number facts before after puts = puts
+puts_step true unit name to input number facts before after puts = puts
+
 pub parts_take : PartsTakeUnits
-parts_take shape room old new units vtocs original input number unit name to changes rendered have are keep kept plan were differ short gives fills fit =
+parts_take shape room old new units vtocs replaced original input number unit name to changes rendered have are keep kept plan were differ short gives fills fit =
     let now = copied_load shape old new units vtocs have are kept differ short in
-    take_units shape room fills new (steps.Add unit name to (origins.Part input number)) (entries_of changes rendered)
-    (part_taken shape units fills fit vtocs new have now.0 keep now.1 changes rendered were false original input number unit name to
-    (steps.Add unit name to (origins.Part input number)) plan gives (λ facts before after is. is))
+    take_units shape room fills new (step_of_part replaced unit name to input number) (entries_of changes rendered)
+    (part_taken shape units fills fit vtocs new have now.0 keep now.1 changes rendered were replaced original input number unit name to
+    (step_of_part replaced unit name to input number) plan gives (puts_step replaced unit name to input number))
     (entries_below shape units vtocs have changes rendered were)
     (λ image u. firsts_stay shape units vtocs keep changes rendered image u were)

@@ -15,7 +15,7 @@ use Rattle.move_core.specs.Stands.{AreUnused, IsSettled}
 use Rattle.move_core.specs.Taking.{IsQuiet}
 use Rattle.unit_steps.specs.declared.plan.Plan.{Plan}
 use Rattle.unit_steps.specs.Loaded.{HaveStates, AreLoaded, HaveFills, TakeLoaded, KeepVtocs, AreVtocsOf}
-use Rattle.unit_steps.specs.Plans.{IsLoadedAt, IsPlan}
+use Rattle.unit_steps.specs.Plans.{IsLoadedAt, IsPlan, IsOfUnits}
 use Rattle.unit_steps.specs.Rendering.{WereRendered, entries_of, AreReady, AreOfUnits, units_after, VtocsAfter}
 use Rattle.unit_steps.specs.Copied.{IsFreeAt, DifferOnFree, AreShortOn, AreHeld}
 
@@ -81,10 +81,10 @@ PlansAreSmall =
     → AreOfUnits plan.changes × (length plan.changes ≤ 2) × All (λ change. change.1 ≢ Mark) plan.changes
 
 -- A plan was made on the volumes as they were loaded, and its changes rendered; then free tracks were written, and hold the texts that the plan puts
--- there. Now the entries of its changes take the units by its step, whatever the inputs hold.
+-- there, which come from units. Now the entries of its changes take the units by its step, whatever the inputs hold.
 abbrev pub PlansTakeUnits : Type 0
 PlansTakeUnits =
     (shape : Shape) (room : ℕ) (old new : Image) (units : List UnitState) (vtocs : List (List ℕ)) (plan : Plan) (rendered : List Rendered)
-    → HaveStates shape units → AreLoaded shape old units → KeepVtocs shape units vtocs → AreVtocsOf old units vtocs → IsPlan units plan
+    → HaveStates shape units → AreLoaded shape old units → KeepVtocs shape units vtocs → AreVtocsOf old units vtocs → IsPlan units plan → IsOfUnits plan.step
     → WereRendered units vtocs plan.changes rendered → DifferOnFree units old new → AreShortOn shape new → AreHeld units plan.tracks plan.changes old new
     → TakeLoaded (HasInputs None) shape room units new plan.step (entries_of plan.changes rendered)

@@ -20,6 +20,7 @@ use Rattle.unit_load.specs.declared.state.UnitState.TheVariants.{Online}
 use Rattle.move_core.specs.declared.steps.Origin.TheVariants as origins
 use Rattle.move_core.specs.declared.steps.Step.{Step}
 use Rattle.move_core.specs.declared.steps.Step.TheVariants as steps
+use Rattle.move_core.specs.Facts.{Original}
 use Rattle.move_core.specs.Steps.{IsNewKind, extents_on, KeepsExtents, JoinsExtents, LieOnCylinders, BeginOnCylinders, cut, reset_fields, fields_at, tracks_for}
 use Rattle.unit_steps.specs.declared.plan.Plan.{Plan}
 use Rattle.unit_steps.specs.declared.plan.Tracks.{Tracks}
@@ -141,13 +142,32 @@ pub record PlansCarry (units : List UnitState) (from : ℕ) (origin : Dsn) (unit
   pub changes_are : changes ≡ (unit, change) ∷ (from, Remove origin) ∷ []
   pub may : MayChange copy.source (Remove origin)
 
+-- A part of a dump is put on free tracks of a unit of a like device.
+pub record PlansPart (replaced : Bool) (units : List UnitState) (original : Original) (unit : ℕ) (name : Dsn) (to : List Run) (changes : List (ℕ × Change)) : Type 0 where
+  pub change : Change
+  pub volume : Volume
+  pub row : Row
+  pub loaded : IsLoadedAt units unit volume
+  pub like : volume.device ≡ original.device
+  pub lawful : IsDsn name
+  pub named : IsNameOf name row.name
+  pub whole : LieOnCylinders (heads_of volume.device) original.kind to
+  pub row_is : IsRowWith volume row.name (fields_at row.name volume.serial original.fields) (extents_on original.kind to) row
+  pub size : length (tracks_of (extents_on original.kind to)) ≡ tracks_for (heads_of volume.device) original.kind (length original.texts)
+  pub free : (track : ℕ) → InRuns to track → IsFree volume.free track
+  pub change_is : change ≡ putting replaced name row
+  pub may : MayChange volume change
+  pub changes_are : changes ≡ (unit, change) ∷ []
+
 -- ---- plans
 
--- A step of the volumes that were loaded, where its texts come from, and its changes. Of copies those of a data set of a unit of a like device are built.
+-- A step of the volumes that were loaded, where its texts come from, and its changes. Of copies those onto a unit of a like device are built.
 abbrev pub Plans : List UnitState → Step → Tracks → List (ℕ × Change) → Type 0
 Plans units (steps.Move unit name to) tracks changes = (tracks ≡ texts.Rows unit name) × PlansMove units unit name to changes
 Plans units (steps.Shrink unit name keep) tracks changes = (tracks ≡ texts.None) × PlansShrink units unit name keep changes
 Plans units (steps.Add unit name to (origins.Row from origin)) tracks changes = (tracks ≡ texts.Rows from origin) × PlansPut false units from origin unit name to changes
+Plans units (steps.Add unit name to (origins.Part input number)) tracks changes = (tracks ≡ texts.Given) × ((original : Original) × PlansPart false units original unit name to changes)
+Plans units (steps.Replace unit name to (origins.Part input number)) tracks changes = (tracks ≡ texts.Given) × ((original : Original) × PlansPart true units original unit name to changes)
 Plans units (steps.Replace unit name to (origins.Row from origin)) tracks changes = (tracks ≡ texts.Rows from origin) × PlansPut true units from origin unit name to changes
 Plans units (steps.Delete unit name) tracks changes = (tracks ≡ texts.None) × PlansDelete units unit name changes
 Plans units (steps.Carry from origin unit name to replaced) tracks changes = (tracks ≡ texts.Rows from origin) × PlansCarry units from origin unit name to replaced changes
@@ -157,3 +177,9 @@ Plans units step tracks changes = ⊥
 
 abbrev pub IsPlan : List UnitState → Plan → Type 0
 IsPlan units plan = Plans units plan.step plan.tracks plan.changes
+
+-- the new tracks of a step take their texts from units, if it has any
+abbrev pub IsOfUnits : Step → Type 0
+IsOfUnits (steps.Add unit name to (origins.Part input number)) = ⊥
+IsOfUnits (steps.Replace unit name to (origins.Part input number)) = ⊥
+IsOfUnits step = Unit {0}

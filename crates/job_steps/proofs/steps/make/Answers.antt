@@ -1,4 +1,7 @@
+use Rattle.std.proofs.Common.{sym, subst}
 use Rattle.std.proofs.lemmas.Result.{err_from_is_err_and}
+use Rattle.unit_session.specs.unit_steps.declared.plan.Plan.{Plan}
+use Rattle.unit_session.specs.unit_steps.Plans.{IsOfUnits}
 use Rattle.job_steps.proofs.Runs.{copy_failed, made_run, made_after}
 use Rattle.job_steps.proofs.steps.make.Goals as goal
 
@@ -12,10 +15,12 @@ pub returns-clause-run : goal.returns-clause-run
 returns-clause-run g c =
     let copied = c.in_ok-copy.ensures in
     let does = c.switch.ensures in
-    made_run g.P.Pool c.args.planned c.in_ok-copy.field-0 copied.plan copied.run c.switch.result does.run does.pending
+    let of : IsOfUnits c.in_ok-copy.field-0.plan.step = subst (λ (p : Plan). IsOfUnits p.step) (sym copied.plan) c.requires in
+    made_run g.P.Pool c.args.planned c.in_ok-copy.field-0 copied.plan copied.run c.switch.result (does.run of) does.pending
 
 pub returns-clause-after : goal.returns-clause-after
 returns-clause-after g c =
     let copied = c.in_ok-copy.ensures in
     let does = c.switch.ensures in
-    made_after g.P.Pool c.args.planned c.in_ok-copy.field-0 copied.plan copied.run c.switch.result does.run copied.session does.plan does.rendered does.units does.session
+    let of : IsOfUnits c.in_ok-copy.field-0.plan.step = subst (λ (p : Plan). IsOfUnits p.step) (sym copied.plan) c.requires in
+    made_after g.P.Pool c.args.planned c.in_ok-copy.field-0 copied.plan copied.run c.switch.result (does.run of) copied.session does.plan does.rendered does.units does.session

@@ -1,11 +1,10 @@
-use Rattle.std.proofs.Common.{◌∙◌, [], refl, subst, arith}
+use Rattle.std.proofs.Common.{[], subst, arith}
 use Rattle.std.specs.Prelude.{Option, IfSome}
 use Rattle.std.proofs.lemmas.Option.{slice_get-get_or}
-use Rattle.dasd_pool.proofs.Moments.{runs_then}
-use Rattle.dasd_pool.specs.Disk.{none}
 use Rattle.vol_label.specs.declared.serial.Serial.{Serial}
 use Rattle.redo_core.specs.Faults.{HasLabel}
 use Rattle.redo_core.proofs.Heads.{labelled, only_at, found_at, labels_more}
+use Rattle.redo_core.proofs.Looking.{looks_then}
 use Rattle.redo_core.proofs.labels.check_labels.Goals as goal
 
 pub loop-unit-preserved : goal.loop-unit-preserved
@@ -14,13 +13,10 @@ loop-unit-preserved g c =
     let shape = g.P.Pool.shape c.args.pool.now in
     let state = (g.P.Pool.disk c.args.pool.now).state in
     record {
-      shape = c.unit_label.ensures.shape ∙ inv.shape;
-      faults = omega (arith, inv.faults, c.unit_label.ensures.faults);
-      same = λ told. c.unit_label.ensures.same told ∙ inv.same told;
-      runs = λ told. runs_then none none none (g.P.Pool.disk c.args.pool.now) (g.P.Pool.disk c.loop-unit.pool) (g.P.Pool.disk c.unit_label.new.pool) (λ u b apart. refl) (λ u b apart. refl) (inv.runs told) (c.unit_label.ensures.runs told);
+      looks = looks_then g.P.Pool _ _ _ inv.looks c.unit_label.ensures.looks;
       labels = λ told. labels_more shape (labelled shape state c.args.journal c.args.targets.now) c.args.names.now c.loop-unit.unit _ c.in-Ok.found (inv.labels told)
           (slice_get-get_or c.args.names.now c.loop-unit.unit (record { text = [] }) (omega (arith, c.loop-unit-test.true, c.requires.names)))
-          (only_at shape (g.P.Pool.shape c.loop-unit.pool) state (g.P.Pool.disk c.loop-unit.pool).state c.args.journal c.loop-unit.unit c.args.targets.now c.in-Ok.found inv.shape (inv.same told) (c.in-Ok.ensures.only told))
+          (only_at shape (g.P.Pool.shape c.loop-unit.pool) state (g.P.Pool.disk c.loop-unit.pool).state c.args.journal c.loop-unit.unit c.args.targets.now c.in-Ok.found inv.looks.shape (inv.looks.same told) (c.in-Ok.ensures.only told))
           c.in_default.ensures.none;
     }
 
@@ -33,14 +29,13 @@ returns-in-Some-clause-refused g c = λ told.
       within = omega (arith, c.loop-unit-test.true, c.requires.last);
       before = inv.labels told;
       kept_is = slice_get-get_or c.args.names.now c.loop-unit.unit (record { text = [] }) (omega (arith, c.loop-unit-test.true, c.requires.names));
-      found_is = found_at shape (g.P.Pool.shape c.loop-unit.pool) state (g.P.Pool.disk c.loop-unit.pool).state c.args.journal c.loop-unit.unit c.args.targets.now c.in-Some.serial inv.shape (inv.same told)
+      found_is = found_at shape (g.P.Pool.shape c.loop-unit.pool) state (g.P.Pool.disk c.loop-unit.pool).state c.args.journal c.loop-unit.unit c.args.targets.now c.in-Some.serial inv.looks.shape (inv.looks.same told)
           (subst (λ (o : Option Serial). IfSome o (HasLabel (g.P.Pool.shape c.loop-unit.pool) (labelled (g.P.Pool.shape c.loop-unit.pool) (g.P.Pool.disk c.loop-unit.pool).state c.args.journal c.args.targets.now) c.loop-unit.unit)) c.in-Some.ensures.found.0 (c.in-Ok.ensures.found told));
       other = c.in-Some.ensures.found.1;
     }
 
-pub returns-in-Some-clause-runs : goal.returns-in-Some-clause-runs
-returns-in-Some-clause-runs g c = λ told.
-    runs_then none none none (g.P.Pool.disk c.args.pool.now) (g.P.Pool.disk c.loop-unit.pool) (g.P.Pool.disk c.unit_label.new.pool) (λ u b apart. refl) (λ u b apart. refl) (c.loop-unit.invariant.runs told) (c.unit_label.ensures.runs told)
+pub returns-in-Some-clause-looks : goal.returns-in-Some-clause-looks
+returns-in-Some-clause-looks g c = looks_then g.P.Pool _ _ _ c.loop-unit.invariant.looks c.unit_label.ensures.looks
 
 pub returns-clause-labels : goal.returns-clause-labels
 returns-clause-labels g c = λ told u serial less has. c.loop-unit.invariant.labels told u serial (omega (arith, less, c.loop-unit-test.false)) has

@@ -1,9 +1,8 @@
-use Rattle.std.proofs.Common.{◌∙◌, refl, sym}
-use Rattle.dasd_pool.specs.Disk.{Runs, none}
-use Rattle.dasd_pool.proofs.Moments.{runs_then}
+use Rattle.std.proofs.Common.{◌∙◌, sym}
 use Rattle.redo_core.specs.declared.fault.JournalRule.TheVariants as rules
 use Rattle.redo_core.specs.Faults.{zeroed}
 use Rattle.redo_core.proofs.Faulting.{fails_rule, body_at, control_at}
+use Rattle.redo_core.proofs.Looking.{looks_then}
 use Rattle.redo_core.proofs.opening.find_all.Goals as goal
 
 pub returns-in-Err-find_body-clause-refused : goal.returns-in-Err-find_body-clause-refused
@@ -15,17 +14,13 @@ returns-in-Err-find_body-clause-refused g c = λ told.
     (λ broken. (
       c.in-Ok.registration.room,
       record { head = first.head; names = c.in-Ok.registration.names.items; registration = first.found told },
-      λ has. broken (body_at c.in-Ok.registration.room (g.P.Pool.shape c.find_registration.new.pool) shape (g.P.Pool.disk c.find_registration.new.pool).state state first.shape (first.same told) has),
+      λ has. broken (body_at c.in-Ok.registration.room (g.P.Pool.shape c.find_registration.new.pool) shape (g.P.Pool.disk c.find_registration.new.pool).state state first.looks.shape (first.looks.same told) has),
     ))
     _ (c.in-Err-find_body.ensures.refused told)
 
-pub returns-in-Ok-find_control-clause-runs : goal.returns-in-Ok-find_control-clause-runs
-returns-in-Ok-find_control-clause-runs g c = λ told.
-    let old = g.P.Pool.disk c.args.pool.now in
-    let mid = g.P.Pool.disk c.find_registration.new.pool in
-    let next = g.P.Pool.disk c.find_body.new.pool in
-    let reads : Runs none old next = runs_then none none none old mid next (λ u b apart. refl) (λ u b apart. refl) (c.find_registration.ensures.runs told) (c.find_body.ensures.runs told) in
-    runs_then none none none old next (g.P.Pool.disk c.find_control.new.pool) (λ u b apart. refl) (λ u b apart. refl) reads (c.find_control.ensures.runs told)
+pub returns-in-Ok-find_control-clause-looks : goal.returns-in-Ok-find_control-clause-looks
+returns-in-Ok-find_control-clause-looks g c =
+    looks_then g.P.Pool _ _ _ (looks_then g.P.Pool _ _ _ c.find_registration.ensures.looks c.find_body.ensures.looks) c.find_control.ensures.looks
 
 pub returns-in-Err-find_control-clause-refused : goal.returns-in-Err-find_control-clause-refused
 returns-in-Err-find_control-clause-refused g c = λ told.
@@ -37,7 +32,7 @@ returns-in-Err-find_control-clause-refused g c = λ told.
     (λ broken. (
       c.in-Ok.registration.room,
       record { head = first.head; names = c.in-Ok.registration.names.items; registration = first.found told },
-      body_at c.in-Ok.registration.room shape (g.P.Pool.shape c.find_registration.new.pool) state (g.P.Pool.disk c.find_registration.new.pool).state (sym first.shape) (sym (first.same told)) (second.lawful told),
-      λ has. broken (control_at (g.P.Pool.shape c.find_body.new.pool) shape (g.P.Pool.disk c.find_body.new.pool).state state (second.shape ∙ first.shape) (second.same told ∙ first.same told) has),
+      body_at c.in-Ok.registration.room shape (g.P.Pool.shape c.find_registration.new.pool) state (g.P.Pool.disk c.find_registration.new.pool).state (sym first.looks.shape) (sym (first.looks.same told)) (second.lawful told),
+      λ has. broken (control_at (g.P.Pool.shape c.find_body.new.pool) shape (g.P.Pool.disk c.find_body.new.pool).state state (second.looks.shape ∙ first.looks.shape) (second.looks.same told ∙ first.looks.same told) has),
     ))
     _ (c.in-Err-find_control.ensures.refused told)

@@ -17,7 +17,7 @@ returns-in_default-clause-refused g c = λ told.
     control_read shape c.args.journal image c.args.targets.now c.image_of.result c.unwrap_or-place.result c.read_or_zeros.new.buffer unit (c.requires.targets told) (c.image_of.ensures.image shape.block_size (journal_of shape) image)
     c.unwrap_or-place.ensures (c.in_ok-read_or_zeros.ensures.bytes told) (omega (arith, c.read_or_zeros.auto.buffer, c.requires.size, c.requires.width)) in
     subst (λ (f : JournalFault). Fails rules.Control (¬ IsControl shape (control_block shape image)) f) (sym c.broken.ensures)
-    (refl, λ lawful. c.in_default.ensures.none (subst (λ (s : Shape). IsControl s c.read_or_zeros.new.buffer) (sym c.in_ok-read_or_zeros.ensures.shape) (subst (λ (block : List ℕ). IsControl shape block) is lawful)))
+    (refl, λ lawful. c.in_default.ensures.none (subst (λ (s : Shape). IsControl s c.read_or_zeros.new.buffer) (sym c.in_ok-read_or_zeros.ensures.looks.shape) (subst (λ (block : List ℕ). IsControl shape block) is lawful)))
 
 pub returns-clause-lawful : goal.returns-clause-lawful
 returns-clause-lawful g c = λ told.
@@ -27,7 +27,7 @@ returns-clause-lawful g c = λ told.
     let is : control_block shape image ≡ c.read_or_zeros.new.buffer =
     control_read shape c.args.journal image c.args.targets.now c.image_of.result c.unwrap_or-place.result c.read_or_zeros.new.buffer unit (c.requires.targets told) (c.image_of.ensures.image shape.block_size (journal_of shape) image)
     c.unwrap_or-place.ensures (c.in_ok-read_or_zeros.ensures.bytes told) (omega (arith, c.read_or_zeros.auto.buffer, c.requires.size, c.requires.width)) in
-    subst (λ (block : List ℕ). IsControl shape block) (sym is) (subst (λ (s : Shape). IsControl s c.read_or_zeros.new.buffer) c.in_ok-read_or_zeros.ensures.shape c.in-Some.ensures.found.0)
+    subst (λ (block : List ℕ). IsControl shape block) (sym is) (subst (λ (s : Shape). IsControl s c.read_or_zeros.new.buffer) c.in_ok-read_or_zeros.ensures.looks.shape c.in-Some.ensures.found.0)
 
 pub returns-clause-control : goal.returns-clause-control
 returns-clause-control g c = λ told.

@@ -30,7 +30,7 @@ returns-then-have-need-clause-refused g c = λ told names.
       reading,
       record { obeys = c.in-Ok.ensures.found told; idle = λ busy. false≢true (c.if-is_busy.ensures.1 busy) },
       refl,
-      c.blocks-have.ensures ∙ ap (λ (s : Shape). s.blocks c.args.journal) c.in-Ok.ensures.shape ∙ ap shape.blocks unit,
+      c.blocks-have.ensures ∙ ap (λ (s : Shape). s.blocks c.args.journal) c.in-Ok.ensures.looks.shape ∙ ap shape.blocks unit,
       c.if-have-need.true,
     )
 

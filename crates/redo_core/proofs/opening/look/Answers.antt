@@ -33,7 +33,7 @@ returns-in-Err-check_who-clause-refused g c = λ told.
     let reading : Reading = record { volumes = d1.contents; names = f.names.items; room = f.room; control = f.control; fills = fills_of f.fills } in
     open_at shape s1 contents d1.contents c.args.names.now c.in-Err-check_who.fault c.sync.ensures.shape same
     (who_open s1 d1.contents c.args.names.now reading (e.idle told) long c.in-Err-check_who.fault
-    (who_at s1 (g.P.Pool.shape c.find_idle.new.pool) d1 (g.P.Pool.disk c.find_idle.new.pool).state c.args.journal list f.names.items c.args.names.now c.in-Err-check_who.fault e.shape (e.same told) unit
+    (who_at s1 (g.P.Pool.shape c.find_idle.new.pool) d1 (g.P.Pool.disk c.find_idle.new.pool).state c.args.journal list f.names.items c.args.names.now c.in-Err-check_who.fault e.looks.shape (e.looks.same told) unit
     (targets_there s1 d1.contents f.room list long e.few (e.targets told)) (c.in-Err-check_who.ensures.refused told)))
 
 pub returns-in-Ok-check_who-clause-reads : goal.returns-in-Ok-check_who-clause-reads
@@ -89,25 +89,25 @@ returns-in-Ok-check_who-clause-runs g c = λ told.
     let old = g.P.Pool.disk c.args.pool.now in
     let mid = g.P.Pool.disk c.find_idle.new.pool in
     runs_then none none none old mid (g.P.Pool.disk c.check_who.new.pool) (λ u b apart. refl) (λ u b apart. refl)
-    (runs_then none none none old (g.P.Pool.disk c.sync.new.self) mid (λ u b apart. refl) (λ u b apart. refl) (c.sync.ensures.runs told) (c.find_idle.ensures.runs told)) (c.check_who.ensures.runs told)
+    (runs_then none none none old (g.P.Pool.disk c.sync.new.self) mid (λ u b apart. refl) (λ u b apart. refl) (c.sync.ensures.runs told) (c.find_idle.ensures.looks.runs told)) (c.check_who.ensures.looks.runs told)
 
 pub returns-in-Err-check_who-clause-runs : goal.returns-in-Err-check_who-clause-runs
 returns-in-Err-check_who-clause-runs g c = λ told.
     let old = g.P.Pool.disk c.args.pool.now in
     let mid = g.P.Pool.disk c.find_idle.new.pool in
     runs_then none none none old mid (g.P.Pool.disk c.check_who.new.pool) (λ u b apart. refl) (λ u b apart. refl)
-    (runs_then none none none old (g.P.Pool.disk c.sync.new.self) mid (λ u b apart. refl) (λ u b apart. refl) (c.sync.ensures.runs told) (c.find_idle.ensures.runs told)) (c.check_who.ensures.runs told)
+    (runs_then none none none old (g.P.Pool.disk c.sync.new.self) mid (λ u b apart. refl) (λ u b apart. refl) (c.sync.ensures.runs told) (c.find_idle.ensures.looks.runs told)) (c.check_who.ensures.looks.runs told)
 
 pub returns-in-Ok-check_who-clause-synced : goal.returns-in-Ok-check_who-clause-synced
 returns-in-Ok-check_who-clause-synced g c = λ told.
-    subst (λ (s : State). IsSynced s) (sym (c.check_who.ensures.same told ∙ c.find_idle.ensures.same told)) (c.in_ok-sync.ensures.synced told)
+    subst (λ (s : State). IsSynced s) (sym (c.check_who.ensures.looks.same told ∙ c.find_idle.ensures.looks.same told)) (c.in_ok-sync.ensures.synced told)
 
 pub check_who-requires-clause-width : goal.check_who-requires-clause-width
 check_who-requires-clause-width g c =
     let s1 = g.P.Pool.shape c.sync.new.self in
     let unit : journal_of s1 ≡ c.args.journal = omega (arith, c.requires.last, ap (λ (s : Shape). s.units) c.sync.ensures.shape) in
     let wide1 : s1.block_size c.args.journal ≡ wide = subst (λ (j : ℕ). s1.block_size j ≡ wide) unit c.in-Ok.ensures.head.size in
-    ap (λ (s : Shape). s.block_size c.args.journal) c.in-Ok.ensures.shape ∙ wide1
+    ap (λ (s : Shape). s.block_size c.args.journal) c.in-Ok.ensures.looks.shape ∙ wide1
 
 pub returns-in-Ok-check_who-clause-allowed : goal.returns-in-Ok-check_who-clause-allowed
 returns-in-Ok-check_who-clause-allowed g c = λ told.
@@ -126,6 +126,6 @@ returns-in-Ok-check_who-clause-allowed g c = λ told.
       idle = e.idle told;
       long = long;
       names_are = c.in-Ok-check_who.ensures.names;
-      labels = labels_at s1 (g.P.Pool.shape c.find_idle.new.pool) d1 (g.P.Pool.disk c.find_idle.new.pool).state c.args.journal list c.args.names.now e.shape (e.same told) unit
+      labels = labels_at s1 (g.P.Pool.shape c.find_idle.new.pool) d1 (g.P.Pool.disk c.find_idle.new.pool).state c.args.journal list c.args.names.now e.looks.shape (e.looks.same told) unit
           (targets_there s1 d1.contents f.room list long e.few (e.targets told)) (c.in-Ok-check_who.ensures.labels told);
     })

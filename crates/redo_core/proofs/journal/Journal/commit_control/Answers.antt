@@ -1,4 +1,4 @@
-use Rattle.std.proofs.Common.{◌≡◌, ◌≢◌, ◌⊎◌, ℕ, ◌+◌, List, [], All, AllPairs, sym, subst, ap, ◌∙◌, arith}
+use Rattle.std.proofs.Common.{◌≢◌, ◌⊎◌, ℕ, List, [], All, AllPairs, sym, subst, ap, ◌∙◌, arith}
 use Rattle.std.proofs.lemmas.Grind.{common_steps}
 use Rattle.dasd_pool.specs.Disk.{Image, LeavesOnly, Runs, Shape, none}
 use Rattle.redo_core.specs.declared.entries.Entry.{Entry}

@@ -7,15 +7,15 @@ use Rattle.redo_core.specs.Statuses.{entries_at}
 use Rattle.volume_change.specs.declared.change.Change.{Change}
 use Rattle.unit_steps.specs.vtoc_render.declared.change.Rendered.{Rendered}
 use Rattle.unit_load.specs.declared.state.UnitState.{UnitState}
-use Rattle.move_core.specs.Facts.{HasInputs}
+use Rattle.move_core.specs.Facts.{HasInputs, Original}
 use Rattle.move_core.proofs.Running.{quiet_at_rest, switch_done, switch_failed}
 use Rattle.unit_steps.specs.Loaded.{AreLoaded, AreVtocsOf, HaveFills, TakeLoaded}
-use Rattle.unit_steps.specs.Plans.{IsPlan}
+use Rattle.unit_steps.specs.Plans.{IsOfUnits, IsPlan}
 use Rattle.unit_steps.specs.Rendering.{AreOfUnits, AreReady, WereRendered, VtocsAfter, units_after}
 use Rattle.unit_steps.proofs.Fitting.{switched_keep_fills}
 use Rattle.unit_steps.proofs.Small.{plans_small}
 use Rattle.unit_steps.proofs.Taking.{entries_below}
-use Rattle.unit_session.specs.Planned.{MayPatch}
+use Rattle.unit_session.specs.Planned.{HoldsOriginal, IsMadeOf, MayPatch}
 use Rattle.unit_session.specs.Sessions.{SessionView}
 use Rattle.unit_session.proofs.Loading.{free_after}
 use Rattle.unit_session.proofs.Sparing.{rendered_spared}
@@ -74,12 +74,34 @@ returns-in-Ok-clause-run g c =
     let shape = g.P.Pool.shape s.journal.pool in
     let state = (g.P.Pool.disk s.journal.pool).state in
     let all = only_blocks (journal_of shape) p.entries c.self.invariant.alone in
-    let takes : g.P.Pool.tells → TakeLoaded (HasInputs None) shape s.journal.room s.units.items state.contents p.plan.step (entries_at (journal_of shape) p.entries) =
-    λ told. subst (λ (l : List Entry). TakeLoaded (HasInputs None) shape s.journal.room s.units.items state.contents p.plan.step l) (sym all)
-    (subst (λ (v : SessionView _). TakeLoaded (HasInputs None) (g.P.Pool.shape v.pool) v.room v.units (g.P.Pool.disk v.pool).state.contents p.plan.step p.entries.blocks) (sym c.session.view_is) (c.self.invariant.takes told)) in
+    let takes : IsOfUnits p.plan.step → g.P.Pool.tells → TakeLoaded (HasInputs None) shape s.journal.room s.units.items state.contents p.plan.step (entries_at (journal_of shape) p.entries) =
+    λ of told. subst (λ (l : List Entry). TakeLoaded (HasInputs None) shape s.journal.room s.units.items state.contents p.plan.step l) (sym all)
+    (subst (λ (v : SessionView _). TakeLoaded (HasInputs None) (g.P.Pool.shape v.pool) v.room v.units (g.P.Pool.disk v.pool).state.contents p.plan.step p.entries.blocks) (sym c.session.view_is) (c.self.invariant.takes told of)) in
     rw (sym c.self.view_is)
     (rw (sym c.session.view_is)
-    (switch_done does.shape does.faults (λ told. quiet_at_rest (c.rests.ensures told) c.session.invariant.0.idle) (λ told. takes told s.journal.fills c.session.invariant.0.fit) does.any_moment (tt {0}) does.committed))
+    (λ of. switch_done does.shape does.faults (λ told. quiet_at_rest (c.rests.ensures told) c.session.invariant.0.idle) (λ told. takes of told s.journal.fills c.session.invariant.0.fit) does.any_moment (tt {0}) does.committed))
+
+pub returns-in-Ok-clause-part : goal.returns-in-Ok-clause-part
+returns-in-Ok-clause-part g c =
+    let s = c.session.inside in
+    let p = c.self.inside in
+    let does = c.in-Ok.ensures in
+    let shape = g.P.Pool.shape s.journal.pool in
+    let state = (g.P.Pool.disk s.journal.pool).state in
+    let all = only_blocks (journal_of shape) p.entries c.self.invariant.alone in
+    let takes : (original : Original) → IsMadeOf g.P.Pool (record {
+      session = record { pool = s.journal.pool; room = s.journal.room; names = s.names.items; units = s.units.items; vtocs = s.vtocs.items };
+      plan = p.plan;
+      rendered = p.rendered.items;
+      entries = p.entries.blocks;
+    }) original → g.P.Pool.tells → TakeLoaded (HoldsOriginal p.plan.step original) shape s.journal.room s.units.items state.contents p.plan.step (entries_at (journal_of shape) p.entries) =
+    λ original made told. subst (λ (l : List Entry). TakeLoaded (HoldsOriginal p.plan.step original) shape s.journal.room s.units.items state.contents p.plan.step l) (sym all)
+    (subst (λ (v : SessionView _). IsMadeOf g.P.Pool (record { session = v; plan = p.plan; rendered = p.rendered.items; entries = p.entries.blocks }) original
+    → TakeLoaded (HoldsOriginal p.plan.step original) (g.P.Pool.shape v.pool) v.room v.units (g.P.Pool.disk v.pool).state.contents p.plan.step p.entries.blocks) (sym c.session.view_is)
+    (c.self.invariant.part told original) made) in
+    rw (sym c.self.view_is)
+    (rw (sym c.session.view_is)
+    (λ original made. switch_done does.shape does.faults (λ told. quiet_at_rest (c.rests.ensures told) c.session.invariant.0.idle) (λ told. takes original made told s.journal.fills c.session.invariant.0.fit) does.any_moment (tt {0}) does.committed))
 
 pub returns-in-Err-clause-run : goal.returns-in-Err-clause-run
 returns-in-Err-clause-run g c =
@@ -89,12 +111,34 @@ returns-in-Err-clause-run g c =
     let shape = g.P.Pool.shape s.journal.pool in
     let state = (g.P.Pool.disk s.journal.pool).state in
     let all = only_blocks (journal_of shape) p.entries c.self.invariant.alone in
-    let takes : g.P.Pool.tells → TakeLoaded (HasInputs None) shape s.journal.room s.units.items state.contents p.plan.step (entries_at (journal_of shape) p.entries) =
-    λ told. subst (λ (l : List Entry). TakeLoaded (HasInputs None) shape s.journal.room s.units.items state.contents p.plan.step l) (sym all)
-    (subst (λ (v : SessionView _). TakeLoaded (HasInputs None) (g.P.Pool.shape v.pool) v.room v.units (g.P.Pool.disk v.pool).state.contents p.plan.step p.entries.blocks) (sym c.session.view_is) (c.self.invariant.takes told)) in
+    let takes : IsOfUnits p.plan.step → g.P.Pool.tells → TakeLoaded (HasInputs None) shape s.journal.room s.units.items state.contents p.plan.step (entries_at (journal_of shape) p.entries) =
+    λ of told. subst (λ (l : List Entry). TakeLoaded (HasInputs None) shape s.journal.room s.units.items state.contents p.plan.step l) (sym all)
+    (subst (λ (v : SessionView _). TakeLoaded (HasInputs None) (g.P.Pool.shape v.pool) v.room v.units (g.P.Pool.disk v.pool).state.contents p.plan.step p.entries.blocks) (sym c.session.view_is) (c.self.invariant.takes told of)) in
     rw (sym c.self.view_is)
     (rw (sym c.session.view_is)
-    (switch_failed does.shape does.faults (λ told. quiet_at_rest (c.rests.ensures told) c.session.invariant.0.idle) (λ told. takes told s.journal.fills c.session.invariant.0.fit) does.any_moment (λ never. never) does.cause.1))
+    (λ of. switch_failed does.shape does.faults (λ told. quiet_at_rest (c.rests.ensures told) c.session.invariant.0.idle) (λ told. takes of told s.journal.fills c.session.invariant.0.fit) does.any_moment (λ never. never) does.cause.1))
+
+pub returns-in-Err-clause-part : goal.returns-in-Err-clause-part
+returns-in-Err-clause-part g c =
+    let s = c.session.inside in
+    let p = c.self.inside in
+    let does = c.in-Err.ensures in
+    let shape = g.P.Pool.shape s.journal.pool in
+    let state = (g.P.Pool.disk s.journal.pool).state in
+    let all = only_blocks (journal_of shape) p.entries c.self.invariant.alone in
+    let takes : (original : Original) → IsMadeOf g.P.Pool (record {
+      session = record { pool = s.journal.pool; room = s.journal.room; names = s.names.items; units = s.units.items; vtocs = s.vtocs.items };
+      plan = p.plan;
+      rendered = p.rendered.items;
+      entries = p.entries.blocks;
+    }) original → g.P.Pool.tells → TakeLoaded (HoldsOriginal p.plan.step original) shape s.journal.room s.units.items state.contents p.plan.step (entries_at (journal_of shape) p.entries) =
+    λ original made told. subst (λ (l : List Entry). TakeLoaded (HoldsOriginal p.plan.step original) shape s.journal.room s.units.items state.contents p.plan.step l) (sym all)
+    (subst (λ (v : SessionView _). IsMadeOf g.P.Pool (record { session = v; plan = p.plan; rendered = p.rendered.items; entries = p.entries.blocks }) original
+    → TakeLoaded (HoldsOriginal p.plan.step original) (g.P.Pool.shape v.pool) v.room v.units (g.P.Pool.disk v.pool).state.contents p.plan.step p.entries.blocks) (sym c.session.view_is)
+    (c.self.invariant.part told original) made) in
+    rw (sym c.self.view_is)
+    (rw (sym c.session.view_is)
+    (λ original made. switch_failed does.shape does.faults (λ told. quiet_at_rest (c.rests.ensures told) c.session.invariant.0.idle) (λ told. takes original made told s.journal.fills c.session.invariant.0.fit) does.any_moment (λ never. never) does.cause.1))
 
 pub patched-vtocs-requires-clause-may : goal.patched-vtocs-requires-clause-may
 patched-vtocs-requires-clause-may g c =

@@ -5,6 +5,7 @@ use Rattle.redo_core.specs.Reading.{journal_of}
 use Rattle.unit_steps.specs.Loaded.{AreLoaded, AreVtocsOf}
 use Rattle.unit_session.specs.Planned.{IsReady}
 use Rattle.unit_session.specs.Sessions.{SessionView}
+use Rattle.unit_session.proofs.GivenDone.{made_takes}
 use Rattle.unit_session.proofs.CopyDone.{volumes_copied, entries_copied, takes_copied, writes_unused}
 use Rattle.unit_session.proofs.Loading.{still_free, still_kept}
 use Rattle.unit_session.proofs.planned.Planned.copy.Goals as goal
@@ -21,10 +22,11 @@ invariant_of-result g c =
       session = record { pool = s.journal.pool; room = s.journal.room; names = s.names.items; units = s.units.items; vtocs = s.vtocs.items };
       plan = p.plan;
       copies = p.work.copies;
+      given = p.work.given;
       rendered = p.work.rendered.items;
       entries = p.work.entries.blocks;
     }) p.work.slot.items p.work.entries.control =
-    subst (λ (v : SessionView _). IsReady g.P.Pool (record { session = v; plan = p.plan; copies = p.work.copies; rendered = p.work.rendered.items; entries = p.work.entries.blocks }) p.work.slot.items p.work.entries.control)
+    subst (λ (v : SessionView _). IsReady g.P.Pool (record { session = v; plan = p.plan; copies = p.work.copies; given = p.work.given; rendered = p.work.rendered.items; entries = p.work.entries.blocks }) p.work.slot.items p.work.entries.control)
     (sym c.session.view_is) c.self.invariant in
     let volumes : g.P.Pool.tells → AreLoaded (g.P.Pool.shape new.pool) (g.P.Pool.disk new.pool).state.contents s.units.items × AreVtocsOf (g.P.Pool.disk new.pool).state.contents s.units.items s.vtocs.items =
     λ told.
@@ -50,11 +52,15 @@ invariant_of-result-in-Ok g c =
       session = record { pool = s.journal.pool; room = s.journal.room; names = s.names.items; units = s.units.items; vtocs = s.vtocs.items };
       plan = p.plan;
       copies = p.work.copies;
+      given = p.work.given;
       rendered = p.work.rendered.items;
       entries = p.work.entries.blocks;
     }) p.work.slot.items p.work.entries.control =
-    subst (λ (v : SessionView _). IsReady g.P.Pool (record { session = v; plan = p.plan; copies = p.work.copies; rendered = p.work.rendered.items; entries = p.work.entries.blocks }) p.work.slot.items p.work.entries.control)
+    subst (λ (v : SessionView _). IsReady g.P.Pool (record { session = v; plan = p.plan; copies = p.work.copies; given = p.work.given; rendered = p.work.rendered.items; entries = p.work.entries.blocks }) p.work.slot.items p.work.entries.control)
     (sym c.session.view_is) c.self.invariant in
+    let volumes : g.P.Pool.tells → AreLoaded (g.P.Pool.shape new.pool) (g.P.Pool.disk new.pool).state.contents s.units.items × AreVtocsOf (g.P.Pool.disk new.pool).state.contents s.units.items s.vtocs.items =
+    λ told.
+    volumes_copied g.P.Pool old new s.units.items s.vtocs.items p.plan p.work.copies inv.2 inv.3 ready.plan ready.copies does.writes told (inv.4 told) (inv.5 told) (c.in-Ok.ensures.short told) in
     record {
       plan = ready.plan;
       rendered = ready.rendered;
@@ -62,9 +68,17 @@ invariant_of-result-in-Ok g c =
       entries = entries_copied g.P.Pool old new s.units.items s.vtocs.items p.plan p.work.copies inv.2 inv.3 ready.plan ready.copies does.writes p.work.entries.blocks ready.entries;
       alone = ready.alone;
       synced = c.in-Ok.ensures.synced;
-      takes = λ told.
+      takes = λ told of.
           takes_copied g.P.Pool old new s.units.items s.vtocs.items p.plan p.work.copies inv.2 inv.3 ready.plan ready.copies does.writes told (inv.4 told) (inv.5 told)
-          (c.in-Ok.ensures.short told) p.work.rendered.items ready.rendered (ready.texts told) (c.in-Ok.ensures.copied told) p.work.entries.blocks ready.entries_are;
+          (c.in-Ok.ensures.short told) p.work.rendered.items ready.rendered (ready.texts told) (c.in-Ok.ensures.copied told) p.work.entries.blocks ready.entries_are of;
+      part = λ told original made.
+          made_takes g.P.Pool (record {
+            session = record { pool = new.pool; room = new.room; names = s.names.items; units = s.units.items; vtocs = s.vtocs.items };
+            plan = p.plan;
+            rendered = p.work.rendered.items;
+            entries = p.work.entries.blocks;
+          }) original (inv.2 ∙ ap (λ (shape : Shape). journal_of shape) (sym does.writes.shape)) (still_kept s.units.items s.vtocs.items does.writes.shape inv.3) told
+          (volumes told).0 (volumes told).1 ready.rendered ready.entries_are made;
     }
 
 pub returns-in-Ok-clause-run : goal.returns-in-Ok-clause-run
@@ -77,10 +91,11 @@ returns-in-Ok-clause-run g c =
       session = record { pool = s.journal.pool; room = s.journal.room; names = s.names.items; units = s.units.items; vtocs = s.vtocs.items };
       plan = p.plan;
       copies = p.work.copies;
+      given = p.work.given;
       rendered = p.work.rendered.items;
       entries = p.work.entries.blocks;
     }) p.work.slot.items p.work.entries.control =
-    subst (λ (v : SessionView _). IsReady g.P.Pool (record { session = v; plan = p.plan; copies = p.work.copies; rendered = p.work.rendered.items; entries = p.work.entries.blocks }) p.work.slot.items p.work.entries.control)
+    subst (λ (v : SessionView _). IsReady g.P.Pool (record { session = v; plan = p.plan; copies = p.work.copies; given = p.work.given; rendered = p.work.rendered.items; entries = p.work.entries.blocks }) p.work.slot.items p.work.entries.control)
     (sym c.session.view_is) c.self.invariant in
     rw (sym c.self.view_is)
     (rw (sym c.session.view_is)
@@ -99,10 +114,11 @@ returns-in-Err-clause-run g c =
       session = record { pool = s.journal.pool; room = s.journal.room; names = s.names.items; units = s.units.items; vtocs = s.vtocs.items };
       plan = p.plan;
       copies = p.work.copies;
+      given = p.work.given;
       rendered = p.work.rendered.items;
       entries = p.work.entries.blocks;
     }) p.work.slot.items p.work.entries.control =
-    subst (λ (v : SessionView _). IsReady g.P.Pool (record { session = v; plan = p.plan; copies = p.work.copies; rendered = p.work.rendered.items; entries = p.work.entries.blocks }) p.work.slot.items p.work.entries.control)
+    subst (λ (v : SessionView _). IsReady g.P.Pool (record { session = v; plan = p.plan; copies = p.work.copies; given = p.work.given; rendered = p.work.rendered.items; entries = p.work.entries.blocks }) p.work.slot.items p.work.entries.control)
     (sym c.session.view_is) c.self.invariant in
     rw (sym c.self.view_is)
     (rw (sym c.session.view_is)
