@@ -1,5 +1,5 @@
 -- The units behind a copy: data sets of other names may still be copied.
-use Rattle.std.proofs.Common.{◌≡◌, ◌≢◌, inl, inr, ℕ, ◌-◌, ◌/◌, ◌≤◌, Bool, true, false, List, [], ◌∷◌, All, Contains, Some, refl, sym, ap, subst, ◌∙◌}
+use Rattle.std.proofs.Common.{◌≡◌, ◌≢◌, inl, inr, ℕ, ◌-◌, ◌/◌, ◌≤◌, Bool, true, false, List, [], ◌∷◌, ◌++◌, All, Contains, Some, refl, sym, ap, subst, ◌∙◌, append_assoc}
 use Rattle.std.specs.Prelude.{slice_get, if◌then◌else◌}
 use Rattle.std.proofs.lemmas.Bool.{cases_eq}
 use Rattle.std.proofs.lemmas.List.Elements.{All-nil, All-cons, All-head, All-tail}
@@ -16,18 +16,22 @@ use Rattle.volume_change.specs.declared.change.Change.TheVariants.{Repair, Put, 
 use Rattle.job_copies.specs.vtoc_render.Next.{IsNext, IsChanged}
 use Rattle.unit_load.specs.declared.state.UnitState.{UnitState}
 use Rattle.unit_load.specs.declared.state.UnitState.TheVariants.{Online}
+use Rattle.move_core.specs.declared.steps.Step.{Step}
+use Rattle.move_core.specs.declared.steps.Step.TheVariants as steps
 use Rattle.job_copies.specs.unit_steps.Plans.{IsLoadedAt, HasRow, putting}
 use Rattle.job_copies.proofs.unit_steps.OneChange.{same_volume}
 use Rattle.job_copies.proofs.job_select.OneName.{one_named}
 use Rattle.job_steps.specs.Carried.{IsUnitAfter, AreUnitsAfter}
 use Rattle.job_ops.specs.declared.transfer.Transfer.{Transfer}
-use Rattle.job_ops.specs.declared.transfer.Act.{Act}
-use Rattle.job_ops.specs.declared.transfer.Act.TheVariants as acts
-use Rattle.job_ops.specs.Asked.{MayBeChanged}
-use Rattle.job_ops.specs.Acts.{is_carried, AreDone, IsDone}
+use Rattle.job_acts.specs.Making.{MayBeChanged}
+use Rattle.job_acts.specs.Making.{repair_steps}
+use Rattle.job_acts.specs.Acting.{AreDone, IsDone}
+use Rattle.job_ops.specs.Transfers.{is_carried, is_deleted, units_due, copying_step, last_steps, steps_of_transfer}
 use Rattle.job_ops.specs.Copying.{MayBeCopied, StaysCopyable}
-use Rattle.job_ops.proofs.ReshapeUnits.{loaded_after, repair_planned}
-use Rattle.job_ops.proofs.TransferPlans.{transfer_planned, delete_planned}
+use Rattle.job_acts.proofs.Kept.{loaded_after}
+use Rattle.job_acts.proofs.PlansMade.{repair_planned}
+use Rattle.job_acts.proofs.PlansMade.{delete_planned}
+use Rattle.job_ops.proofs.Transferring.{transfer_planned}
 
 -- ---- one change
 
@@ -182,7 +186,7 @@ all_copied {units} {after} names (change ∷ changes) spare are may =
     all_copied names changes (All-tail (λ (c : ℕ × Change). Spares names c.1) change changes spare) are.2
     (one_copied names are.1 (All-head (λ (c : ℕ × Change). Spares names c.1) change changes spare) may)
 
--- ---- the acts of a transfer
+-- ---- the steps of a transfer
 
 module _ (transfer : Transfer) (names : List Dsn) (lawful : IsDsn transfer.from.name) (differ : All (λ other. other ≢ transfer.from.name) names) where
   abbrev SparesAll : List (ℕ × Change) → Type 0
@@ -199,30 +203,50 @@ module _ (transfer : Transfer) (names : List Dsn) (lawful : IsDsn transfer.from.
   spares_taking true = All-cons SparesOne (transfer.from.unit, Remove transfer.from.name) [] (lawful, differ) (All-nil SparesOne)
   spares_taking false = All-nil SparesOne
 
-  act_spares : (units after : List UnitState) (act : Act) (done : IsDone units transfer act after) → SparesAll done.0.changes
-  act_spares units after acts.RepairSource done =
-      subst SparesAll (sym (repair_planned units done.0 transfer.from.unit done.1 done.2).1.changes_are) (All-cons SparesOne (transfer.from.unit, Repair) [] (tt {0}) (All-nil SparesOne))
-  act_spares units after acts.RepairTarget done =
-      subst SparesAll (sym (repair_planned units done.0 transfer.to.unit done.1 done.2).1.changes_are) (All-cons SparesOne (transfer.to.unit, Repair) [] (tt {0}) (All-nil SparesOne))
-  act_spares units after acts.Copy done =
-      let plan = transfer_planned units transfer done.0 done.1 done.2 in
+  repair_spares : (units after : List UnitState) (unit : ℕ) (done : IsDone units (steps.Repair unit) after) → SparesAll done.0.changes
+  repair_spares units after unit done =
+      subst SparesAll (sym (repair_planned units done.0 unit done.1 done.2).1.changes_are) (All-cons SparesOne (unit, Repair) [] (tt {0}) (All-nil SparesOne))
+
+  copy_spares : (units after : List UnitState) (done : IsDone units (copying_step transfer) after) → SparesAll done.0.changes
+  copy_spares units after done =
+      let plan = transfer_planned transfer units done.0 done.1 done.2 in
       subst SparesAll (sym plan.changes_are)
       (All-cons SparesOne (transfer.to.unit, plan.change) (if is_carried transfer then (transfer.from.unit, Remove transfer.from.name) ∷ [] else [])
       (subst (Spares names) (sym plan.copy.change_is) (spares_putting transfer.replaced transfer.to.name plan.copy.row)) (spares_taking (is_carried transfer)))
-  act_spares units after acts.Delete done =
-      subst SparesAll (sym (delete_planned units transfer done.0 done.1 done.2).1.changes_are)
+
+  delete_spares : (units after : List UnitState) (done : IsDone units (steps.Delete transfer.from.unit transfer.from.name) after) → SparesAll done.0.changes
+  delete_spares units after done =
+      subst SparesAll (sym (delete_planned units done.0 transfer.from.unit transfer.from.name done.1 done.2).1.changes_are)
       (All-cons SparesOne (transfer.from.unit, Remove transfer.from.name) [] (lawful, differ) (All-nil SparesOne))
 
-  pub done_copied : (list : List Act) (units after : List UnitState) → AreDone units transfer list after → {delete : Bool} {room from to : ℕ} → MayBeCopied delete room units from to names
-      → MayBeCopied delete room after from to names
-  done_copied [] units after are {delete} {room} {from} {to} may = subst (λ (l : List UnitState). MayBeCopied delete room l from to names) (sym are) may
-  done_copied (act ∷ list) units after are may =
-      done_copied list are.0 after are.3 (all_copied names are.1.0.changes (act_spares units are.0 act are.1) are.1.3 may)
+  -- what may be copied before steps may be copied behind them
+  abbrev Spare : List Step → Type 0
+  Spare list = (units after : List UnitState) → AreDone units list after → (delete : Bool) (room from to : ℕ) → MayBeCopied delete room units from to names → MayBeCopied delete room after from to names
+
+  none_done : Spare []
+  none_done units after are delete room from to may = subst (λ (l : List UnitState). MayBeCopied delete room l from to names) (sym are) may
+
+  one_done : (step : Step) (list : List Step) → ((units after : List UnitState) (done : IsDone units step after) → SparesAll done.0.changes) → Spare list → Spare (step ∷ list)
+  one_done step list spares later units after are delete room from to may = later are.0 after are.3 delete room from to (all_copied names are.1.0.changes (spares units are.0 are.1) are.1.3 may)
+
+  repairs_done : (due : List ℕ) (list : List Step) → Spare list → Spare (repair_steps due ++ list)
+  repairs_done [] list later = later
+  repairs_done (unit ∷ due) list later = one_done (steps.Repair unit) (repair_steps due ++ list) (λ units after done. repair_spares units after unit done) (repairs_done due list later)
+
+  last_done : (deleted : Bool) → Spare (if deleted then steps.Delete transfer.from.unit transfer.from.name ∷ [] else [])
+  last_done true = one_done (steps.Delete transfer.from.unit transfer.from.name) [] delete_spares none_done
+  last_done false = none_done
+
+  pub done_copied : (units : List UnitState) → Spare (steps_of_transfer units transfer)
+  done_copied units =
+      subst Spare (sym (append_assoc (repair_steps (units_due units transfer)) (copying_step transfer ∷ []) (last_steps transfer)))
+      (repairs_done (units_due units transfer) (copying_step transfer ∷ last_steps transfer)
+      (one_done (copying_step transfer) (last_steps transfer) copy_spares (last_done (is_deleted transfer))))
 
 -- a transfer that was done leaves the data sets of other names
-pub stays_done : (transfer : Transfer) (list : List Act) (units after : List UnitState) (delete : Bool) (room from to : ℕ) → IsDsn transfer.from.name → AreDone units transfer list after
+pub stays_done : (transfer : Transfer) (units after : List UnitState) (delete : Bool) (room from to : ℕ) → IsDsn transfer.from.name → AreDone units (steps_of_transfer units transfer) after
     → StaysCopyable delete room units after from to transfer.from.name
-stays_done transfer list units after delete room from to lawful are names differ may = done_copied transfer names lawful differ list units after are may
+stays_done transfer units after delete room from to lawful are names differ may = done_copied transfer names lawful differ units units after are delete room from to may
 
 pub stays_same : (units after : List UnitState) (delete : Bool) (room from to : ℕ) (name : Dsn) → after ≡ units → StaysCopyable delete room units after from to name
 stays_same units after delete room from to name same names differ may = subst (λ (l : List UnitState). MayBeCopied delete room l from to names) (sym same) may

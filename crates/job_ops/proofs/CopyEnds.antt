@@ -28,9 +28,11 @@ use Rattle.job_copies.specs.Case.{Case}
 use Rattle.job_copies.specs.Reasons.{PreventsAtFirst, first_reasons}
 use Rattle.job_ops.specs.declared.copies.Scene.{Scene}
 use Rattle.job_ops.specs.declared.transfer.Transfer.{Transfer}
-use Rattle.job_ops.specs.declared.transfer.Transferred.{Transferred}
-use Rattle.job_ops.specs.declared.transfer.Transferred.TheVariants as variants
-use Rattle.job_ops.specs.Acts.{acts_of, steps_of_transfer, MayTransfer, AllFit, SomeLacks, AreKnown, EndsTransfer}
+use Rattle.job_acts.specs.declared.acts.Acted.{Acted}
+use Rattle.job_acts.specs.declared.acts.Acted.TheVariants as variants
+use Rattle.job_acts.specs.Acting.{AllFit, SomeLacks}
+use Rattle.job_ops.specs.Transfers.{first_steps, steps_of_transfer, MayTransfer, EndsTransfer}
+use Rattle.job_ops.proofs.LoadedUnits.{AreKnown}
 use Rattle.job_ops.specs.Copy.{Request, CopiesSet, PreventsCopy, IsNewName, all_repairs, all_rebuilt}
 use Rattle.job_ops.specs.Copying.{request_in, IsThere, IsCase, GoesSoFar, IsReplacedIn, ArePlacedIn, HasGoodTexts, AreLines, IsTransferOf, StaysCopyable}
 use Rattle.job_ops.specs.Ends.{ForUnits, Ends}
@@ -40,7 +42,8 @@ use Rattle.job_ops.proofs.CopyBehind.{stays_done, stays_same}
 use Rattle.job_ops.proofs.CopyRoom.{IsTransferIn, has_room, lacks_room}
 use Rattle.job_ops.proofs.CopySteps.{steps_same, lines_same}
 use Rattle.job_ops.proofs.CopyTurns.{case_of, is_case, no_reason, vtoc_full, placed_somewhere}
-use Rattle.job_ops.proofs.SameSessions.{keeps_same, cut_leaves, only_short, ends_told, told_grows}
+use Rattle.job_acts.proofs.Sessions.{keeps_same}
+use Rattle.job_ops.proofs.SameSessions.{cut_leaves, only_short, ends_told, told_grows}
 use Rattle.job_ops.proofs.TextCounts.{texts_counted}
 
 -- ---- a data set that isn't copied
@@ -81,7 +84,7 @@ tells_long {request} {name} {units} there text long named = record {
 
 -- ---- a transfer
 
-module _ {P : Type 0} (pools : Ghosts P) (session : SessionView P) (scene : Scene) (transfer : Transfer) (may : MayTransfer session.room session.units transfer) (known : AreKnown pools session transfer)
+module _ {P : Type 0} (pools : Ghosts P) (session : SessionView P) (scene : Scene) (transfer : Transfer) (may : MayTransfer session.room session.units transfer) (known : AreKnown pools session)
     (of : IsTransferOf scene transfer) (renamed : IsNewName scene.rename.now transfer.from.name transfer.to.name)
     (list : SameTracksSameRuns) (choice : OneChoice) (short : NoChoiceWhereShort) (full_law : LackingChangesAreFull) (fits_law : FittingChangesAreNotFull)
     (all_there : ForUnits pools session (IsThere (request_in scene) transfer.from.name))
@@ -107,17 +110,17 @@ module _ {P : Type 0} (pools : Ghosts P) (session : SessionView P) (scene : Scen
 
     in_units : IsTransferIn session.units transfer case
     in_units = record {
-      source = may.source;
-      source_loaded = may.source_loaded;
-      source_sound = may.source_sound;
+      source = may.put.source;
+      source_loaded = may.put.source_loaded;
+      source_sound = may.put.source_sound;
       from_is =
-          known.source.described told units settled may.source there.source may.source_loaded
+          known.described told units settled transfer.from.unit may.put.source there.source may.put.source_loaded
           (subst (λ (u : ℕ). slice_get units u ≡ Some (online there.source)) (sym of.from_is) there.source_is);
-      target = may.target.volume;
-      target_loaded = may.target.loaded;
-      target_sound = may.target_sound;
+      target = may.put.target.volume;
+      target_loaded = may.put.target.loaded;
+      target_sound = may.put.target_sound;
       to_is =
-          known.target.described told units settled may.target.volume there.target may.target.loaded
+          known.described told units settled transfer.to.unit may.put.target.volume there.target may.put.target.loaded
           (subst (λ (u : ℕ). slice_get units u ≡ Some (online there.target)) (sym of.to_is) there.target_is);
       within_is = λ i. sym of.from_is i == sym of.to_is i;
       delete_is = sym of.delete_is;
@@ -136,8 +139,8 @@ module _ {P : Type 0} (pools : Ghosts P) (session : SessionView P) (scene : Scen
     good : All IsGood case.set.texts
     good = all_good told units settled case its_case
 
-    -- it is copied, where all acts fit
-    pub copies : {said : List Message} → AllFit session.units transfer (acts_of session.units transfer) → AreLines session.units transfer said
+    -- it is copied, where all its first steps fit
+    pub copies : {said : List Message} → AllFit session.units (first_steps session.units transfer) → AreLines session.units transfer said
         → Means units (steps_of_transfer session.units transfer) said
     copies {said} fit lines =
         let words = lines_same in_units lines in
@@ -178,7 +181,7 @@ module _ {P : Type 0} (pools : Ghosts P) (session : SessionView P) (scene : Scen
         }
 
     -- a VTOC has no room for it, and that is told
-    pub too_full : (text : List ℕ) → IsNameOf transfer.from.name text → SomeLacks session.units transfer (acts_of session.units transfer)
+    pub too_full : (text : List ℕ) → IsNameOf transfer.from.name text → SomeLacks session.units (first_steps session.units transfer)
         → Means units [] (messages.NotProcessed text reasons.VtocFull severities.Error ∷ [])
     too_full text named lacks =
         tells there transfer.to.name reasons.VtocFull text renamed named
@@ -200,17 +203,17 @@ module _ {P : Type 0} (pools : Ghosts P) (session : SessionView P) (scene : Scen
   }
     where
       within : (((ends.added ≡ []) × (pending_cut cut ≡ None))
-          ⊎ ((rest : List Step) × (steps_of_transfer session.units transfer ≡ moves_of ends.added (pending_cut cut) ++ rest) × AllFit session.units transfer (acts_of session.units transfer)))
+          ⊎ ((rest : List Step) × (steps_of_transfer session.units transfer ≡ moves_of ends.added (pending_cut cut) ++ rest) × AllFit session.units (first_steps session.units transfer)))
           → ForUnits pools session (λ units. IsCutAction Means units ends.added (pending_cut cut))
       within (inl none) told units settled = inl none
       within (inr some) told units settled = inr (steps_of_transfer session.units transfer, some.0, said, copies told units settled some.2 lines, some.1)
 
-  pub full_copy : {kept : SessionView P} {before after last : List Step} {messages_before messages_after : List Message} (text : List ℕ) (given : Transferred P) (result : Result (SessionView P) (Cut P))
+  pub full_copy : {kept : SessionView P} {before after last : List Step} {messages_before messages_after : List Message} (text : List ℕ) (given : Acted P) (result : Result (SessionView P) (Cut P))
       → IsNameOf transfer.from.name text → EndsTransfer pools session transfer before after (Ok given) → given ≡ variants.Full kept → last ≡ after
       → IfOk result (λ next. (next ≡ kept) × (messages_after ≡ messages_before ++ (messages.NotProcessed text reasons.VtocFull severities.Error ∷ [])))
       → IfErr result (λ cut. (cut ≡ cuts.Short kept) × (messages_after ≡ messages_before)) → Ends pools Means (IsCutAction Means) session before last messages_before messages_after result
   full_copy {kept} {before} {after} {last} {messages_before} {messages_after} text given result named ends_so is steps ok err =
-      let ends : EndsTransfer pools session transfer before after (Ok (variants.Full kept)) = subst (λ (r : Transferred P). EndsTransfer pools session transfer before after (Ok r)) is ends_so in
+      let ends : EndsTransfer pools session transfer before after (Ok (variants.Full kept)) = subst (λ (r : Acted P). EndsTransfer pools session transfer before after (Ok r)) is ends_so in
       let said : List Message = messages.NotProcessed text reasons.VtocFull severities.Error ∷ [] in
       ends_told pools said result (run_steps (λ told. ends.answers.0) ends.run) (keeps_same pools ends.answers.1) (steps ∙ ends.steps_are ∙ ap (λ (l : List Step). before ++ l) ends.answers.0) ok
       (only_short kept messages_before messages_after result err)
@@ -218,11 +221,11 @@ module _ {P : Type 0} (pools : Ghosts P) (session : SessionView P) (scene : Scen
       (λ told units settled. too_full told units settled text named ends.answers.2) (λ told units settled. inl (refl, refl))
 
   pub done_copy : {next : SessionView P} {before after last : List Step} {messages_before messages_after : List Message} {said : List Message} → AreLines session.units transfer said
-      → (given : Transferred P) (result : Result (SessionView P) (Cut P)) → EndsTransfer pools session transfer before after (Ok given) → given ≡ variants.Done next → last ≡ after
+      → (given : Acted P) (result : Result (SessionView P) (Cut P)) → EndsTransfer pools session transfer before after (Ok given) → given ≡ variants.Done next → last ≡ after
       → IfOk result (λ left. (left ≡ next) × (messages_after ≡ messages_before ++ said)) → IfErr result (λ cut. cut ≡ cuts.Short next) → ((more : List Message) × (messages_after ≡ messages_before ++ more))
       → Ends pools Means (IsCutAction Means) session before last messages_before messages_after result
   done_copy {next} {before} {after} {last} {messages_before} {messages_after} {said} lines given result ends_so is steps ok err grows =
-      let ends : EndsTransfer pools session transfer before after (Ok (variants.Done next)) = subst (λ (r : Transferred P). EndsTransfer pools session transfer before after (Ok r)) is ends_so in
+      let ends : EndsTransfer pools session transfer before after (Ok (variants.Done next)) = subst (λ (r : Acted P). EndsTransfer pools session transfer before after (Ok r)) is ends_so in
       ends_told pools said result (run_steps (λ told. ends.answers.0) ends.run) ends.answers.1 (steps ∙ ends.steps_are ∙ ap (λ (l : List Step). before ++ l) ends.answers.0) ok err grows
       (λ told units settled. copies told units settled ends.answers.3 lines)
       (λ told units settled. inr (steps_of_transfer session.units transfer, [], said, copies told units settled ends.answers.3 lines, sym (append-nil (steps_of_transfer session.units transfer))))
@@ -232,30 +235,30 @@ module _ {P : Type 0} (pools : Ghosts P) (session : SessionView P) (scene : Scen
   abbrev Stays : SessionView P → Type 0
   Stays next = StaysCopyable scene.wish.delete session.room session.units next.units scene.from scene.to transfer.from.name
 
-  pub full_stays : {kept : SessionView P} {before after : List Step} (messages_before messages_after said : List Message) (given : Transferred P) (result : Result (SessionView P) (Cut P))
+  pub full_stays : {kept : SessionView P} {before after : List Step} (messages_before messages_after said : List Message) (given : Acted P) (result : Result (SessionView P) (Cut P))
       → EndsTransfer pools session transfer before after (Ok given) → given ≡ variants.Full kept → IfOk result (λ next. (next ≡ kept) × (messages_after ≡ messages_before ++ said)) → IfOk result Stays
   full_stays {kept} {before} {after} messages_before messages_after said given (Ok next) ends_so is ok =
-      let ends : EndsTransfer pools session transfer before after (Ok (variants.Full kept)) = subst (λ (r : Transferred P). EndsTransfer pools session transfer before after (Ok r)) is ends_so in
+      let ends : EndsTransfer pools session transfer before after (Ok (variants.Full kept)) = subst (λ (r : Acted P). EndsTransfer pools session transfer before after (Ok r)) is ends_so in
       stays_same session.units next.units scene.wish.delete session.room scene.from scene.to transfer.from.name (ap (λ (s : SessionView P). s.units) ok.0 ∙ ends.answers.1.units)
   full_stays messages_before messages_after said given (Err cut) ends_so is ok = tt
 
-  pub done_stays : {next : SessionView P} {before after : List Step} (messages_before messages_after said : List Message) (given : Transferred P) (result : Result (SessionView P) (Cut P))
+  pub done_stays : {next : SessionView P} {before after : List Step} (messages_before messages_after said : List Message) (given : Acted P) (result : Result (SessionView P) (Cut P))
       → EndsTransfer pools session transfer before after (Ok given) → given ≡ variants.Done next → IfOk result (λ left. (left ≡ next) × (messages_after ≡ messages_before ++ said)) → IfOk result Stays
   done_stays {next} {before} {after} messages_before messages_after said given (Ok left) ends_so is ok =
-      let ends : EndsTransfer pools session transfer before after (Ok (variants.Done next)) = subst (λ (r : Transferred P). EndsTransfer pools session transfer before after (Ok r)) is ends_so in
+      let ends : EndsTransfer pools session transfer before after (Ok (variants.Done next)) = subst (λ (r : Acted P). EndsTransfer pools session transfer before after (Ok r)) is ends_so in
       subst Stays (sym ok.0)
-      (stays_done transfer (acts_of session.units transfer) session.units next.units scene.wish.delete session.room scene.from scene.to may.row_is.lawful ends.answers.2)
+      (stays_done transfer session.units next.units scene.wish.delete session.room scene.from scene.to may.put.row_is.lawful ends.answers.2)
   done_stays messages_before messages_after said given (Err cut) ends_so is ok = tt
 
   -- the same, of what is said where the data set isn't copied
-  pub full_told : {kept : SessionView P} {before after last : List Step} {messages_before messages_after : List Message} {said : List Message} → AreLines session.units transfer said → (given : Transferred P)
+  pub full_told : {kept : SessionView P} {before after last : List Step} {messages_before messages_after : List Message} {said : List Message} → AreLines session.units transfer said → (given : Acted P)
       (result : Result (SessionView P) (Cut P)) → EndsTransfer pools session transfer before after (Ok given) → given ≡ variants.Full kept → last ≡ after
       → IfOk result (λ next. (next ≡ kept) × ((text : List ℕ) × IsNameOf transfer.from.name text × (messages_after ≡ messages_before ++ (messages.NotProcessed text reasons.VtocFull severities.Error ∷ []))))
       → IfErr result (λ cut. (cut ≡ cuts.Short kept) × (messages_after ≡ messages_before)) → Ends pools Means (IsCutAction Means) session before last messages_before messages_after result
   full_told lines given (Ok next) ends is steps ok err = full_copy ok.1.0 given (Ok next) ok.1.1 ends is steps (ok.0, ok.1.2) tt
   full_told lines given (Err cut) ends is steps ok err = full_copy lines.text given (Err cut) lines.text_is ends is steps tt err
 
-  pub full_left : {kept : SessionView P} {before after : List Step} (messages_before messages_after : List Message) (given : Transferred P) (result : Result (SessionView P) (Cut P))
+  pub full_left : {kept : SessionView P} {before after : List Step} (messages_before messages_after : List Message) (given : Acted P) (result : Result (SessionView P) (Cut P))
       → EndsTransfer pools session transfer before after (Ok given) → given ≡ variants.Full kept
       → IfOk result (λ next. (next ≡ kept) × ((text : List ℕ) × IsNameOf transfer.from.name text × (messages_after ≡ messages_before ++ (messages.NotProcessed text reasons.VtocFull severities.Error ∷ []))))
       → IfOk result Stays

@@ -9,14 +9,12 @@ use Rattle.free_map.specs.declared.run.Run.{Run}
 use Rattle.volume_model.specs.Pinned.{IsNameOf}
 use Rattle.volume_model.specs.Unit.{UnitModel}
 use Rattle.vtoc_core.specs.declared.volume.Row.{Row}
-use Rattle.vtoc_core.specs.declared.volume.Volume.{Volume}
 use Rattle.unit_load.specs.declared.state.UnitState.{UnitState}
 use Rattle.move_core.specs.declared.steps.Step.{Step}
 use Rattle.move_core.specs.Stands.{IsGood}
-use Rattle.job_copies.specs.unit_steps.Plans.{IsLoadedAt, HasRow}
+use Rattle.job_copies.specs.unit_steps.Plans.{HasRow}
 use Rattle.job_steps.specs.unit_session.Sessions.{SessionView, IsSameSession}
 use Rattle.job_steps.specs.unit_session.Copies.{HasSource}
-use Rattle.job_copies.specs.step_plans.Plans.{IsSound}
 use Rattle.job_lines.specs.declared.message.Message.{Message}
 use Rattle.job_lines.specs.declared.message.Message.TheVariants as messages
 use Rattle.job_lines.specs.declared.message.Reason.{Reason}
@@ -26,7 +24,8 @@ use Rattle.job_steps.specs.declared.cut.Cut.{Cut}
 use Rattle.job_steps.specs.declared.cut.Cut.TheVariants as cuts
 use Rattle.job_ops.specs.declared.copies.Judged.{Judged}
 use Rattle.job_ops.specs.declared.copies.Judged.TheVariants as judges
-use Rattle.job_ops.specs.Acts.{MayTransfer}
+use Rattle.job_acts.specs.Acting.{AreSound}
+use Rattle.job_ops.specs.Transfers.{MayTransfer}
 use Rattle.job_ops.specs.Copy.{Request, CopiesSet, IsNewName}
 use Rattle.job_ops.specs.Copying.{MayBeCopied, MayStand, StaysCopyable, IsThere, IsCase, GoesSoFar, IsJudged, HasGoodTexts}
 use Rattle.job_ops.specs.Ends.{ForUnits, Ends}
@@ -49,23 +48,25 @@ module _ {delete : Bool} {room : ℕ} {units : List UnitState} {from to : ℕ} {
   has_source = (may.source, its_row.0, may.source_loaded, its_row.1)
 
   -- what was judged is what its transfer needs
-  pub may_transfer : {new : Dsn} {replaced : Bool} {runs : List Run} → IsDsn new → MayStand units from to name new replaced runs → ((volume : Volume) → IsLoadedAt units from volume → IsSound volume)
-      → ((volume : Volume) → IsLoadedAt units to volume → IsSound volume)
+  pub may_transfer : {new : Dsn} {replaced : Bool} {runs : List Run} → IsDsn new → MayStand units from to name new replaced runs → AreSound units
       → MayTransfer room units (record { from = record { unit = from; name = name }; to = record { unit = to; name = new }; runs = runs; replaced = replaced; delete = delete })
-  may_transfer {new} {replaced} {runs} lawful stands sound target_sound = record {
-    source = may.source;
-    source_loaded = may.source_loaded;
-    source_sound = sound may.source may.source_loaded;
+  may_transfer {new} {replaced} {runs} lawful stands sound = record {
+    put =
+        record {
+          source = may.source;
+          source_loaded = may.source_loaded;
+          source_sound = sound from may.source may.source_loaded;
+          target = may.target;
+          target_sound = sound to may.target.volume may.target.loaded;
+          like = may.like;
+          row = its_row.0;
+          row_is = its_row.1;
+          few = stands.few may.source its_row.0 may.source_loaded its_row.1;
+          new_is = lawful;
+          places = stands.places may.source may.target.volume its_row.0 may.source_loaded may.target.loaded its_row.1;
+          clear = stands.clear may.target.volume may.target.loaded;
+        };
     may_source = may.may_source;
-    target = may.target;
-    target_sound = target_sound may.target.volume may.target.loaded;
-    like = may.like;
-    row = its_row.0;
-    row_is = its_row.1;
-    few = stands.few may.source its_row.0 may.source_loaded its_row.1;
-    new_is = lawful;
-    places = stands.places may.source may.target.volume its_row.0 may.source_loaded may.target.loaded its_row.1;
-    clear = stands.clear may.target.volume may.target.loaded;
     apart = stands.apart;
   }
 

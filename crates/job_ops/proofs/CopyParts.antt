@@ -1,25 +1,18 @@
 -- What a session says of the data set that is to be copied, and what is judged of it.
-use Rattle.std.proofs.Common.{◌≡◌, ◌≢◌, ◌↔◌, ℕ, ◌<◌, ◌≤◌, ◌==◌, Bool, true, IsTrue, List, [], ◌∷◌, length, All, Option, Some, None, refl, sym, ap, subst, ◌∙◌, false}
-use Rattle.std.specs.Prelude.{IfSome, IfNone, slice_get}
+use Rattle.std.proofs.Common.{◌≡◌, ◌≢◌, ◌↔◌, ℕ, ◌≤◌, ◌==◌, Bool, true, IsTrue, List, [], ◌∷◌, length, All, Option, Some, None, sym, subst, ◌∙◌}
+use Rattle.std.specs.Prelude.{IfSome, IfNone}
 use Rattle.std.proofs.lemmas.Bool.{eqb-true, eq-eqb}
 use Rattle.std.proofs.lemmas.List.Elements.{All-head}
-use Rattle.std.proofs.lemmas.Option.{same_Some}
 use Rattle.dasd_pool.specs.declared.pool.Pool.{Ghosts}
 use Rattle.dsn_filter.specs.declared.dsn.Dsn.{Dsn}
 use Rattle.dsn_filter.specs.Dsn.{IsDsn}
 use Rattle.free_map.specs.declared.run.Run.{Run}
-use Rattle.redo_core.specs.Reading.{journal_of}
 use Rattle.volume_model.specs.Pinned.{IsNameOf}
-use Rattle.volume_model.specs.Unit.{OnlineVolume, UnitModel, online}
+use Rattle.volume_model.specs.Unit.{UnitModel}
 use Rattle.vtoc_core.specs.declared.volume.Row.{Row}
 use Rattle.vtoc_core.specs.declared.volume.Volume.{Volume}
-use Rattle.move_core.specs.Facts.{Facts}
 use Rattle.move_core.specs.Stands.{IsSettled}
-use Rattle.job_copies.specs.unit_change.Described.{Describes}
 use Rattle.unit_load.specs.declared.state.UnitState.{UnitState}
-use Rattle.unit_load.specs.declared.state.UnitState.TheVariants.{Online}
-use Rattle.unit_load.specs.Kept.{IsKept}
-use Rattle.job_copies.specs.unit_steps.Loaded.{IsModel}
 use Rattle.job_copies.specs.unit_steps.Plans.{IsLoadedAt, HasRow}
 use Rattle.job_steps.specs.unit_session.Sessions.{SessionView}
 use Rattle.job_copies.specs.step_plans.Plans.{ArePlacesOn, IsClear}
@@ -32,10 +25,8 @@ use Rattle.job_ops.specs.declared.copies.Judged.TheVariants as judges
 use Rattle.job_ops.specs.Copy.{Request}
 use Rattle.job_ops.specs.Copying.{MayBeCopied, IsCase, IsThere, IsJudged, MayStand}
 use Rattle.job_ops.specs.Ends.{ForUnits}
-use Rattle.job_ops.specs.Reshaping.{IsKnown}
 use Rattle.job_ops.specs.Setting.{facts_of}
-use Rattle.job_ops.proofs.Looking.{unit_there}
-use Rattle.job_ops.proofs.ReshapeKnown.{known}
+use Rattle.job_ops.proofs.LoadedUnits.{AreKnown}
 use Rattle.job_copies.proofs.SetsOfRows.{named_set}
 use Rattle.job_steps.proofs.unit_session.unit_steps.OneChange.{same_volume}
 
@@ -51,37 +42,6 @@ at_some {X} Holds {found} {x} is holds = subst (λ (o : Option X). IfSome o Hold
 pub at_none : {X : Type 0} (Holds : Type 0) {found : Option X} → found ≡ None → IfNone found Holds → Holds
 at_none {X} Holds {found} is holds = subst (λ (o : Option X). IfNone o Holds) is holds
 
--- ---- a unit that a session has
-
--- what a session answers of a unit
-pub record IsAsked {P : Type 0} (pools : Ghosts P) (session : SessionView P) (unit : ℕ) (state : UnitState) : Type 0 where
-  pub below : unit < journal_of (pools.shape session.pool)
-  pub value : slice_get session.units unit ≡ Some state
-  pub kept : (slots : List ℕ) × IsKept false ((pools.shape session.pool).head unit) ((pools.shape session.pool).blocks unit) state slots
-  pub model : pools.tells → (facts : Facts) (models : List UnitModel) (model : UnitModel) → facts.shape ≡ pools.shape session.pool → IsSettled facts (pools.disk session.pool).state models
-      → slice_get models unit ≡ Some model → IsModel state model
-
-pub asked : {P : Type 0} (pools : Ghosts P) (session : SessionView P) (unit : ℕ) (state : UnitState) → unit < journal_of (pools.shape session.pool) → slice_get session.units unit ≡ Some state
-    → ((slots : List ℕ) × IsKept false ((pools.shape session.pool).head unit) ((pools.shape session.pool).blocks unit) state slots)
-    → (pools.tells → (facts : Facts) (models : List UnitModel) (model : UnitModel) → facts.shape ≡ pools.shape session.pool → IsSettled facts (pools.disk session.pool).state models
-    → slice_get models unit ≡ Some model → IsModel state model)
-    → IsAsked pools session unit state
-asked pools session unit state below value kept model = record { below = below; value = value; kept = kept; model = model }
-
-module _ {P : Type 0} {pools : Ghosts P} {session : SessionView P} {unit : ℕ} {state : UnitState} (is : IsAsked pools session unit state) where
-  pub known_unit : IsKnown pools session unit
-  known_unit = known pools session unit state is.value _ is.kept.0 _ is.kept.1 is.model
-
-  -- where a volume was loaded, there is one
-  pub online_at : (loaded : Volume) → IsLoadedAt session.units unit loaded → pools.tells → (units : List UnitModel) → IsSettled (facts_of pools session) (pools.disk session.pool).state units
-      → (volume : OnlineVolume) × (slice_get units unit ≡ Some (online volume)) × Describes loaded volume
-  online_at loaded there told units settled =
-      let found = unit_there (facts_of pools session) (pools.disk session.pool).state units settled unit is.below in
-      let same : state ≡ Online loaded = same_Some state (Online loaded) (sym is.value ∙ there) in
-      let model : IsModel (Online loaded) found.0 =
-      subst (λ (s : UnitState). IsModel s found.0) same (is.model told (facts_of pools session) units found.0 refl settled found.1) in
-      (model.0, found.1 ∙ ap Some model.1, model.2)
-
 -- ---- the data set
 
 module _ {room : ℕ} {units : List UnitState} {from to : ℕ} {name : Dsn} {delete : Bool} (may : MayBeCopied delete room units from to (name ∷ [])) where
@@ -92,13 +52,12 @@ module _ {room : ℕ} {units : List UnitState} {from to : ℕ} {name : Dsn} {del
 
 module _ {P : Type 0} {pools : Ghosts P} {session : SessionView P} {request : Request} {name : Dsn} {delete : Bool}
     (may : MayBeCopied delete session.room session.units request.from request.to (name ∷ [])) where
-  pub is_there : {source_state target_state : UnitState} → IsAsked pools session request.from source_state → IsAsked pools session request.to target_state
-      → ForUnits pools session (IsThere request name)
-  is_there {source_state} {target_state} source_asked target_asked told units settled =
-      let source = online_at source_asked may.source may.source_loaded told units settled in
-      let target = online_at target_asked may.target.volume may.target.loaded told units settled in
+  pub is_there : AreKnown pools session → ForUnits pools session (IsThere request name)
+  is_there known told units settled =
+      let source = known.online_at told units settled request.from may.source may.source_loaded in
+      let target = known.online_at told units settled request.to may.target.volume may.target.loaded in
       let found = row_there may may.source may.source_loaded in
-      let set = named_set may.source source.0 ((known_unit source_asked).sound may.source may.source_loaded) source.2 name found.0 found.1 in
+      let set = named_set may.source source.0 (known.sound request.from may.source may.source_loaded) source.2 name found.0 found.1 in
       record {
         source = source.0;
         source_is = source.1;
@@ -113,23 +72,21 @@ module _ {P : Type 0} {pools : Ghosts P} {session : SessionView P} {request : Re
 
 -- it is judged on the volumes of these units
 pub record IsCopyingIn {P : Type 0} (pools : Ghosts P) (session : SessionView P) (request : Request) (name new : Dsn) (copying : Copying) : Type 0 where
+  pub known : AreKnown pools session
   pub source_at : IsLoadedAt session.units request.from copying.source.now
   pub target_at : IsLoadedAt session.units request.to copying.target.now
-  pub source : IsKnown pools session request.from
-  pub target : IsKnown pools session request.to
   pub within_is : copying.within ≡ (request.from == request.to)
   pub name_is : copying.name ≡ name
   pub new_is : copying.new ≡ new
   pub wish_is : copying.wish ≡ request.wish
 
-pub copying_in : {P : Type 0} {pools : Ghosts P} {session : SessionView P} {request : Request} {name new : Dsn} {copying : Copying} {source_state target_state : UnitState}
-    → IsAsked pools session request.from source_state → IsAsked pools session request.to target_state → source_state ≡ Online copying.source.now → target_state ≡ Online copying.target.now
+pub copying_in : {P : Type 0} {pools : Ghosts P} {session : SessionView P} {request : Request} {name new : Dsn} {copying : Copying}
+    → AreKnown pools session → IsLoadedAt session.units request.from copying.source.now → IsLoadedAt session.units request.to copying.target.now
     → copying.within ≡ (request.from == request.to) → copying.name ≡ name → copying.new ≡ new → copying.wish ≡ request.wish → IsCopyingIn pools session request name new copying
-copying_in source target source_is target_is within_is name_is new_is wish_is = record {
-  source_at = source.value ∙ ap Some source_is;
-  target_at = target.value ∙ ap Some target_is;
-  source = known_unit source;
-  target = known_unit target;
+copying_in known source target within_is name_is new_is wish_is = record {
+  known = known;
+  source_at = source;
+  target_at = target;
   within_is = within_is;
   name_is = name_is;
   new_is = new_is;
@@ -141,8 +98,8 @@ module _ {P : Type 0} {pools : Ghosts P} {session : SessionView P} {request : Re
   may_copy {delete} may lawful =
       let found = row_there may copying.source.now is.source_at in
       record {
-        sound = is.source.sound copying.source.now is.source_at;
-        target_sound = is.target.sound copying.target.now is.target_at;
+        sound = is.known.sound request.from copying.source.now is.source_at;
+        target_sound = is.known.sound request.to copying.target.now is.target_at;
         row = found.0;
         row_is = subst (λ (n : Dsn). HasRow copying.source.now n found.0) (sym is.name_is) found.1;
         new_is = subst IsDsn (sym is.new_is) lawful;
@@ -156,8 +113,8 @@ module _ {P : Type 0} {pools : Ghosts P} {session : SessionView P} {request : Re
   pub copied_case : pools.tells → (units : List UnitModel) → IsSettled (facts_of pools session) (pools.disk session.pool).state units
       → (case : Case) → IsCase request name new units case → AreCopied copying case
   copied_case told units settled case case_is = record {
-    from_is = is.source.described told units settled copying.source.now case.from is.source_at case_is.source_is;
-    to_is = is.target.described told units settled copying.target.now case.to is.target_at case_is.target_is;
+    from_is = is.known.described told units settled request.from copying.source.now case.from is.source_at case_is.source_is;
+    to_is = is.known.described told units settled request.to copying.target.now case.to is.target_at case_is.target_is;
     within_is = case_is.within_is ∙ sym is.within_is;
     name_is = case_is.case_name ∙ sym is.name_is;
     new_is = case_is.case_new ∙ sym is.new_is;

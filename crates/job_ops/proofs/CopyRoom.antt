@@ -1,7 +1,7 @@
 -- Whether the VTOCs have room for a copy, on the loaded volumes and in the model.
-use Rattle.std.proofs.Common.{◌≡◌, ◌≢◌, ◌⊎◌, inl, inr, ◌↔◌, ℕ, ◌-◌, ◌==◌, not, Bool, true, false, IsTrue, List, [], ◌∷◌, ◌++◌, length, replicate, All, Contains, refl, sym, ap, subst, ◌∙◌}
+use Rattle.std.proofs.Common.{◌≡◌, ◌≢◌, ◌⊎◌, inl, inr, ◌↔◌, ℕ, ◌-◌, ◌==◌, nat_lt, not, Bool, true, false, IsTrue, List, [], ◌∷◌, ◌++◌, length, replicate, All, Contains, refl, sym, ap, subst, ◌∙◌}
 use Rattle.std.specs.Prelude.{if◌then◌else◌}
-use Rattle.std.proofs.lemmas.List.Elements.{All-head, All-tail, All-nil, All-cons, All-contains}
+use Rattle.std.proofs.lemmas.List.Elements.{All-head, All-tail, All-nil, All-cons, All-contains, Contains-append_cases}
 use Rattle.std.proofs.lemmas.Bool.{false≢true}
 use Rattle.ckd_image.specs.declared.device.Device.{Device}
 use Rattle.ckd_image.specs.Device.{heads_of}
@@ -16,7 +16,7 @@ use Rattle.volume_model.specs.Reads.{fields_of_1, extent_in}
 use Rattle.volume_model.specs.Unit.{Text, Extent, DataSet, OnlineVolume, tracks_of, IsFreeTrack}
 use Rattle.vtoc_core.specs.declared.volume.Volume.{Volume}
 use Rattle.vtoc_core.specs.Loaded.{field_of}
-use Rattle.vtoc_layout.proofs.Distinct.{first_or_later, in_none, in_front, in_back, in_middle, at_first}
+use Rattle.vtoc_layout.proofs.Distinct.{first_or_later, in_none, in_front, in_back, in_middle, in_later, at_first}
 use Rattle.volume_change.specs.declared.change.Change.{Change}
 use Rattle.volume_change.specs.declared.change.Change.TheVariants.{Repair, Put, Swap, Remove, Mark}
 use Rattle.volume_change.proofs.Names.{one_text}
@@ -24,6 +24,7 @@ use Rattle.job_copies.specs.vtoc_render.Next.{IsNext, MayChange}
 use Rattle.job_copies.specs.unit_change.Described.{Describes, DescribesSet}
 use Rattle.job_copies.specs.unit_change.Changed.{extents_of, set_put, sets_put}
 use Rattle.unit_load.specs.declared.state.UnitState.{UnitState}
+use Rattle.move_core.specs.declared.steps.Step.{Step}
 use Rattle.move_core.specs.declared.steps.Step.TheVariants as steps
 use Rattle.move_core.specs.Facts.{Original}
 use Rattle.move_core.specs.Steps.{original_of, IsOriginal, IsCopy, IsNewKind, LieOnCylinders, extents_on, fields_at, tracks_for, empty_text}
@@ -37,16 +38,18 @@ use Rattle.job_steps.specs.Carried.{HaveNext}
 use Rattle.job_copies.specs.Case.{Case, ReplacesSome}
 use Rattle.job_copies.specs.Places.{ArePlacesFor}
 use Rattle.job_ops.specs.declared.transfer.Transfer.{Transfer}
-use Rattle.job_ops.specs.declared.transfer.Act.{Act}
-use Rattle.job_ops.specs.declared.transfer.Act.TheVariants as acts
-use Rattle.job_ops.specs.Acts as spec
-use Rattle.job_ops.specs.Acts.{is_carried, is_deleted, is_unstated, due, repair_acts, acts_of, Fits, FitsNow, AllFit, SomeLacks}
-use Rattle.job_ops.specs.Copy.{IsCarried, GoFor, LacksRoomForCopy, LacksRoomToCopy, lower_first}
+use Rattle.job_acts.specs.Making.{repair_steps}
+use Rattle.job_acts.specs.Acting as spec
+use Rattle.job_acts.specs.Acting.{Fits, AllFit, SomeLacks}
+use Rattle.job_ops.specs.Transfers as transfers
+use Rattle.job_ops.specs.Transfers.{is_carried, is_unstated, due, units_due, copying_step, first_steps}
+use Rattle.job_ops.specs.Copy.{IsCarried, GoFor, LacksRoomForCopy, LacksRoomToCopy}
 use Rattle.job_ops.proofs.ReshapeTargets.{described_by}
-use Rattle.job_ops.proofs.ReshapeUnits.{repair_planned}
-use Rattle.job_ops.proofs.TransferPlans.{PlansTransfer, transfer_planned}
-use Rattle.job_ops.proofs.TransferUnits.{full_one}
-use Rattle.job_ops.proofs.NewKinds.{one_kind, one_step}
+use Rattle.job_acts.proofs.PlansMade.{repair_planned}
+use Rattle.job_ops.proofs.Transferring.{PlansTransfer, transfer_planned}
+use Rattle.job_acts.proofs.Repairing.{full_one}
+use Rattle.job_acts.proofs.Alike.{one_kind}
+use Rattle.job_ops.proofs.NewKinds.{one_step}
 use Rattle.job_steps.proofs.unit_session.unit_steps.Small.{putting_no_mark, remove_no_mark}
 
 -- ---- marks
@@ -118,14 +121,14 @@ module _ {units : List UnitState} {transfer : Transfer} {case : Case} (is : IsTr
   -- ---- whose free space is stated
 
   pub unstated_to : is_unstated units transfer.to.unit ≡ case.to.repair
-  unstated_to = ap spec.says_unstated is.target_loaded ∙ sym is.to_is.repair_is
+  unstated_to = ap transfers.says_unstated is.target_loaded ∙ sym is.to_is.repair_is
 
   pub unstated_from : is_unstated units transfer.from.unit ≡ case.from.repair
-  unstated_from = ap spec.says_unstated is.source_loaded ∙ sym is.from_is.repair_is
+  unstated_from = ap transfers.says_unstated is.source_loaded ∙ sym is.from_is.repair_is
 
   -- ---- the copy's plan
 
-  module _ {changes : List (ℕ × Change)} (plan : PlansTransfer units transfer changes) where
+  module _ {changes : List (ℕ × Change)} (plan : PlansTransfer transfer units changes) where
     target_is : plan.copy.volume ≡ is.target
     target_is = same_volume units transfer.to.unit plan.copy.volume is.target plan.copy.loaded is.target_loaded
 
@@ -301,74 +304,58 @@ module _ {units : List UnitState} {transfer : Transfer} {case : Case} (is : IsTr
         law loaded one.1 volume Repair [] [] sound describes (tt {0}) no_mark_repairs (refl, All-nil (Contains volume.sets))
         (subst (λ (v : Volume). IsNext v Repair one.1) (same_volume units unit one.0 loaded one.2 at) one.3) full
 
-  -- ---- which acts there are
+  -- ---- which repairs there are
 
-  due_some : (unit : ℕ) (act : Act) → is_unstated units unit ≡ true → Contains (due units unit act) act
-  due_some unit act is_due = subst (λ (b : Bool). Contains (if b then act ∷ [] else []) act) (sym is_due) (at_first act [])
+  abbrev due_if : ℕ → Bool → List ℕ
+  due_if unit unstated = if unstated then unit ∷ [] else []
 
-  from_due : (unit : ℕ) (act other : Act) → Contains (due units unit act) other → (is_unstated units unit ≡ true) × (act ≡ other)
-  from_due unit act other there = by (is_unstated units unit) refl
+  in_due : (unit : ℕ) → is_unstated units unit ≡ true → Contains (due units unit) unit
+  in_due unit unstated = subst (λ (b : Bool). Contains (due_if unit b) unit) (sym unstated) (at_first unit [])
+
+  from_due : (unit other : ℕ) → Contains (due units unit) other → (is_unstated units unit ≡ true) × (unit ≡ other)
+  from_due unit other there = by (is_unstated units unit) refl
     where
-      by : (b : Bool) → is_unstated units unit ≡ b → (is_unstated units unit ≡ true) × (act ≡ other)
+      by : (unstated : Bool) → is_unstated units unit ≡ unstated → (is_unstated units unit ≡ true) × (unit ≡ other)
       by true is_due = (
         is_due,
-        elim (first_or_later act other [] (subst (λ (b : Bool). Contains (if b then act ∷ [] else []) other) is_due there)) [ inl same ↦ same | inr none ↦ absurd (in_none other none) ],
+        elim (first_or_later unit other [] (subst (λ (b : Bool). Contains (due_if unit b) other) is_due there)) [ inl same ↦ same | inr none ↦ absurd (in_none other none) ],
       )
-      by false stated = absurd (in_none other (subst (λ (b : Bool). Contains (if b then act ∷ [] else []) other) stated there))
+      by false stated = absurd (in_none other (subst (λ (b : Bool). Contains (due_if unit b) other) stated there))
 
-  abbrev sources : List Act
-  sources = due units transfer.from.unit acts.RepairSource
+  abbrev sources : List ℕ
+  sources = due units transfer.from.unit
 
-  abbrev targets : List Act
-  targets = due units transfer.to.unit acts.RepairTarget
+  abbrev targets : List ℕ
+  targets = due units transfer.to.unit
 
-  abbrev repairs_if : Bool → List Act
-  repairs_if carried =
-      if carried then lower_first transfer.from.unit transfer.to.unit (due units transfer.from.unit acts.RepairSource) (due units transfer.to.unit acts.RepairTarget)
-      else due units transfer.to.unit acts.RepairTarget
+  abbrev units_if : (carried lower : Bool) → List ℕ
+  units_if carried lower = if carried then (if lower then sources ++ targets else targets ++ sources) else targets
 
-  abbrev lower_if : Bool → List Act
-  lower_if lower =
-      if lower then due units transfer.from.unit acts.RepairSource ++ due units transfer.to.unit acts.RepairTarget
-      else due units transfer.to.unit acts.RepairTarget ++ due units transfer.from.unit acts.RepairSource
+  abbrev lower : Bool
+  lower = nat_lt transfer.from.unit transfer.to.unit
 
-  target_in : (carried : Bool) → Contains targets acts.RepairTarget → Contains (repairs_if carried) acts.RepairTarget
-  target_in false there = there
-  target_in true there = by (Rattle.std.specs.Prelude.nat_lt transfer.from.unit transfer.to.unit)
-    where
-      by : (lower : Bool) → Contains (lower_if lower) acts.RepairTarget
-      by true = in_back sources targets acts.RepairTarget there
-      by false = in_front targets sources acts.RepairTarget there
+  target_in : (carried less : Bool) → Contains targets transfer.to.unit → Contains (units_if carried less) transfer.to.unit
+  target_in false less there = there
+  target_in true true there = in_back sources targets transfer.to.unit there
+  target_in true false there = in_front targets sources transfer.to.unit there
 
-  source_in : Contains sources acts.RepairSource → Contains (repairs_if true) acts.RepairSource
-  source_in there = by (Rattle.std.specs.Prelude.nat_lt transfer.from.unit transfer.to.unit)
-    where
-      by : (lower : Bool) → Contains (lower_if lower) acts.RepairSource
-      by true = in_front sources targets acts.RepairSource there
-      by false = in_back targets sources acts.RepairSource there
+  source_in : (less : Bool) → Contains sources transfer.from.unit → Contains (units_if true less) transfer.from.unit
+  source_in true there = in_front sources targets transfer.from.unit there
+  source_in false there = in_back targets sources transfer.from.unit there
 
-  parts_of : (carried : Bool) (act : Act) → Contains (repairs_if carried) act → ((carried ≡ true) × Contains sources act) ⊎ Contains targets act
-  parts_of false act there = inr there
-  parts_of true act there = by (Rattle.std.specs.Prelude.nat_lt transfer.from.unit transfer.to.unit) there
-    where
-      by : (lower : Bool) → Contains (lower_if lower) act → ((true ≡ true) × Contains sources act) ⊎ Contains targets act
-      by true held = elim (Rattle.std.proofs.lemmas.List.Elements.Contains-append_cases sources targets act held) [ inl one ↦ inl (refl, one) | inr other ↦ inr other ]
-      by false held = elim (Rattle.std.proofs.lemmas.List.Elements.Contains-append_cases targets sources act held) [ inl one ↦ inr one | inr other ↦ inl (refl, other) ]
+  parts_of : (carried less : Bool) (unit : ℕ) → Contains (units_if carried less) unit → ((carried ≡ true) × Contains sources unit) ⊎ Contains targets unit
+  parts_of false less unit there = inr there
+  parts_of true true unit there = elim (Contains-append_cases sources targets unit there) [ inl one ↦ inl (refl, one) | inr other ↦ inr other ]
+  parts_of true false unit there = elim (Contains-append_cases targets sources unit there) [ inl one ↦ inr one | inr other ↦ inl (refl, other) ]
 
-  abbrev behind : List Act
-  behind = acts.Copy ∷ (if is_deleted transfer then acts.Delete ∷ [] else [])
+  repair_in : (list : List ℕ) (unit : ℕ) → Contains list unit → Contains (repair_steps list) (steps.Repair unit)
+  repair_in [] unit there = absurd (in_none unit there)
+  repair_in (x ∷ list) unit there = elim (first_or_later x unit list there) [
+    | inl same ↦ subst (λ (u : ℕ). Contains (repair_steps (x ∷ list)) (steps.Repair u)) same (at_first (steps.Repair x) (repair_steps list))
+    | inr later ↦ in_later (steps.Repair x) (steps.Repair unit) (repair_steps list) (repair_in list unit later)
+  ]
 
   -- ---- all fit
-
-  abbrev is_act : Act → Type 0
-  is_act acts.Delete = ⊥
-  is_act _ = Unit {0}
-
-  fits_of : AllFit units transfer (acts_of units transfer) → (act : Act) → is_act act → Contains (acts_of units transfer) act → Fits units transfer act
-  fits_of all act other there = elim (All-contains (FitsNow units transfer) (acts_of units transfer) act all there) [
-    | inl same ↦ absurd (subst is_act same other)
-    | inr fits ↦ fits
-  ]
 
   abbrev NextOf : ℕ × Change → Type 0
   NextOf change = (v : Volume) × (next : Volume) × IsLoadedAt units change.0 v × IsNext v change.1 next
@@ -376,12 +363,15 @@ module _ {units : List UnitState} {transfer : Transfer} {case : Case} (is : IsTr
   abbrev taking : Bool → List (ℕ × Change)
   taking carried = if carried then (transfer.from.unit, Remove transfer.from.name) ∷ [] else []
 
-  module _ (law : FittingChangesAreNotFull) (list : SameTracksSameRuns) (choice : OneChoice) (all : AllFit units transfer (acts_of units transfer)) where
-    copies : Fits units transfer acts.Copy
-    copies = fits_of all acts.Copy (tt {0}) (in_middle (repair_acts units transfer) acts.Copy (if is_deleted transfer then acts.Delete ∷ [] else []))
+  abbrev first : List Step
+  first = first_steps units transfer
 
-    planned : PlansTransfer units transfer copies.plan.changes
-    planned = transfer_planned units transfer copies.plan copies.step_is copies.lawful
+  module _ (law : FittingChangesAreNotFull) (list : SameTracksSameRuns) (choice : OneChoice) (all : AllFit units (first_steps units transfer)) where
+    copies : Fits units (copying_step transfer)
+    copies = All-contains (Fits units) first (copying_step transfer) all (in_middle (repair_steps (units_due units transfer)) (copying_step transfer) [])
+
+    planned : PlansTransfer transfer units copies.plan.changes
+    planned = transfer_planned transfer units copies.plan copies.step_is copies.lawful
 
     nexts : All NextOf ((transfer.to.unit, planned.change) ∷ taking (is_carried transfer))
     nexts = subst (λ (l : List (ℕ × Change)). All NextOf l) planned.changes_are copies.next
@@ -397,16 +387,18 @@ module _ {units : List UnitState} {transfer : Transfer} {case : Case} (is : IsTr
         (subst (λ (b : Bool). All NextOf (taking b)) carried (All-tail NextOf (transfer.to.unit, planned.change) (taking (is_carried transfer)) nexts)) in
         (one.1, subst (λ (v : Volume). IsNext v (Remove transfer.from.name) one.1) (same_volume units transfer.from.unit one.0 is.source one.2 is.source_loaded) one.3)
 
-    states_target : case.to.repair ≡ true → Fits units transfer acts.RepairTarget
-    states_target unstated =
-        fits_of all acts.RepairTarget (tt {0})
-        (in_front (repair_acts units transfer) behind acts.RepairTarget (target_in (is_carried transfer) (due_some transfer.to.unit acts.RepairTarget (unstated_to ∙ unstated))))
+    repair_fits_of : (unit : ℕ) → Contains (units_due units transfer) unit → Fits units (steps.Repair unit)
+    repair_fits_of unit there =
+        All-contains (Fits units) first (steps.Repair unit) all
+        (in_front (repair_steps (units_due units transfer)) (copying_step transfer ∷ []) (steps.Repair unit) (repair_in (units_due units transfer) unit there))
 
-    states_source : IsCarried case → case.from.repair ≡ true → Fits units transfer acts.RepairSource
+    states_target : case.to.repair ≡ true → Fits units (steps.Repair transfer.to.unit)
+    states_target unstated = repair_fits_of transfer.to.unit (target_in (is_carried transfer) lower (in_due transfer.to.unit (unstated_to ∙ unstated)))
+
+    states_source : IsCarried case → case.from.repair ≡ true → Fits units (steps.Repair transfer.from.unit)
     states_source carried unstated =
-        fits_of all acts.RepairSource (tt {0})
-        (in_front (repair_acts units transfer) behind acts.RepairSource
-        (subst (λ (b : Bool). Contains (repairs_if b) acts.RepairSource) (sym (carried_to carried)) (source_in (due_some transfer.from.unit acts.RepairSource (unstated_from ∙ unstated)))))
+        repair_fits_of transfer.from.unit
+        (subst (λ (b : Bool). Contains (units_if b lower) transfer.from.unit) (sym (carried_to carried)) (source_in lower (in_due transfer.from.unit (unstated_from ∙ unstated))))
 
     may_take : is_carried transfer ≡ true → MayChange is.source (Remove transfer.from.name)
     may_take carried = subst (λ (v : Volume). MayChange v (Remove transfer.from.name)) (source_is planned) (planned.may_remove carried)
@@ -427,49 +419,10 @@ module _ {units : List UnitState} {transfer : Transfer} {case : Case} (is : IsTr
 
   -- ---- one lacks room
 
-  abbrev is_source : Act → Type 0
-  is_source acts.RepairSource = Unit {0}
-  is_source _ = ⊥
-
-  abbrev is_target : Act → Type 0
-  is_target acts.RepairTarget = Unit {0}
-  is_target _ = ⊥
-
-  abbrev is_repair : Act → Type 0
-  is_repair acts.RepairSource = Unit {0}
-  is_repair acts.RepairTarget = Unit {0}
-  is_repair _ = ⊥
-
-  -- a repair is among the first acts
-  in_repairs : (act : Act) → is_repair act → Contains (acts_of units transfer) act → Contains (repair_acts units transfer) act
-  in_repairs act repair there = elim (Rattle.std.proofs.lemmas.List.Elements.Contains-append_cases (repair_acts units transfer) behind act there) [
-    | inl one ↦ one
-    | inr other ↦ elim (first_or_later acts.Copy act (if is_deleted transfer then acts.Delete ∷ [] else []) other) [
-      | inl same ↦ absurd (subst is_repair (sym same) repair)
-      | inr later ↦ absurd (by (is_deleted transfer) later)
-    ]
-  ]
-    where
-      by : (deleted : Bool) → Contains (if deleted then acts.Delete ∷ [] else []) act → ⊥
-      by true held = elim (first_or_later acts.Delete act [] held) [ inl same ↦ absurd (subst is_repair (sym same) repair) | inr none ↦ absurd (in_none act none) ]
-      by false held = in_none act held
-
-  target_unstated : Contains (acts_of units transfer) acts.RepairTarget → case.to.repair ≡ true
-  target_unstated there = elim (parts_of (is_carried transfer) acts.RepairTarget (in_repairs acts.RepairTarget (tt {0}) there)) [
-    | inl (carried, one) ↦ absurd (subst is_source (from_due transfer.from.unit acts.RepairSource acts.RepairTarget one).1 (tt {0}))
-    | inr other ↦ sym unstated_to ∙ (from_due transfer.to.unit acts.RepairTarget acts.RepairTarget other).0
-  ]
-
-  source_unstated : Contains (acts_of units transfer) acts.RepairSource → (is_carried transfer ≡ true) × (case.from.repair ≡ true)
-  source_unstated there = elim (parts_of (is_carried transfer) acts.RepairSource (in_repairs acts.RepairSource (tt {0}) there)) [
-    | inl (carried, one) ↦ (carried, sym unstated_from ∙ (from_due transfer.from.unit acts.RepairSource acts.RepairSource one).0)
-    | inr other ↦ absurd (subst is_target (from_due transfer.to.unit acts.RepairTarget acts.RepairSource other).1 (tt {0}))
-  ]
-
   module _ (law : LackingChangesAreFull) where
-    copy_lacks : spec.LacksRoom units transfer acts.Copy → LacksRoomToCopy case
+    copy_lacks : spec.LacksRoom units (copying_step transfer) → LacksRoomToCopy case
     copy_lacks lacks =
-        let plan = transfer_planned units transfer lacks.plan lacks.step_is lacks.lawful in
+        let plan = transfer_planned transfer units lacks.plan lacks.step_is lacks.lawful in
         let one = full_one lacks.full in
         elim (first_or_later (transfer.to.unit, plan.change) one.0 (taking (is_carried transfer)) (subst (λ (l : List (ℕ × Change)). Contains l one.0) plan.changes_are one.2)) [
           | inl same ↦
@@ -479,7 +432,7 @@ module _ {units : List UnitState} {transfer : Transfer} {case : Case} (is : IsTr
           | inr later ↦ by plan (is_carried transfer) refl one.0 one.1 later one.3 one.4
         ]
       where
-        by : (plan : PlansTransfer units transfer lacks.plan.changes) (carried : Bool) → is_carried transfer ≡ carried → (one : ℕ × Change) (volume : Volume) → Contains (taking (is_carried transfer)) one
+        by : (plan : PlansTransfer transfer units lacks.plan.changes) (carried : Bool) → is_carried transfer ≡ carried → (one : ℕ × Change) (volume : Volume) → Contains (taking (is_carried transfer)) one
             → IsLoadedAt units one.0 volume → LacksRoom volume one.1 → LacksRoomToCopy case
         by plan true carried one volume there loaded none = elim (first_or_later (transfer.from.unit, Remove transfer.from.name) one [] (subst (λ (b : Bool). Contains (taking b) one) carried there)) [
           | inl same ↦
@@ -495,23 +448,40 @@ module _ {units : List UnitState} {transfer : Transfer} {case : Case} (is : IsTr
         ]
         by plan false stays one volume there loaded none = absurd (in_none one (subst (λ (b : Bool). Contains (taking b) one) stays there))
 
-    by_act : (act : Act) → Contains (acts_of units transfer) act → act ≢ acts.Delete → spec.LacksRoom units transfer act → LacksRoomToCopy case
-    by_act acts.RepairSource there other lacks =
-        let is_due = source_unstated there in
+    -- of a unit whose free space is to be stated
+    unit_lacks : (unit : ℕ) → ((is_carried transfer ≡ true) × Contains sources unit) ⊎ Contains targets unit → spec.LacksRoom units (steps.Repair unit) → LacksRoomToCopy case
+    unit_lacks unit (inl (carried, there)) lacks =
+        let is_due = from_due transfer.from.unit unit there in
+        let here : spec.LacksRoom units (steps.Repair transfer.from.unit) = subst (λ (u : ℕ). spec.LacksRoom units (steps.Repair u)) (sym is_due.1) lacks in
         inr (inr (
-          carried_from is_due.0,
+          carried_from carried,
           inl (
-            is_due.1,
-            repair_lacks transfer.from.unit is.source case.from is.source_loaded is.source_sound is.from_is law lacks.plan lacks.need lacks.free lacks.step_is lacks.lawful lacks.full,
+            sym unstated_from ∙ is_due.0,
+            repair_lacks transfer.from.unit is.source case.from is.source_loaded is.source_sound is.from_is law here.plan here.need here.free here.step_is here.lawful here.full,
           ),
         ))
-    by_act acts.RepairTarget there other lacks =
+    unit_lacks unit (inr there) lacks =
+        let is_due = from_due transfer.to.unit unit there in
+        let here : spec.LacksRoom units (steps.Repair transfer.to.unit) = subst (λ (u : ℕ). spec.LacksRoom units (steps.Repair u)) (sym is_due.1) lacks in
         inl (
-          target_unstated there,
-          repair_lacks transfer.to.unit is.target case.to is.target_loaded is.target_sound is.to_is law lacks.plan lacks.need lacks.free lacks.step_is lacks.lawful lacks.full,
+          sym unstated_to ∙ is_due.0,
+          repair_lacks transfer.to.unit is.target case.to is.target_loaded is.target_sound is.to_is law here.plan here.need here.free here.step_is here.lawful here.full,
         )
-    by_act acts.Copy there other lacks = copy_lacks lacks
-    by_act acts.Delete there other lacks = absurd (other refl)
 
-    pub lacks_room : SomeLacks units transfer (acts_of units transfer) → LacksRoomToCopy case
-    lacks_room (act, there, other, lacks) = by_act act there other lacks
+    repairs_lack : (list : List ℕ) → ((unit : ℕ) → Contains list unit → Contains (units_due units transfer) unit) → (step : Step) → Contains (repair_steps list) step → spec.LacksRoom units step
+        → LacksRoomToCopy case
+    repairs_lack [] within step there lacks = absurd (in_none step there)
+    repairs_lack (unit ∷ list) within step there lacks = elim (first_or_later (steps.Repair unit) step (repair_steps list) there) [
+      | inl same ↦
+          unit_lacks unit (parts_of (is_carried transfer) lower unit (within unit (at_first unit list))) (subst (spec.LacksRoom units) (sym same) lacks)
+      | inr later ↦ repairs_lack list (λ other held. within other (in_later unit other list held)) step later lacks
+    ]
+
+    pub lacks_room : SomeLacks units (first_steps units transfer) → LacksRoomToCopy case
+    lacks_room (step, there, lacks) = elim (Contains-append_cases (repair_steps (units_due units transfer)) (copying_step transfer ∷ []) step there) [
+      | inl one ↦ repairs_lack (units_due units transfer) (λ unit held. held) step one lacks
+      | inr last ↦ elim (first_or_later (copying_step transfer) step [] last) [
+        | inl same ↦ copy_lacks (subst (spec.LacksRoom units) (sym same) lacks)
+        | inr none ↦ absurd (in_none step none)
+      ]
+    ]

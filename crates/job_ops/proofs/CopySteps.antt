@@ -1,5 +1,5 @@
 -- The steps and the lines of a copy, as its volumes were loaded and as they are.
-use Rattle.std.proofs.Common.{◌≡◌, ℕ, ◌==◌, not, Bool, true, false, List, [], ◌∷◌, ◌++◌, map, Option, Some, None, refl, sym, ap, subst, ◌∙◌}
+use Rattle.std.proofs.Common.{◌≡◌, ℕ, ◌==◌, not, Bool, true, false, List, [], ◌∷◌, ◌++◌, Option, Some, None, refl, sym, ap, subst, ◌∙◌}
 use Rattle.std.specs.Prelude.{nat_lt, if◌then◌else◌, slice_get}
 use Rattle.dsn_filter.specs.declared.dsn.Dsn.{Dsn}
 use Rattle.volume_model.specs.Pinned.{IsNameOf}
@@ -14,10 +14,9 @@ use Rattle.job_lines.specs.declared.message.Message.{Message}
 use Rattle.job_lines.specs.declared.message.Message.TheVariants as messages
 use Rattle.job_copies.specs.Case.{Case}
 use Rattle.job_ops.specs.declared.transfer.Transfer.{Transfer}
-use Rattle.job_ops.specs.declared.transfer.Act.{Act}
-use Rattle.job_ops.specs.declared.transfer.Act.TheVariants as acts
-use Rattle.job_ops.specs.Acts.{is_carried, is_unstated, step_of_act, steps_of_transfer}
-use Rattle.job_ops.specs.Copy.{copy_step, copying_steps, all_repairs, all_rebuilt, IsToldName}
+use Rattle.job_ops.specs.Transfers.{is_carried, is_unstated, steps_of_transfer}
+use Rattle.job_acts.specs.Making.{put_step, repair_steps}
+use Rattle.job_ops.specs.Copy.{copying_steps, all_repairs, all_rebuilt, IsToldName}
 use Rattle.job_ops.specs.Copying.{rebuilt_in, rebuilt_for, rebuilt_of, AreLines, IsTold}
 use Rattle.job_ops.specs.Sets.{rebuilt}
 use Rattle.job_ops.proofs.CopyRoom.{IsTransferIn, unstated_to, unstated_from}
@@ -25,32 +24,28 @@ use Rattle.job_ops.proofs.CopyRoom.{IsTransferIn, unstated_to, unstated_from}
 -- ---- steps, by what they hang on
 
 module _ (transfer : Transfer) where
-  -- the step of an act, and all acts
-  abbrev step_if : Bool → Act → Step
-  step_if carried acts.RepairSource = steps.Repair transfer.from.unit
-  step_if carried acts.RepairTarget = steps.Repair transfer.to.unit
-  step_if carried acts.Copy =
-      if carried then steps.Carry transfer.from.unit transfer.from.name transfer.to.unit transfer.to.name transfer.runs transfer.replaced
-      else copy_step transfer.from.unit transfer.from.name transfer.to.unit transfer.to.name transfer.runs transfer.replaced
-  step_if carried acts.Delete = steps.Delete transfer.from.unit transfer.from.name
-
   abbrev carried_if : Bool → Bool → Bool
   carried_if delete within = if delete then not within else false
 
   abbrev deleted_if : Bool → Bool → Bool
   deleted_if delete within = if delete then within else false
 
-  abbrev sources_if : Bool → List Act
-  sources_if unstated = if unstated then acts.RepairSource ∷ [] else []
+  abbrev due_if : ℕ → Bool → List ℕ
+  due_if unit unstated = if unstated then unit ∷ [] else []
 
-  abbrev targets_if : Bool → List Act
-  targets_if unstated = if unstated then acts.RepairTarget ∷ [] else []
+  abbrev units_if : (delete within source_unstated target_unstated lower : Bool) → List ℕ
+  units_if delete within source_unstated target_unstated lower =
+      if carried_if delete within then
+      (if lower then due_if transfer.from.unit source_unstated ++ due_if transfer.to.unit target_unstated
+      else due_if transfer.to.unit target_unstated ++ due_if transfer.from.unit source_unstated)
+      else due_if transfer.to.unit target_unstated
 
-  abbrev acts_if : (delete within source_unstated target_unstated lower : Bool) → List Act
-  acts_if delete within source_unstated target_unstated lower =
-      (if carried_if delete within then (if lower then sources_if source_unstated ++ targets_if target_unstated else targets_if target_unstated ++ sources_if source_unstated)
-      else targets_if target_unstated)
-      ++ (acts.Copy ∷ (if deleted_if delete within then acts.Delete ∷ [] else []))
+  abbrev list_if : (delete within source_unstated target_unstated lower : Bool) → List Step
+  list_if delete within source_unstated target_unstated lower =
+      (repair_steps (units_if delete within source_unstated target_unstated lower)
+      ++ ((if carried_if delete within then steps.Carry transfer.from.unit transfer.from.name transfer.to.unit transfer.to.name transfer.runs transfer.replaced
+      else put_step transfer.from.unit transfer.from.name transfer.to.unit transfer.to.name transfer.runs transfer.replaced) ∷ []))
+      ++ (if deleted_if delete within then steps.Delete transfer.from.unit transfer.from.name ∷ [] else [])
 
   abbrev repairs_of : ℕ → Bool → List Step
   repairs_of unit unstated = if unstated then steps.Repair unit ∷ [] else []
@@ -65,7 +60,7 @@ module _ (transfer : Transfer) where
 
   abbrev AreSteps : (delete within source_unstated target_unstated lower : Bool) → Type 0
   AreSteps delete within source_unstated target_unstated lower =
-      map (λ act. step_if (carried_if delete within) act) (acts_if delete within source_unstated target_unstated lower)
+      list_if delete within source_unstated target_unstated lower
       ≡ repairs_if delete within source_unstated target_unstated lower
       ++ copying_steps delete within transfer.from.unit transfer.from.name transfer.to.unit transfer.to.name transfer.runs transfer.replaced
 
@@ -83,16 +78,6 @@ module _ (transfer : Transfer) where
   are_steps true false false false true = refl
   are_steps true false false false false = refl
 
-  steps_by : (act : Act) → step_of_act transfer act ≡ step_if (is_carried transfer) act
-  steps_by acts.RepairSource = refl
-  steps_by acts.RepairTarget = refl
-  steps_by acts.Copy = refl
-  steps_by acts.Delete = refl
-
-  map_same : (list : List Act) → map (step_of_act transfer) list ≡ map (λ act. step_if (is_carried transfer) act) list
-  map_same [] = refl
-  map_same (act ∷ list) = λ i. steps_by act i ∷ map_same list i
-
   abbrev rebuilt_if : {X : Type 0} → (delete within lower : Bool) → List X → List X → List X
   rebuilt_if delete within lower of_from of_to = if delete then (if within then of_to else (if lower then of_from ++ of_to else of_to ++ of_from)) else of_to
 
@@ -108,8 +93,7 @@ module _ {units : List UnitState} {transfer : Transfer} {case : Case} (is : IsTr
   pub steps_same : steps_of_transfer units transfer ≡ all_repairs case transfer.from.unit transfer.to.unit
       ++ copying_steps case.wish.delete case.within transfer.from.unit case.name transfer.to.unit case.new transfer.runs transfer.replaced
   steps_same =
-      map_same transfer (Rattle.job_ops.specs.Acts.acts_of units transfer)
-      ∙ are_steps transfer transfer.delete (transfer.from.unit == transfer.to.unit) (is_unstated units transfer.from.unit) (is_unstated units transfer.to.unit) (nat_lt transfer.from.unit transfer.to.unit)
+      are_steps transfer transfer.delete (transfer.from.unit == transfer.to.unit) (is_unstated units transfer.from.unit) (is_unstated units transfer.to.unit) (nat_lt transfer.from.unit transfer.to.unit)
       ∙ (λ i. repairs_if transfer (sym is.delete_is i) (sym is.within_is i) (unstated_from is i) (unstated_to is i) (nat_lt transfer.from.unit transfer.to.unit)
       ++ copying_steps (sym is.delete_is i) (sym is.within_is i) transfer.from.unit (sym is.name_is i) transfer.to.unit (sym is.new_is i) transfer.runs transfer.replaced)
 

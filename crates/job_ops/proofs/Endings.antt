@@ -20,7 +20,8 @@ use Rattle.job_lines.specs.declared.message.Message.TheVariants as messages
 use Rattle.job_lines.specs.Severity.{greatest_code}
 use Rattle.job_ops.specs.declared.outcome.Outcome.{Outcome}
 use Rattle.job_ops.specs.declared.outcome.Outcome.TheVariants as outcomes
-use Rattle.job_ops.specs.Ends.{KeepsFacts, Ends, EndsStatement, HasOuts, IsCutOutcome, IsDoneOutcome, LeavesSession, IsUnchanged}
+use Rattle.job_acts.specs.Acting.{KeepsFacts}
+use Rattle.job_ops.specs.Ends.{Ends, EndsStatement, HasOuts, IsCutOutcome, IsDoneOutcome, LeavesSession, IsUnchanged}
 use Rattle.job_ops.specs.Meaning.{IsFramed, MeansOnVolumes, MeansWhole, IsCutOnVolumes, verb_of}
 use Rattle.job_ops.specs.Setting.{setting_of}
 

@@ -3,9 +3,7 @@ mod ReshapeTargets
 mod ReshapeRoom
 mod ReshapeUnits
 mod ReshapeEnds
-mod ReshapeParts
-mod ReshapePlans
-mod ReshapeKnown
+mod LoadedUnits
 mod Standing
 mod TwoUnits
 mod SetsOfRows
@@ -24,12 +22,8 @@ mod Summaries
 mod Endings
 mod Going
 mod Wholly
-mod Acts
 mod CopyParts
-mod TransferPlans
-mod TransferUnits
-mod TransferActs
-mod TransferEnds
+mod Transferring
 mod CopyRoom
 mod CopyBehind
 mod CopyTurns
@@ -39,4 +33,3 @@ mod CopyEnds
 mod CopyGoesOn
 mod CopyOrder
 mod CopyGoing
-mod OfUnits

@@ -38,7 +38,8 @@ use Rattle.job_ops.specs.Reshaping.{StaysChangeable}
 use Rattle.job_ops.specs.Task.{StaysFor, severity_for}
 use Rattle.job_ops.specs.Turns.{Action, IsCutAction}
 use Rattle.job_ops.proofs.Judging.{reason_found}
-use Rattle.job_ops.proofs.SameSessions.{for_new, keeps_same, ends_after, ends_said}
+use Rattle.job_acts.proofs.Sessions.{keeps_same}
+use Rattle.job_ops.proofs.SameSessions.{for_new, ends_after, ends_said}
 
 -- a reason is told
 pub reason_told : (task : Task) (held : List Hold) {unit : ℕ} {name : Dsn} {candidate : Candidate} {units : List UnitModel} (reason : Reason) → IsSeen task unit name candidate units

@@ -27,7 +27,7 @@ use Rattle.job_ops.specs.declared.reshaping.Layout.{Layout}
 use Rattle.job_ops.specs.declared.reshaping.Layout.TheVariants as layouts
 use Rattle.job_ops.specs.declared.reshaping.Reshape.{Reshape}
 use Rattle.job_ops.specs.Reshaping.{IsReshaped}
-use Rattle.job_ops.proofs.NewKinds.{one_kind}
+use Rattle.job_acts.proofs.Alike.{one_kind}
 
 -- ---- rows and data sets
 

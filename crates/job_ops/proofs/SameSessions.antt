@@ -1,5 +1,5 @@
 -- Parts of a statement behind one another: their facts, their units and their ends.
-use Rattle.std.proofs.Common.{◌≡◌, List, [], ◌++◌, Option, None, refl, sym, subst, ◌∙◌}
+use Rattle.std.proofs.Common.{◌≡◌, List, [], ◌++◌, Option, None, sym, subst, ◌∙◌}
 use Rattle.std.specs.Prelude.{Result, Ok, Err, IfOk, IfErr}
 use Rattle.std.proofs.lemmas.List.{append-nil}
 use Rattle.dasd_pool.specs.Disk.{State}
@@ -15,8 +15,9 @@ use Rattle.job_lines.specs.declared.message.Message.{Message}
 use Rattle.job_steps.specs.declared.cut.Cut.{Cut}
 use Rattle.job_steps.specs.declared.cut.Cut.TheVariants as cuts
 use Rattle.job_steps.specs.Carried.{pending_cut}
-use Rattle.job_ops.specs.Ends.{ForUnits, KeepsFacts, LeavesFacts, Ends}
-use Rattle.job_ops.specs.Reshaping.{CutKeepsFacts}
+use Rattle.job_acts.specs.Acting.{KeepsFacts, CutKeepsFacts}
+use Rattle.job_acts.proofs.Sessions.{no_change, keeps_same, keeps_then}
+use Rattle.job_ops.specs.Ends.{ForUnits, LeavesFacts, Ends}
 use Rattle.job_ops.specs.Setting.{facts_of}
 use Rattle.job_ops.specs.Turns.{Action}
 
@@ -29,35 +30,12 @@ only_short kept before after (Err cut) err = err.0
 module _ {P : Type 0} (pools : Ghosts P) where
   -- ---- facts
 
-  pub no_change : (session : SessionView P) → KeepsFacts pools session session
-  no_change session = record { shape = refl; names = refl; room = refl }
-
   pub facts_kept : {old new : SessionView P} → KeepsFacts pools old new → facts_of pools new ≡ facts_of pools old
   facts_kept {old} {new} keeps = λ i. record { shape = keeps.shape i; names = keeps.names i; room = keeps.room i; inputs = no_inputs }
 
-  pub keeps_same : {old new : SessionView P} → IsSameSession pools old new → KeepsFacts pools old new
-  keeps_same {old} {new} same = record { shape = same.shape; names = same.names; room = same.room }
-
-  pub keeps_then : {old mid new : SessionView P} → KeepsFacts pools old mid → KeepsFacts pools mid new → KeepsFacts pools old new
-  keeps_then {old} {mid} {new} one other = record {
-    shape = other.shape ∙ one.shape;
-    names = other.names ∙ one.names;
-    room = other.room ∙ one.room;
-  }
-
-  pub same_then : {old mid new : SessionView P} → IsSameSession pools old mid → IsSameSession pools mid new → IsSameSession pools old new
-  same_then {old} {mid} {new} one other = record {
-    shape = other.shape ∙ one.shape;
-    state = λ told. other.state told ∙ one.state told;
-    room = other.room ∙ one.room;
-    names = other.names ∙ one.names;
-    units = other.units ∙ one.units;
-    vtocs = other.vtocs ∙ one.vtocs;
-  }
-
   pub leaves_then : {old mid : SessionView P} (result : Result (SessionView P) (Cut P)) → KeepsFacts pools old mid → LeavesFacts pools mid result → LeavesFacts pools old result
-  leaves_then {old} {mid} (Ok next) one other = keeps_then one other
-  leaves_then {old} {mid} (Err (cuts.Short kept)) one other = keeps_then one other
+  leaves_then {old} {mid} (Ok next) one other = keeps_then pools one other
+  leaves_then {old} {mid} (Err (cuts.Short kept)) one other = keeps_then pools one other
   leaves_then {old} {mid} (Err (cuts.Halted broken)) one other = tt
 
   pub cut_leaves : (session : SessionView P) (cut : Cut P) → CutKeepsFacts pools session cut → LeavesFacts pools session (Err cut)
@@ -72,11 +50,11 @@ module _ {P : Type 0} (pools : Ghosts P) where
       subst (λ (s : State). IsSettled (facts_of pools new) s units) state (subst (λ (f : Facts). IsSettled f (pools.disk old.pool).state units) facts settled)
 
   pub for_new : {old new : SessionView P} → IsSameSession pools old new → {Holds : List UnitModel → Type 0} → ForUnits pools old Holds → ForUnits pools new Holds
-  for_new {old} {new} same {Holds} holds told units settled = holds told units (settled_as new old units (facts_kept (keeps_same same)) (same.state told) settled)
+  for_new {old} {new} same {Holds} holds told units settled = holds told units (settled_as new old units (facts_kept (keeps_same pools same)) (same.state told) settled)
 
   pub for_old : {old new : SessionView P} → IsSameSession pools old new → {Holds : List UnitModel → Type 0} → ForUnits pools new Holds → ForUnits pools old Holds
   for_old {old} {new} same {Holds} holds told units settled =
-      holds told units (settled_as old new units (sym (facts_kept (keeps_same same))) (sym (same.state told)) settled)
+      holds told units (settled_as old new units (sym (facts_kept (keeps_same pools same))) (sym (same.state told)) settled)
 
   -- ---- ends
 
@@ -91,7 +69,7 @@ module _ {P : Type 0} (pools : Ghosts P) where
       steps_are = ends.steps_are;
       messages_are = ends.messages_are;
       run = run_then run (tt {0}) ends.run;
-      facts = leaves_then result (keeps_same same) ends.facts;
+      facts = leaves_then result (keeps_same pools same) ends.facts;
       ended = by_end result ends.ended;
       cut = by_cut result ends.cut;
     }
@@ -142,9 +120,9 @@ module _ {P : Type 0} (pools : Ghosts P) where
         → ForUnits pools session (λ units. Means units [] said) → ((units : List UnitModel) → IsCut units [] None)
         → Ends pools Means IsCut session steps_before steps_after messages_before messages_after result
     ends_said {session} {steps_before} {steps_after} {messages_before} {messages_after} said (Ok next) steps ok err means cut =
-        ends_told said (Ok next) (run_idle (tt {0})) (no_change session) (steps ∙ sym (append-nil steps_before)) ok tt (said, ok.1) means (λ told units settled. cut units)
+        ends_told said (Ok next) (run_idle (tt {0})) (no_change pools session) (steps ∙ sym (append-nil steps_before)) ok tt (said, ok.1) means (λ told units settled. cut units)
     ends_said {session} {steps_before} {steps_after} {messages_before} {messages_after} said (Err short) steps ok err means cut =
-        ends_told said (Err short) (run_idle (tt {0})) (no_change session) (steps ∙ sym (append-nil steps_before)) tt err.0 ([], err.1 ∙ sym (append-nil messages_before)) means
+        ends_told said (Err short) (run_idle (tt {0})) (no_change pools session) (steps ∙ sym (append-nil steps_before)) tt err.0 ([], err.1 ∙ sym (append-nil messages_before)) means
         (λ told units settled. cut units)
 
   -- what an action is, another is too
@@ -183,7 +161,7 @@ module _ {P : Type 0} (pools : Ghosts P) where
     steps_are = sym (append-nil steps);
     messages_are = sym (append-nil messages);
     run = run_idle (tt {0});
-    facts = no_change session;
+    facts = no_change pools session;
     ended = tt;
     cut = λ told units settled. cut units;
   }

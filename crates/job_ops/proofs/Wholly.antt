@@ -32,7 +32,8 @@ use Rattle.dsn_filter.specs.declared.rename.Rename.{Rename}
 use Rattle.job_ops.specs.Setting.{Setting, setting_of}
 use Rattle.job_ops.specs.Turns.{Action, Turns, AreCutTurns}
 use Rattle.job_ops.proofs.Codes.{code_started}
-use Rattle.job_ops.proofs.SameSessions.{no_change, ends_told, told_grows}
+use Rattle.job_acts.proofs.Sessions.{no_change}
+use Rattle.job_ops.proofs.SameSessions.{ends_told, told_grows}
 
 -- ---- what may be cut
 

@@ -1,5 +1,5 @@
 -- What the parts of a statement that goes through data sets are asked for and answer: words that link them.
-use Rattle.std.specs.Prelude.{◌≡◌, ◌⊎◌, ◌↔◌, ℕ, ◌-◌, ◌/◌, ◌<◌, ◌≤◌, true, false, IsTrue, if◌then◌else◌, List, [], ◌∷◌, ◌++◌, length, All, Contains, Option, Some, None, slice_get}
+use Rattle.std.specs.Prelude.{◌≡◌, ◌⊎◌, ◌↔◌, ℕ, ◌<◌, ◌≤◌, true, IsTrue, if◌then◌else◌, List, [], ◌∷◌, ◌++◌, length, All, Contains, Option, Some, None, slice_get}
 use Rattle.ckd_image.specs.Device.{heads_of}
 use Rattle.dsn_filter.specs.declared.dsn.Dsn.{Dsn}
 use Rattle.enq_table.specs.declared.hold.Hold.{Hold}
@@ -24,15 +24,9 @@ use Rattle.job_ops.specs.Reasons.{IsHeld}
 use Rattle.job_ops.specs.Refusal.{IsUnitOf}
 use Rattle.job_ops.specs.Release.{size_of, keep_of}
 use Rattle.job_ops.specs.Task.{StaysFor}
+use Rattle.job_acts.specs.Making.{MayBeChanged}
 
--- a unit whose volume a statement may change: it has no index, and a commit can hold its VTOC
-pub record MayBeChanged (room : ℕ) (units : List UnitState) (unit : ℕ) : Type 0 where
-  pub volume : Volume
-  pub loaded : IsLoadedAt units unit volume
-  pub not_indexed : volume.indexed ≡ false
-  pub few_tracks : volume.vtoc.len ≤ (room - 1) / 2
-
--- and it has a data set of each of these names
+-- a unit whose volume a statement may change, and which has a data set of each of these names
 pub record MayProcess (room : ℕ) (units : List UnitState) (unit : ℕ) (names : List Dsn) : Type 0 where
   pub may : MayBeChanged room units unit
   pub sets : All (λ name. (row : Row) × HasRow may.volume name row) names

@@ -12,7 +12,6 @@ use Rattle.vol_label.specs.declared.serial.Serial.{Serial}
 use Rattle.volume_model.specs.Pinned.{IsNameOf}
 use Rattle.volume_model.specs.Unit.{DataSet, OnlineVolume, UnitModel, online}
 use Rattle.sysin_lang.specs.declared.command.Filter.{Filter}
-use Rattle.move_core.specs.declared.steps.Origin.TheVariants as origins
 use Rattle.move_core.specs.declared.steps.Step.{Step}
 use Rattle.move_core.specs.declared.steps.Step.TheVariants as steps
 use Rattle.move_core.specs.Stands.{IsGood}
@@ -36,6 +35,7 @@ use Rattle.job_ops.specs.Refusal.{IsUnitOf, standing_of, Refuses, Lets}
 use Rattle.job_ops.specs.Sets.{repairs, rebuilt}
 use Rattle.job_ops.specs.Setting.{Setting}
 use Rattle.job_ops.specs.Turns.{Action, Turns, AreCutTurns}
+use Rattle.job_acts.specs.Making.{put_step}
 
 -- ---- one data set
 
@@ -68,16 +68,11 @@ PreventsCopy held today case reason = PreventsAtFirst held today case reason
 
 -- ---- steps and messages
 
--- the step that puts the copy
-abbrev pub copy_step : ℕ → Dsn → ℕ → Dsn → List Run → Bool → Step
-copy_step from name to new runs replaced =
-    if replaced then steps.Replace to new runs (origins.Row from name) else steps.Add to new runs (origins.Row from name)
-
 -- Copied and, where the statement says so, deleted: in one step where it goes to another unit, in two where it stays on its own.
 abbrev pub copying_steps : (delete within : Bool) → ℕ → Dsn → ℕ → Dsn → List Run → Bool → List Step
 copying_steps true false from name to new runs replaced = steps.Carry from name to new runs replaced ∷ []
-copying_steps true true from name to new runs replaced = copy_step from name to new runs replaced ∷ steps.Delete from name ∷ []
-copying_steps false within from name to new runs replaced = copy_step from name to new runs replaced ∷ []
+copying_steps true true from name to new runs replaced = put_step from name to new runs replaced ∷ steps.Delete from name ∷ []
+copying_steps false within from name to new runs replaced = put_step from name to new runs replaced ∷ []
 
 -- Of two parts the one of the lower unit comes first.
 abbrev pub lower_first : {X : Type 0} → ℕ → ℕ → List X → List X → List X

@@ -21,8 +21,8 @@ use Rattle.job_ops.specs.declared.copies.Scene.{Scene}
 use Rattle.job_ops.specs.declared.copies.Judged.{Judged}
 use Rattle.job_ops.specs.declared.copies.Judged.TheVariants as judges
 use Rattle.job_ops.specs.declared.transfer.Transfer.{Transfer}
-use Rattle.job_ops.specs.Acts.{is_carried}
-use Rattle.job_ops.specs.Asked.{MayBeChanged}
+use Rattle.job_ops.specs.Transfers.{is_carried}
+use Rattle.job_acts.specs.Making.{MayBeChanged}
 use Rattle.job_ops.specs.Copy.{Request, lower_first}
 
 abbrev pub request_in : Scene → Request

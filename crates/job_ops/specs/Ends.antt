@@ -26,17 +26,13 @@ use Rattle.job_ops.specs.declared.outcome.Outcome.TheVariants as outcomes
 use Rattle.job_ops.specs.Meaning.{verb_of, IsReport, MeansStatement, IsCutCommand}
 use Rattle.job_ops.specs.Setting.{facts_of, setting_for}
 use Rattle.job_ops.specs.Turns.{Action}
+use Rattle.job_acts.specs.Acting.{KeepsFacts}
 
 -- for all units that the session's pool stands for, where it tells
 abbrev pub ForUnits : {P : Type 0} → Ghosts P → SessionView P → (List UnitModel → Type 0) → Type 0
 ForUnits pools session Holds = pools.tells → (units : List UnitModel) → IsSettled (facts_of pools session) (pools.disk session.pool).state units → Holds units
 
--- what never changes of the session stays
-pub record KeepsFacts {P : Type 0} (pools : Ghosts P) (old new : SessionView P) : Type 0 where
-  pub shape : pools.shape new.pool ≡ pools.shape old.pool
-  pub names : new.names ≡ old.names
-  pub room : new.room ≡ old.room
-
+-- a session that is left keeps its facts
 abbrev pub LeavesFacts : {P : Type 0} → Ghosts P → SessionView P → Result (SessionView P) (Cut P) → Type 0
 LeavesFacts pools session (Ok next) = KeepsFacts pools session next
 LeavesFacts pools session (Err (cuts.Short kept)) = KeepsFacts pools session kept

@@ -13,5 +13,5 @@ pub mod Meaning
 pub mod Ends
 pub mod Asked
 pub mod Reshaping
-pub mod Acts
+pub mod Transfers
 pub mod Copying

@@ -1,9 +1,8 @@
 //! What is asked of a data set before a statement does anything with it.
 
-ghost use Rattle.std.specs.Prelude.{◌≡◌, ◌↔◌, ◌<◌, ◌∷◌, [], IsTrue, IfOk, IfErr, None};
+ghost use Rattle.std.specs.Prelude.{◌≡◌, ◌↔◌, ◌∷◌, [], IsTrue, IfOk, IfErr, None};
 ghost use Rattle.ckd_image.specs.Device.{heads_of};
 ghost use Rattle.dasd_pool.specs.Count.{Rose};
-ghost use Rattle.redo_core.specs.Reading.{journal_of};
 ghost use Rattle.move_core.specs.Facts.{shown};
 ghost use Rattle.move_core.specs.Runs.{IsRun};
 ghost use Rattle.volume_model.specs.Unit.{DataSet};
@@ -21,7 +20,7 @@ use enq_table::Held;
 use job_copies::job_select::{is_pinned, is_sequential_or_partitioned, kept_tracks, track_count};
 use job_lines::Reason;
 use job_steps::unit_session::Session;
-use unit_load::{UnitFault, UnitState};
+use unit_load::UnitFault;
 use vol_label::Serial;
 use volume_change::find;
 use vtoc_core::{Row, Volume};
@@ -61,14 +60,12 @@ fn stays_for(task: Task, volume: &Volume, row: &Row) -> bool
 
 /// What is asked of the data set of a name.
 pub(crate) fn look_up<P: Pool>(session: &Session<P>, unit: u32, task: Task, name: &Dsn) -> Candidate
-    requires unit { unit < journal_of (P.shape session.now.pool) }
     requires may { MayProcess session.now.room session.now.units unit (name.now ∷ []) }
     ensures candidate { IsCandidate task session.now.units unit name.now result }
     ensures seen { ForUnits P.Pool session.now (IsSeen task unit name.now result) }
 {
-    let UnitState::Online(volume) = session.unit(unit) else {
-        unreachable!()
-    };
+    session.stands();
+    let volume = session.volume(unit);
     let Some(place) = find(volume, name) else {
         unreachable!()
     };

@@ -1,7 +1,6 @@
 //! CONSOLIDATE: the extents of a data set become one.
 
 ghost use Rattle.std.specs.Prelude.{◌<◌, ◌∷◌, [], IsTrue, IfOk, IfSome, IfNone, None};
-ghost use Rattle.redo_core.specs.Reading.{journal_of};
 ghost use Rattle.volume_model.specs.Unit.{DataSet, OnlineVolume};
 ghost use Rattle.vtoc_core.specs.declared.volume.Row.{Row as RowOf};
 ghost use Rattle.vtoc_core.specs.declared.volume.Volume.{Volume as VolumeOf};
@@ -16,17 +15,17 @@ ghost use Rattle.job_ops.specs.Turns.{IsCutAction};
 
 use crate::asking::{Candidate, Scene};
 use crate::log::{Log, refuse, say_done};
-use crate::reshaping::{Layout, Reshape, Reshaped};
+use crate::reshaping::{Layout, Reshape};
 use crate::task::Task;
 use dasd_pool::Pool;
 use dsn_filter::Dsn;
 use free_map::Run;
+use job_acts::Acted;
 use job_lines::{Message, Reason};
 use job_steps::Cut;
 use job_steps::unit_session::Session;
 use plan_core::next_consolidate;
 use std::alloc::Global;
-use unit_load::UnitState;
 
 /// The first track of the place of a data set that has several extents.
 fn place_of<P: Pool>(
@@ -35,7 +34,6 @@ fn place_of<P: Pool>(
     name: &Dsn,
     candidate: Candidate,
 ) -> Option<u32>
-    requires unit { unit < journal_of (P.shape session.now.pool) }
     requires candidate { IsCandidate tasks.Consolidate session.now.units unit name.now candidate }
     requires several { 1 < candidate.extents }
     ensures place { IfSome result (λ first. (volume : VolumeOf) (row : RowOf) → IsLoadedAt session.now.units unit volume → HasRow volume name.now row → IsPlaceOn volume row volume first) }
@@ -43,10 +41,8 @@ fn place_of<P: Pool>(
     ensures none { IfNone result (ForUnits P.Pool session.now (λ units. (volume : OnlineVolume) (set : DataSet) → IsSet units unit name.now volume set → LacksPlace volume set)) }
 {
     let _extents = candidate.extents;
-    let UnitState::Online(volume) = session.unit(unit) else {
-        unreachable!()
-    };
-    next_consolidate(volume, name)
+    session.stands();
+    next_consolidate(session.volume(unit), name)
 }
 
 /// Brings the extents of a data set together that nothing prevents but want of a place or of room in the VTOC.
@@ -58,7 +54,6 @@ pub(crate) fn join<P: Pool>(
     candidate: Candidate,
     log: &mut Log,
 ) -> Result<Session<P>, Cut<P>>
-    requires unit { scene.unit < journal_of (P.shape session.pool) }
     requires may { MayProcess session.room session.units scene.unit (name.now ∷ []) }
     requires candidate { IsCandidate tasks.Consolidate session.units scene.unit name.now candidate }
     requires seen { ForUnits P.Pool session (IsSeen tasks.Consolidate scene.unit name.now candidate) }
@@ -91,8 +86,8 @@ pub(crate) fn join<P: Pool>(
         repair: candidate.repair,
     };
     let session = match reshape.carry_out(alloc, session, &mut log.steps)? {
-        Reshaped::Done(session) => session,
-        Reshaped::Full(session) => {
+        Acted::Done(session) => session,
+        Acted::Full(session) => {
             return refuse(
                 session,
                 log,

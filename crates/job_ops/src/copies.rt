@@ -13,7 +13,7 @@ ghost use Rattle.vtoc_core.specs.declared.volume.Volume.{Volume as VolumeOf};
 ghost use Rattle.job_lines.specs.declared.message.Message.{Message as MessageOf};
 ghost use Rattle.job_copies.specs.job_select.Selection.{Selects};
 ghost use Rattle.job_steps.specs.declared.cut.Cut.TheVariants as cuts;
-ghost use Rattle.job_ops.specs.Acts.{is_carried, MayTransfer};
+ghost use Rattle.job_ops.specs.Transfers.{is_carried, MayTransfer};
 ghost use Rattle.job_ops.specs.Copy.{CopiesSet, CopiesSets, IsCutCopy, IsNewName};
 ghost use Rattle.job_ops.specs.Copying as spec;
 ghost use Rattle.job_ops.specs.Copying.{request_in, MayBeCopied, StaysCopyable, GoesSoFar, IsJudged, MayStandAs};
@@ -22,8 +22,7 @@ ghost use Rattle.job_ops.specs.Setting.{facts_of, setting_of};
 ghost use Rattle.job_ops.specs.Turns.{Turns, AreCutTurns, IsCutAction};
 
 use crate::log::{Log, say};
-use crate::reshaping::look_at as look_at_unit;
-use crate::transfer::{Transfer, Transferred, look_at};
+use crate::transfer::Transfer;
 use crate::units::{UnitUse, units_for};
 use by_rules::Day;
 use ckd_image::NoMemory;
@@ -31,6 +30,7 @@ use dasd_pool::Pool;
 use dsn_filter::{Dsn, Rename};
 use enq_table::Held;
 use free_map::{Runs, choice_laws, run_laws};
+use job_acts::Acted;
 use job_copies::job_select::select;
 use job_copies::step_plans::SetAt;
 use job_copies::step_room::room_laws;
@@ -75,18 +75,6 @@ enum Judged {
     Placed(bool, Runs),
 }
 
-/// Whether a data set is there.
-fn look_for<P: Pool>(session: &Session<P>, scene: Scene<'_>, name: &Dsn)
-    requires from { scene.from < journal_of (P.shape session.now.pool) }
-    requires to { scene.to < journal_of (P.shape session.now.pool) }
-    requires may { MayBeCopied scene.wish.delete session.now.room session.now.units scene.from scene.to (name.now ∷ []) }
-    ensures { ForUnits P.Pool session.now (spec.IsThere (request_in scene.entry) name.now) }
-{
-    let _source = session.unit(scene.from);
-    let _target = session.unit(scene.to);
-    let _name = name;
-}
-
 /// Judges a data set, but for its tracks and the room in the VTOC.
 fn judge<P: Pool>(
     session: &Session<P>,
@@ -94,19 +82,14 @@ fn judge<P: Pool>(
     name: &Dsn,
     new: Dsn,
 ) -> Result<Judged, NoMemory>
-    requires from { scene.from < journal_of (P.shape session.now.pool) }
-    requires to { scene.to < journal_of (P.shape session.now.pool) }
     requires may { MayBeCopied scene.wish.delete session.now.room session.now.units scene.from scene.to (name.now ∷ []) }
     requires new { IsDsn new }
     ensures judged { IfOk result (λ judged. ForUnits P.Pool session.now (IsJudged (request_in scene.entry) name.now new judged)) }
     ensures stands { IfOk result (MayStandAs session.now.units scene.entry.from scene.entry.to name.now new) }
 {
-    let UnitState::Online(source) = session.unit(scene.from) else {
-        unreachable!()
-    };
-    let UnitState::Online(target) = session.unit(scene.to) else {
-        unreachable!()
-    };
+    session.stands();
+    let source = session.volume(scene.from);
+    let target = session.volume(scene.to);
     let copying = Copying {
         source,
         target,
@@ -193,9 +176,7 @@ fn lines<P: Pool>(
     ensures { IfOk result (λ said. spec.AreLines session.now.units transfer.now said.items) }
 {
     let SetAt { unit, name } = transfer.to;
-    let UnitState::Online(volume) = session.unit(unit) else {
-        unreachable!()
-    };
+    let volume = session.volume(unit);
     let text = name_bytes(&transfer.from.name);
     let told = if name.is_same(&transfer.from.name) {
         None
@@ -254,15 +235,13 @@ fn put_copy<P: Pool>(
     room_laws();
     run_laws();
     choice_laws();
-    look_at(&session, transfer);
+    session.stands();
     let Ok(said) = lines(alloc, &session, transfer) else {
         return Err(Cut::Short(session));
     };
     match transfer.carry_out(alloc, session, &mut log.steps)? {
-        Transferred::Done(session) => say_all(session, said.as_slice(), log),
-        Transferred::Full(session) => {
-            not_copied(session, log, &transfer.from.name, Reason::VtocFull)
-        }
+        Acted::Done(session) => say_all(session, said.as_slice(), log),
+        Acted::Full(session) => { not_copied(session, log, &transfer.from.name, Reason::VtocFull) }
     }
 }
 
@@ -292,8 +271,7 @@ fn go_on<P: Pool>(
         Judged::Refused(reason) => not_copied(session, log, name, reason),
         Judged::NoPlaces => not_copied(session, log, name, Reason::NoSpace),
         Judged::Placed(replaced, runs) => {
-            look_at_unit(&session, scene.from);
-            look_at_unit(&session, scene.to);
+            session.stands();
             let transfer = Transfer {
                 from: SetAt {
                     unit: scene.from,
@@ -361,7 +339,7 @@ fn take_turn<P: Pool>(
         log.old.steps.items log.new.steps.items log.old.messages.items log.new.messages.items result }
     ensures next { IfOk result (λ next. StaysCopyable scene.entry.wish.delete session.room session.units next.units scene.entry.from scene.entry.to name.now) }
 {
-    look_for(&session, scene, name);
+    session.stands();
     let Some(new) = scene.rename.apply(name) else {
         return not_copied(session, log, name, Reason::NewNameTooLong);
     };
@@ -396,18 +374,12 @@ fn take_turns<P: Pool>(
 
 /// Whether the volumes of two units are of one device.
 fn are_alike<P: Pool>(session: &Session<P>, from: u32, to: u32) -> bool
-    requires from { from < journal_of (P.shape session.now.pool) }
-    requires to { to < journal_of (P.shape session.now.pool) }
     requires source { (volume : VolumeOf) × IsLoadedAt session.now.units from volume }
     requires target { (volume : VolumeOf) × IsLoadedAt session.now.units to volume }
     ensures { (source target : VolumeOf) → IsLoadedAt session.now.units from source → IsLoadedAt session.now.units to target → (IsTrue result ↔ (target.device ≡ source.device)) }
 {
-    let UnitState::Online(source) = session.unit(from) else {
-        unreachable!()
-    };
-    let UnitState::Online(target) = session.unit(to) else {
-        unreachable!()
-    };
+    let source = session.volume(from);
+    let target = session.volume(to);
     target.device == source.device
 }
 
@@ -419,17 +391,14 @@ fn taken<P: Pool>(
     filter: &Filter,
     today: Day,
 ) -> Result<Vec<Dsn>, NoMemory>
-    requires unit { unit < journal_of (P.shape session.now.pool) }
     requires online { (volume : VolumeOf) × IsLoadedAt session.now.units unit volume }
     requires today { IsToday today }
     ensures taken { IfOk result (λ names. ForUnits P.Pool session.now (λ units. (volume : OnlineVolume) → slice_get units unit ≡ Some (online volume) → Selects filter.now today volume.sets names.items)) }
     ensures there { IfOk result (λ names. (volume : VolumeOf) → IsLoadedAt session.now.units unit volume → All (λ name. (row : RowOf) × HasRow volume name row) names.items) }
     ensures apart { IfOk result (λ names. AllPairs (λ name other. name ≢ other) names.items) }
 {
-    let UnitState::Online(volume) = session.unit(unit) else {
-        unreachable!()
-    };
-    select(alloc, volume, filter, today)
+    session.stands();
+    select(alloc, session.volume(unit), filter, today)
 }
 
 /// Copies each data set that the filter takes.

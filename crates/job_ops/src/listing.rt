@@ -19,7 +19,6 @@ use dscb_rec::Extent;
 use job_copies::job_select::{organization_of, track_count};
 use job_lines::{ExtentSummary, Message, SetSummary, VolumeSummary};
 use job_steps::unit_session::Session;
-use unit_load::UnitState;
 use vol_label::Serial;
 use vtoc_core::{Row, Volume, run_of};
 
@@ -133,8 +132,6 @@ pub(crate) fn print<P: Pool>(
         Ok(unit) => unit,
         Err(message) => return Ok(messages.push(message)?),
     };
-    let UnitState::Online(volume) = session.unit(unit) else {
-        unreachable!()
-    };
-    push_listing(volume, messages)
+    session.stands();
+    push_listing(session.volume(unit), messages)
 }

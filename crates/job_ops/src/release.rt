@@ -1,7 +1,6 @@
 //! RELEASE: the unused tracks of a data set are given back.
 
-ghost use Rattle.std.specs.Prelude.{◌<◌, ◌∷◌, [], IsTrue, IfOk, None};
-ghost use Rattle.redo_core.specs.Reading.{journal_of};
+ghost use Rattle.std.specs.Prelude.{◌∷◌, [], IsTrue, IfOk, None};
 ghost use Rattle.job_ops.specs.declared.task.Task.TheVariants as tasks;
 ghost use Rattle.job_ops.specs.Asked.{MayProcess, IsCandidate, IsSeen, IsReasonBefore};
 ghost use Rattle.job_ops.specs.Ends.{Ends, ForUnits};
@@ -11,10 +10,11 @@ ghost use Rattle.job_ops.specs.Turns.{IsCutAction};
 
 use crate::asking::{Candidate, Scene};
 use crate::log::{Log, refuse, say, say_done};
-use crate::reshaping::{Layout, Reshape, Reshaped};
+use crate::reshaping::{Layout, Reshape};
 use crate::task::Task;
 use dasd_pool::Pool;
 use dsn_filter::Dsn;
+use job_acts::Acted;
 use job_lines::{Message, Reason};
 use job_steps::Cut;
 use job_steps::unit_session::Session;
@@ -29,7 +29,6 @@ pub(crate) fn give_back<P: Pool>(
     candidate: Candidate,
     log: &mut Log,
 ) -> Result<Session<P>, Cut<P>>
-    requires unit { scene.unit < journal_of (P.shape session.pool) }
     requires may { MayProcess session.room session.units scene.unit (name.now ∷ []) }
     requires candidate { IsCandidate tasks.Release session.units scene.unit name.now candidate }
     requires seen { ForUnits P.Pool session (IsSeen tasks.Release scene.unit name.now candidate) }
@@ -53,8 +52,8 @@ pub(crate) fn give_back<P: Pool>(
         repair: candidate.repair,
     };
     let session = match reshape.carry_out(alloc, session, &mut log.steps)? {
-        Reshaped::Done(session) => session,
-        Reshaped::Full(session) => {
+        Acted::Done(session) => session,
+        Acted::Full(session) => {
             return refuse(
                 session,
                 log,

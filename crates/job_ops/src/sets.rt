@@ -1,8 +1,7 @@
 //! Statements that go through the data sets of a volume that a filter takes.
 
-ghost use Rattle.std.specs.Prelude.{◌≡◌, ◌<◌, ◌∷◌, [], All, IfOk, slice_get, Some};
+ghost use Rattle.std.specs.Prelude.{◌≡◌, ◌∷◌, [], All, IfOk, slice_get, Some};
 ghost use Rattle.by_rules.specs.Day.{IsToday};
-ghost use Rattle.redo_core.specs.Reading.{journal_of};
 ghost use Rattle.volume_model.specs.Unit.{OnlineVolume, online};
 ghost use Rattle.vtoc_core.specs.declared.volume.Row.{Row as RowOf};
 ghost use Rattle.vtoc_core.specs.declared.volume.Volume.{Volume as VolumeOf};
@@ -33,7 +32,7 @@ use job_steps::Cut;
 use job_steps::unit_session::Session;
 use std::alloc::Global;
 use sysin_lang::Filter;
-use unit_load::{UnitFault, UnitState};
+use unit_load::UnitFault;
 use vol_label::Serial;
 
 /// What is to be done with the data sets of a volume that a filter takes.
@@ -55,7 +54,6 @@ fn take_turn<P: Pool>(
     name: &Dsn,
     log: &mut Log,
 ) -> Result<Session<P>, Cut<P>>
-    requires unit { scene.unit < journal_of (P.shape session.pool) }
     requires may { MayProcess session.room session.units scene.unit (name.now ∷ []) }
     ensures ends { Ends P.Pool (TurnOf task scene.entry.held.now scene.entry.unit name.now) (IsCutAction (TurnOf task scene.entry.held.now scene.entry.unit name.now)) session
         log.old.steps.items log.new.steps.items log.old.messages.items log.new.messages.items result }
@@ -83,7 +81,6 @@ fn take_turns<P: Pool>(
     names: &[Dsn],
     log: &mut Log,
 ) -> Result<Session<P>, Cut<P>>
-    requires unit { scene.unit < journal_of (P.shape session.pool) }
     requires may { MayProcess session.room session.units scene.unit names.now }
     ensures { Ends P.Pool (Turns (facts_of P.Pool session) (TurnOf task scene.entry.held.now scene.entry.unit) names.now) (AreCutTurns (facts_of P.Pool session) (TurnOf task scene.entry.held.now scene.entry.unit) names.now) session
         log.old.steps.items log.new.steps.items log.old.messages.items log.new.messages.items result }
@@ -103,16 +100,13 @@ fn taken<P: Pool>(
     filter: &Filter,
     today: Day,
 ) -> Result<Vec<Dsn>, NoMemory>
-    requires unit { unit < journal_of (P.shape session.now.pool) }
     requires online { (volume : VolumeOf) × IsLoadedAt session.now.units unit volume }
     requires today { IsToday today }
     ensures taken { IfOk result (λ names. ForUnits P.Pool session.now (λ units. (volume : OnlineVolume) → slice_get units unit ≡ Some (online volume) → Selects filter.now today volume.sets names.items)) }
     ensures there { IfOk result (λ names. (volume : VolumeOf) → IsLoadedAt session.now.units unit volume → All (λ name. (row : RowOf) × HasRow volume name row) names.items) }
 {
-    let UnitState::Online(volume) = session.unit(unit) else {
-        unreachable!()
-    };
-    select(alloc, volume, filter, today)
+    session.stands();
+    select(alloc, session.volume(unit), filter, today)
 }
 
 /// Does what is to be done with each data set that the filter takes.

@@ -27,7 +27,8 @@ use Rattle.sysin_lang.specs.declared.command.Statement.{Statement}
 use Rattle.sysin_lang.specs.Flow.{Codes, Plan, Command, End, zero_codes, next_of, answered, Leaves}
 use Rattle.job_ops.specs.unit_session.Sessions.{SessionView}
 use Rattle.job_ops.specs.declared.report.Report.{Report}
-use Rattle.job_ops.specs.Ends.{ForUnits, KeepsFacts}
+use Rattle.job_acts.specs.Acting.{KeepsFacts}
+use Rattle.job_ops.specs.Ends.{ForUnits}
 use Rattle.job_ops.specs.Setting.{Setting, facts_of, facts_for, setting_for}
 use Rattle.job_script.specs.declared.left.Left.{Left}
 use Rattle.job_script.specs.declared.run.Between.{Between}

@@ -22,7 +22,8 @@ use Rattle.run_lines.proofs.Appending.{appends_none}
 use Rattle.sysin_lang.specs.declared.command.Statement.{Statement}
 use Rattle.job_ops.specs.unit_session.Sessions.{SessionView}
 use Rattle.job_ops.specs.declared.report.Report.{Report}
-use Rattle.job_ops.specs.Ends.{ForUnits, KeepsFacts, OnlyReads}
+use Rattle.job_acts.specs.Acting.{KeepsFacts}
+use Rattle.job_ops.specs.Ends.{ForUnits, OnlyReads}
 use Rattle.job_ops.specs.Meaning.{IsReport, MeansStatement, IsCutCommand}
 use Rattle.job_ops.specs.Setting.{facts_for, setting_for}
 use Rattle.job_script.specs.declared.left.Left.{Left}

@@ -13,7 +13,6 @@ use Rattle.free_map.specs.Free.{IsFree}
 use Rattle.free_map.specs.Runs.{InRuns}
 use Rattle.redo_core.specs.Reading.{journal_of}
 use Rattle.volume_model.specs.Unit as models
-use Rattle.vtoc_core.specs.declared.volume.Row.{Row}
 use Rattle.vtoc_core.specs.declared.volume.Volume.{Volume}
 use Rattle.vtoc_layout.proofs.Apart.{all_from}
 use Rattle.volume_change.specs.declared.change.Change.{Change}

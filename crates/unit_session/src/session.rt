@@ -14,6 +14,7 @@ ghost use Rattle.move_core.specs.Runs.{IsFinished, IsRun};
 ghost use Rattle.move_core.specs.Stands.{Stands, IsSettled};
 ghost use Rattle.unit_load.specs.Kept.{IsKept};
 ghost use Rattle.unit_load.specs.Reads.{OnlyReads};
+ghost use Rattle.unit_load.specs.declared.state.UnitState.{UnitState as StateOf};
 ghost use Rattle.unit_steps.specs.Loaded.{AreLoaded, HaveFills, HaveStates, KeepVtocs, AreVtocsOf, AreModels, IsModel};
 ghost use Rattle.standing_units.specs.Standing.{IsSettledFor};
 ghost use Rattle.unit_steps.specs.Plans.{IsLoadedAt};
@@ -232,6 +233,16 @@ impl<P: Pool> Session<P> {
     {
         self.journal.rests();
         &self.units[unit as usize]
+    }
+
+    /// What stands of its units: each was loaded from the slots of its VTOC, and is what the pool stands for.
+    pub fn stands(&self)
+        ensures kept { (unit : ℕ) (state : StateOf) → slice_get self.now.units unit ≡ Some state
+            → (slots : List ℕ) × IsKept false ((P.shape self.now.pool).head unit) ((P.shape self.now.pool).blocks unit) state slots }
+        ensures models { P.tells → (facts : Facts) (models : List UnitModel) → facts.shape ≡ P.shape self.now.pool
+            → IsSettled facts (P.disk self.now.pool).state models → AreModels self.now.units models }
+    {
+        self.journal.rests();
     }
 
     /// The volume of a unit that is online.

@@ -3,6 +3,7 @@ use Rattle.move_core.specs.declared.steps.Step.{Step}
 use Rattle.job_lines.specs.declared.message.Reason.TheVariants as reasons
 use Rattle.job_ops.specs.declared.copies.Judged.{Judged}
 use Rattle.job_ops.specs.Copying.{request_in, IsJudged, MayStandAs}
+use Rattle.job_ops.proofs.LoadedUnits.{known_units}
 use Rattle.job_ops.proofs.CopyGoesOn.{is_name, may_transfer, tells_first, tells_no_space, ends_not}
 use Rattle.job_ops.proofs.copies.go_on.Goals as goal
 
@@ -15,7 +16,7 @@ not_copied-requires-in-NoPlaces g c = is_name c.requires.may
 pub put_copy-requires-clause-may : goal.put_copy-requires-clause-may
 put_copy-requires-clause-may g c =
     may_transfer c.requires.may c.requires.renamed.0
-    (subst (MayStandAs c.args.session.units c.args.scene.from c.args.scene.to c.args.name.now c.args.new) c.in-Placed.is c.requires.stands) c.look_at.ensures.sound c.look_at-in-Placed.ensures.sound
+    (subst (MayStandAs c.args.session.units c.args.scene.from c.args.scene.to c.args.name.now c.args.new) c.in-Placed.is c.requires.stands) (known_units g.P.Pool c.args.session c.stands.ensures.kept c.stands.ensures.models).sound
 
 pub put_copy-requires-clause-goes : goal.put_copy-requires-clause-goes
 put_copy-requires-clause-goes g c told units settled =

@@ -1,4 +1,4 @@
-use Rattle.std.proofs.Common.{inl, inr, ◌∷◌, [], List, Some, refl, sym, subst, ◌∙◌}
+use Rattle.std.proofs.Common.{inl, inr, ◌∷◌, [], List, refl, sym, subst, ◌∙◌}
 use Rattle.std.specs.Prelude.{map}
 use Rattle.std.proofs.lemmas.List.{append_cancel_left}
 use Rattle.std.proofs.lemmas.Result.{on_ok_weaker}
@@ -6,6 +6,7 @@ use Rattle.job_lines.specs.declared.message.Message.{Message}
 use Rattle.move_core.specs.Facts.{Facts}
 use Rattle.job_ops.specs.Refusal.{Standing, standing_of, IsUnitOf, Refuses, Lets}
 use Rattle.job_ops.specs.Listing.{listed, IsListing}
+use Rattle.job_ops.proofs.LoadedUnits.{known_units}
 use Rattle.job_ops.proofs.Standing.{standings_are, volume_of}
 use Rattle.job_ops.proofs.listing.print.Goals as goal
 
@@ -40,7 +41,7 @@ returns-clause-listed g c =
       λ setting same told units settled.
           let are = c.in-Ok.ensures.models told units settled in
           let stands = standings_are s.units units are in
-          let got = volume_of s.units units are c.in-Ok.unit c.in-Online.volume (c.unit.ensures.value ∙ (λ i. Some (c.in-Online.is i))) in
+          let got = volume_of s.units units are c.in-Ok.unit c.volume.result.now c.volume.ensures in
           let said = list got.0 got.2 in (
             refl,
             inr (
@@ -53,3 +54,9 @@ returns-clause-listed g c =
             ),
           ),
     )) c.push_listing.ensures.listed
+
+pub volume-requires : goal.volume-requires
+volume-requires g c = (c.in-Ok.ensures.unit.volume, c.in-Ok.ensures.unit.loaded)
+
+pub push_listing-requires : goal.push_listing-requires
+push_listing-requires g c = (known_units g.P.Pool c.args.session.now c.stands.ensures.kept c.stands.ensures.models).sound c.in-Ok.unit c.volume.result.now c.volume.ensures

@@ -22,11 +22,14 @@ returns-then-is_empty g c =
     c.in-Ok-taken.ensures.taken (no_names c.in-Ok-taken.names.items c.in-Ok-taken.names.len c.in-Ok-taken.names.ok.0 (sym c.is_empty.ensures ∙ c.if-is_empty.true)))
     (λ units. inl (refl, refl))
 
-pub take_turns-requires-clause-may : goal.take_turns-requires-clause-may
-take_turns-requires-clause-may g c =
+pub take_turns-requires : goal.take_turns-requires
+take_turns-requires g c =
     let may = c.in-Ok.ensures.unit.may refl in
-    subst (λ (names : List Dsn). MayProcess c.args.session.room c.args.session.units c.in-Ok.unit names) (sym c.deref.ensures.value)
-    (record { may = may; sets = c.in-Ok-taken.ensures.there may.volume may.loaded })
+    record {
+      may =
+          subst (λ (names : List Dsn). MayProcess c.args.session.room c.args.session.units c.in-Ok.unit names) (sym c.deref.ensures.value)
+          (record { may = may; sets = c.in-Ok-taken.ensures.there may.volume may.loaded });
+    }
 
 pub returns : goal.returns
 returns g c =

@@ -1,9 +1,7 @@
-use Rattle.std.proofs.Common.{◌<◌, ◌+◌, [], drop, get_or, sym, subst}
+use Rattle.std.proofs.Common.{◌+◌, [], drop, get_or}
 use Rattle.std.proofs.lemmas.List.{drop_all}
 use Rattle.std.proofs.lemmas.Result.{err_from_is_err_and}
-use Rattle.dasd_pool.specs.Disk.{Shape}
 use Rattle.dsn_filter.specs.declared.dsn.Dsn.{Dsn}
-use Rattle.redo_core.specs.Reading.{journal_of}
 use Rattle.job_ops.specs.Meaning.{TurnOf}
 use Rattle.job_ops.proofs.OneTurn.{may_one, may_later, first_left}
 use Rattle.job_ops.proofs.Turning.{leads_begin, leads_more, leads_cut, leads_end}
@@ -33,10 +31,7 @@ pub take_turn-requires : goal.take_turn-requires
 take_turn-requires g c =
     let names = c.args.names.now in
     let index = c.loop-name.name-index in
-    record {
-      unit = subst (λ (shape : Shape). c.args.scene.unit < journal_of shape) (sym c.loop-name.invariant.to.keeps.shape) c.requires.unit;
-      may = may_one (get_or names index no_name) (drop index names) (drop (index + 1) names) (first_left names index no_name c.loop-name-test.true) c.loop-name.invariant.may;
-    }
+    record { may = may_one (get_or names index no_name) (drop index names) (drop (index + 1) names) (first_left names index no_name c.loop-name-test.true) c.loop-name.invariant.may }
 
 pub returns-in_err-session : goal.returns-in_err-session
 returns-in_err-session g c =

@@ -1,0 +1,11 @@
+pub mod Sessions
+pub mod Attempts
+pub mod Loaded
+pub mod Looking
+pub mod InTurn
+pub mod Whole
+pub mod PlansMade
+pub mod OfUnits
+pub mod Kept
+pub mod Alike
+pub mod Repairing
