@@ -1,2 +1,5 @@
 mod AfterUnits
+mod GivenTexts
+mod Givings
+mod PartMade
 mod Runs

@@ -5,9 +5,9 @@ use Rattle.std.proofs.lemmas.Option.{none-some}
 use Rattle.dasd_pool.specs.Count.{Rose}
 use Rattle.dasd_pool.specs.declared.pool.Pool.{Ghosts}
 use Rattle.move_core.specs.declared.steps.Step.{Step}
-use Rattle.move_core.specs.Facts.{shown}
-use Rattle.move_core.specs.Runs.{AreCalls, IsRun, Ended}
-use Rattle.move_core.proofs.Running.{calls_pending, run_behind, run_less, run_of}
+use Rattle.move_core.specs.Facts.{Facts, shown}
+use Rattle.move_core.specs.Runs.{AreCalls, IsRun, IsRunFor, Ended}
+use Rattle.move_core.proofs.Running.{calls_allow, calls_pending, run_behind, run_less, run_of}
 use Rattle.unit_load.specs.declared.state.UnitState.{UnitState}
 use Rattle.unit_session.specs.unit_steps.declared.plan.Plan.{Plan}
 use Rattle.unit_session.specs.unit_steps.Plans.{IsPlan}
@@ -37,34 +37,32 @@ module _ {P : Type 0} (pools : Ghosts P) where
       subst (λ (p : P). IsRun pools.tells (shown pools session.pool) (shown pools p) ⊥ [] broken.pending) (sym left.0)
       (subst (λ (o : Option Step). IsRun pools.tells (shown pools session.pool) (shown pools kept.pool) ⊥ [] o) (sym left.1) (run_less (λ never. absurd never) (λ not. rose) ran))
 
-  -- a pool that failed while texts were copied: the step is under way
-  pub copy_failed : (planned : PlannedView P) (broken : BrokenView P)
-      → AreCalls pools.tells (shown pools planned.session.pool) (shown pools broken.pool) ⊥ [] None → broken.pending ≡ Some planned.plan.step
-      → IsRun pools.tells (shown pools planned.session.pool) (shown pools broken.pool) ⊥ [] broken.pending
-  copy_failed planned broken calls pending =
-      subst (λ (o : Option Step). IsRun pools.tells (shown pools planned.session.pool) (shown pools broken.pool) ⊥ [] o) (sym pending)
-      (run_of (calls_pending (λ never. never) (calls.cause (λ never. never)) calls) (λ no_steps none_pending. none-some planned.plan.step (sym none_pending)))
+  -- a pool that failed before the commit: the step is under way
+  pub failed_run : {allows : Facts → Type 0} (step : Step) (old : P) (broken : BrokenView P) → AreCalls pools.tells (shown pools old) (shown pools broken.pool) ⊥ [] None → broken.pending ≡ Some step
+      → IsRunFor allows pools.tells (shown pools old) (shown pools broken.pool) ⊥ [] broken.pending
+  failed_run {allows} step old broken calls pending =
+      subst (λ (o : Option Step). IsRunFor allows pools.tells (shown pools old) (shown pools broken.pool) ⊥ [] o) (sym pending)
+      (run_of (calls_pending (λ never. never) (calls.cause (λ never. never)) (calls_allow (λ facts same allowed. tt {0}) calls)) (λ no_steps none_pending. none-some step (sym none_pending)))
 
   module _ (planned : PlannedView P) (copied : CopiedView P) (plan_is : copied.plan ≡ planned.plan)
       (first : AreCalls pools.tells (shown pools planned.session.pool) (shown pools copied.session.pool) (Unit {0}) [] None) where
     -- the copies, and then the commit: the step is done, or under way
-    pub made_run : (result : Result (SessionView P) (BrokenView P))
-        → IsRun pools.tells (shown pools copied.session.pool) (shown pools (pool_switched result)) (Ended result) (done_by copied.plan.step result) (pending_by copied.plan.step result)
+    pub made_run : {allows : Facts → Type 0} (result : Result (SessionView P) (BrokenView P))
+        → IsRunFor allows pools.tells (shown pools copied.session.pool) (shown pools (pool_switched result)) (Ended result) (done_by copied.plan.step result) (pending_by copied.plan.step result)
         → IfErr result (λ broken. broken.pending ≡ Some copied.plan.step)
-        → IsRun pools.tells (shown pools planned.session.pool) (shown pools (pool_switched result)) (Ended result) (done_by planned.plan.step result) (pending_made result)
-    made_run (Ok session) run pending =
-        subst (λ (p : Plan). IsRun pools.tells (shown pools planned.session.pool) (shown pools session.pool) (Unit {0}) (p.step ∷ []) None) plan_is
-        (run_behind first tt run (λ no_steps none_pending. omega (arith, ap (λ (l : List Step). length l) no_steps)))
-    made_run (Err broken) run pending =
-        subst (λ (o : Option Step). IsRun pools.tells (shown pools planned.session.pool) (shown pools broken.pool) ⊥ [] o) (sym pending)
-        (run_behind first tt run (λ no_steps none_pending. none-some copied.plan.step (sym none_pending)))
+        → IsRunFor allows pools.tells (shown pools planned.session.pool) (shown pools (pool_switched result)) (Ended result) (done_by planned.plan.step result) (pending_made result)
+    made_run {allows} (Ok session) run pending =
+        subst (λ (p : Plan). IsRunFor allows pools.tells (shown pools planned.session.pool) (shown pools session.pool) (Unit {0}) (p.step ∷ []) None) plan_is
+        (run_behind (calls_allow (λ facts same allowed. tt {0}) first) tt run (λ no_steps none_pending. omega (arith, ap (λ (l : List Step). length l) no_steps)))
+    made_run {allows} (Err broken) run pending =
+        subst (λ (o : Option Step). IsRunFor allows pools.tells (shown pools planned.session.pool) (shown pools broken.pool) ⊥ [] o) (sym pending)
+        (run_behind (calls_allow (λ facts same allowed. tt {0}) first) tt run (λ no_steps none_pending. none-some copied.plan.step (sym none_pending)))
 
     -- what they leave
-    pub made_after : (result : Result (SessionView P) (BrokenView P))
-        → IsRun pools.tells (shown pools copied.session.pool) (shown pools (pool_switched result)) (Ended result) (done_by copied.plan.step result) (pending_by copied.plan.step result)
+    pub made_after : {allows : Facts → Type 0} (result : Result (SessionView P) (BrokenView P))
+        → IsRunFor allows pools.tells (shown pools copied.session.pool) (shown pools (pool_switched result)) (Ended result) (done_by copied.plan.step result) (pending_by copied.plan.step result)
         → (copied.session.room ≡ planned.session.room) × (copied.session.names ≡ planned.session.names) × (copied.session.units ≡ planned.session.units)
-        × (copied.session.vtocs ≡ planned.session.vtocs) → IsPlan copied.session.units copied.plan
-        → WereRendered copied.session.units copied.session.vtocs copied.plan.changes copied.rendered
+        → IsPlan copied.session.units copied.plan → WereRendered copied.session.units copied.session.vtocs copied.plan.changes copied.rendered
         → IfOk result (λ session. session.units ≡ units_after copied.session.units copied.plan.changes copied.rendered)
         → IfOk result (λ session. (session.room ≡ copied.session.room) × (session.names ≡ copied.session.names)) → IfOk result (AreAfter pools planned)
     made_after (Ok session) run still is were units rest =

@@ -2,8 +2,10 @@
 #![tactic(auto)]
 
 mod cut;
+mod giving;
 mod steps;
 
 pub use cut::Cut;
+pub use giving::Giving;
 pub use steps::{Attempt, carry_out, try_plan};
 pub use unit_session;

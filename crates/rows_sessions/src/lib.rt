@@ -4,6 +4,8 @@
 #[cfg(test)]
 mod ground;
 #[cfg(test)]
+mod parts;
+#[cfg(test)]
 mod session;
 #[cfg(test)]
 mod statements;

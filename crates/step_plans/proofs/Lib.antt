@@ -7,3 +7,4 @@ pub mod Places
 mod Puts
 mod Makers
 pub mod RowNames
+pub mod PartPlans

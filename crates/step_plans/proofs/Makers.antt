@@ -162,10 +162,10 @@ module _ (volume : Volume) (sound : IsSound volume) (name : Dsn) (old : Row) (ha
 
 -- ---- a copy
 
-places_some : (step : ℕ) (runs : List Run) → All (λ run. (1 ≤ run.len) × (run.first % step ≡ 0) × (run.len % step ≡ 0)) runs → All (λ (run : Run). 1 ≤ run.len) runs
+pub places_some : (step : ℕ) (runs : List Run) → All (λ run. (1 ≤ run.len) × (run.first % step ≡ 0) × (run.len % step ≡ 0)) runs → All (λ (run : Run). 1 ≤ run.len) runs
 places_some step runs all = All-weaker (λ (run : Run). (1 ≤ run.len) × (run.first % step ≡ 0) × (run.len % step ≡ 0)) (λ (run : Run). 1 ≤ run.len) (λ run is. is.0) runs all
 
-places_whole : (heads : ℕ) (extents : List Extent) (step kind : ℕ) (runs : List Run) → IsStepOf heads extents step → IsNewKind extents kind
+pub places_whole : (heads : ℕ) (extents : List Extent) (step kind : ℕ) (runs : List Run) → IsStepOf heads extents step → IsNewKind extents kind
     → All (λ run. (1 ≤ run.len) × (run.first % step ≡ 0) × (run.len % step ≡ 0)) runs → LieOnCylinders heads kind runs
 places_whole heads extents step kind runs step_is kind_is all is =
     let same : step ≡ heads = step_whole heads extents step kind step_is kind_is is in
@@ -173,7 +173,7 @@ places_whole heads extents step kind runs step_is kind_is all is =
     (λ run at. (subst (λ (s : ℕ). run.first % s ≡ 0) same at.1, subst (λ (s : ℕ). run.len % s ≡ 0) same at.2)) runs all
 
 -- as many tracks as the runs have
-tracks_count : (kind : ℕ) (runs : List Run) → length (tracks_of (extents_on kind runs)) ≡ count_of runs
+pub tracks_count : (kind : ℕ) (runs : List Run) → length (tracks_of (extents_on kind runs)) ≡ count_of runs
 tracks_count kind [] = refl
 tracks_count kind (one ∷ runs) =
     length-append (tracks_in one) (tracks_of (extents_on kind runs))
@@ -181,7 +181,7 @@ tracks_count kind (one ∷ runs) =
     ∙ sym (sum_by-cons (λ (r : Run). r.len) one runs)
 
 -- a need in whole steps is as many tracks as a copy takes
-rounded_for : (device : Device) (extents : List Extent) (step kind n : ℕ) → IsStepOf (heads_of device) extents step → IsNewKind extents kind → rounded n step ≡ tracks_for (heads_of device) kind n
+pub rounded_for : (device : Device) (extents : List Extent) (step kind n : ℕ) → IsStepOf (heads_of device) extents step → IsNewKind extents kind → rounded n step ≡ tracks_for (heads_of device) kind n
 rounded_for device extents step kind n (inl by) (inr other) = absurd (other.0 by.0)
 rounded_for device extents step kind n (inr by) (inl other) = absurd (by.0 other.0)
 rounded_for D3390 extents step kind n (inl by) (inl new) = ap (rounded n) by.1 ∙ whole n ∙ sym (ap (λ (k : ℕ). tracks_for 15 k n) new.1)

@@ -4,3 +4,4 @@ pub use Rattle.unit_steps.specs as unit_steps
 pub use Rattle.unit_steps.specs.vtoc_render as vtoc_render
 pub mod Plans
 pub mod Copies
+pub mod Parts

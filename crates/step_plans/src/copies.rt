@@ -36,16 +36,16 @@ pub struct SetCopy {
     pub replaced: bool,
 }
 
-/// Whether something is in the way of a copy: a data set of its name that it doesn't replace, or none that it does.
-fn is_in_the_way(target: &Volume, copy: &SetCopy) -> bool
+/// Whether something is in the way of a data set that is put: one of its name that it doesn't replace, or none that it does.
+pub(crate) fn is_in_the_way(target: &Volume, name: &Dsn, replaced: bool) -> bool
     requires sound { IsSound target.now }
-    requires name { IsDsn copy.now.to.name }
-    ensures way { OnTrue result (IsInTheWay copy.now.replaced target.now copy.now.to.name) }
-    ensures clear { OnFalse result (IsClear copy.now.replaced target.now copy.now.to.name) }
+    requires name { IsDsn name.now }
+    ensures way { OnTrue result (IsInTheWay replaced target.now name.now) }
+    ensures clear { OnFalse result (IsClear replaced target.now name.now) }
 {
-    match row_of(target, &copy.to.name) {
-        Some(_row) => !copy.replaced,
-        None => copy.replaced,
+    match row_of(target, name) {
+        Some(_row) => !replaced,
+        None => replaced,
     }
 }
 
@@ -67,7 +67,7 @@ fn new_row(
         return Ok(None);
     };
     let extents = row.extents.as_slice();
-    if extents.len() > MOST_EXTENTS || is_in_the_way(target, copy) {
+    if extents.len() > MOST_EXTENTS || is_in_the_way(target, &copy.to.name, copy.replaced) {
         return Ok(None);
     }
     let runs = copy.runs.as_slice();
@@ -76,7 +76,7 @@ fn new_row(
 }
 
 /// The change that puts a row, beside the others or in the place of the one of a name.
-fn putting(replaced: bool, name: Dsn, row: Row) -> Change
+pub(crate) fn putting(replaced: bool, name: Dsn, row: Row) -> Change
     ensures { result ≡ Rattle.unit_steps.specs.Plans.putting replaced name row }
 {
     if replaced {

@@ -3,10 +3,12 @@
 
 mod copies;
 mod extents;
+mod parts;
 mod plans;
 mod rows;
 
 pub use copies::{SetAt, SetCopy, carry_set, copy_set};
+pub use parts::{PartSet, part_set};
 pub use plans::{MOST_EXTENTS, delete_set, join_set, repair_space, reset_flag, shrink_set};
 pub use rows::row_of;
 pub use unit_steps;

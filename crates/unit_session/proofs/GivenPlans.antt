@@ -1,8 +1,9 @@
 -- The given tracks of a plan.
-use Rattle.std.proofs.Common.{◌≡◌, ◌⊎◌, inl, inr, ◌==◌, ◌&&◌, ℕ, ◌<◌, ◌≤◌, List, All, Contains, Bool, true, false, Option, Some, None, map, refl, sym, ap, subst, ◌∙◌, arith}
+use Rattle.std.proofs.Common.{◌≡◌, ◌⊎◌, inl, inr, ◌==◌, ◌&&◌, ℕ, zero, suc, ◌<◌, ◌≤◌, List, [], ◌∷◌, length, All, Contains, Bool, true, false, Option, Some, None, map, refl, sym, ap, subst, ◌∙◌, arith}
 use Rattle.std.proofs.lemmas.List.{get_or_default}
-use Rattle.std.proofs.lemmas.Bool.{false≢true}
+use Rattle.std.proofs.lemmas.Bool.{false≢true, cases_eq}
 use Rattle.std.proofs.lemmas.Bool.Decides.{eqb_tells}
+use Rattle.std.proofs.lemmas.List.Elements.{All-contains}
 use Rattle.std.specs.Prelude.{slice_get}
 use Rattle.std.proofs.lemmas.Option.{none-some, same_Some, slice_get_within}
 use Rattle.ckd_image.specs.Device.{heads_of, slot_of}
@@ -12,9 +13,14 @@ use Rattle.free_map.specs.declared.run.Run.{Run}
 use Rattle.free_map.specs.Free.{IsFree}
 use Rattle.free_map.specs.Runs.{InRuns}
 use Rattle.redo_core.specs.Reading.{journal_of}
+use Rattle.volume_model.specs.Dscbs.{numbers_below}
 use Rattle.volume_model.specs.Unit as models
+use Rattle.volume_model.proofs.Numbers.{numbers_long}
+use Rattle.vtoc_core.specs.declared.volume.Row.{Row}
 use Rattle.vtoc_core.specs.declared.volume.Volume.{Volume}
+use Rattle.vtoc_layout.specs.Layout.{AreDistinct}
 use Rattle.vtoc_layout.proofs.Apart.{all_from}
+use Rattle.vtoc_layout.proofs.Distinct.{at_first, in_front, in_back, no_more}
 use Rattle.volume_change.specs.declared.change.Change.{Change}
 use Rattle.volume_change.specs.Runs.{runs_in}
 use Rattle.unit_load.specs.declared.state.UnitState.{UnitState}
@@ -30,15 +36,16 @@ use Rattle.unit_steps.specs.declared.plan.Tracks.TheVariants as texts
 use Rattle.unit_steps.specs.Copied.{IsFreeAt, IsPutBy}
 use Rattle.unit_steps.specs.Laws.{AreSized}
 use Rattle.unit_steps.specs.Loaded.{HaveStates, KeepVtocs}
-use Rattle.unit_steps.specs.Plans.{IsLoadedAt, IsPlan, Plans, PlansPart, tracks_in}
+use Rattle.unit_steps.specs.Plans.{IsLoadedAt, IsPlan, Plans, PlansPart, putting, tracks_in}
+use Rattle.unit_steps.specs.vtoc_render.Next.{MayChange}
 use Rattle.unit_steps.proofs.OneChange.{same_volume}
 use Rattle.unit_steps.proofs.Putting.{put_by}
 use Rattle.unit_steps.proofs.Rows.{runs_of_extents, runs_on}
 use Rattle.unit_session.specs.declared.copies.Copies.{Copies}
 use Rattle.unit_session.specs.declared.copies.GivenTracks.{GivenTracks}
 use Rattle.unit_session.specs.Copies.{AreCopiesOf, HasTarget, OnCopies}
-use Rattle.unit_session.specs.Given.{AreGivenOf, AreNotBoth, AreTracksPut, GivesAt, MayGive, OnGiven, is_given, track_at}
-use Rattle.unit_session.proofs.CopyPlaces.{few_blocks, free_below, kept_of, put_row, track_in_runs}
+use Rattle.unit_session.specs.Given.{AreGivenOf, AreNotBoth, AreTracksPut, GivesAt, MayGive, OnGiven, count_given, is_given, track_at}
+use Rattle.unit_session.proofs.CopyPlaces.{few_blocks, free_below, kept_of, put_distinct, put_row, track_in_runs}
 
 -- ---- what is planned
 
@@ -172,6 +179,51 @@ module _ {shape : Shape} (units : List UnitState) (vtocs : List (List ℕ)) (pla
   pub may_give : (given : Option GivenTracks) → AreSized shape → AreGivenOf units plan.tracks plan.changes given → OnGiven (MayGive shape) given
   may_give None sized are = tt
   may_give (Some given) sized are = may_one given sized (of_part units plan given is are)
+
+-- ---- how many there are
+
+in_numbers : (n k : ℕ) → k < n → Contains (numbers_below n) k
+in_numbers zero k less = absurd (omega (arith, less))
+in_numbers (suc n) k less = elim (cases_eq n k) [
+  | inl same ↦ in_back (numbers_below n) (n ∷ []) k (subst (Contains (n ∷ [])) same (at_first n []))
+  | inr apart ↦ in_front (numbers_below n) (n ∷ []) k (in_numbers n k (omega (arith, less, apart)))
+]
+
+-- a row that may be put has no track twice
+may_distinct : (volume : Volume) (replaced : Bool) (name : Dsn) (row : Row) → MayChange volume (putting replaced name row) → AreDistinct (tracks_in volume row)
+may_distinct volume false name row may = put_distinct volume [] row may.0
+may_distinct volume true name row may = put_distinct volume (may.1.0 ∷ []) row may.1.3
+
+-- the tracks of a part are distinct
+part_distinct : {units : List UnitState} {changes : List (ℕ × Change)} (is : IsPart units changes) → AreDistinct (tracks_in is.part.volume is.part.row)
+part_distinct is = may_distinct is.part.volume is.replaced is.name is.part.row (subst (MayChange is.part.volume) is.part.change_is is.part.may)
+
+given_distinct : (units : List UnitState) (plan : Plan) (given : GivenTracks) → IsPlan units plan → AreGivenOf units plan.tracks plan.changes (Some given) → AreDistinct given.tracks.items
+given_distinct units plan given is are = let of = of_part units plan given is are in subst (λ (l : List ℕ). AreDistinct l) (sym of.tracks_are) (part_distinct of.is)
+
+no_more_tracks : (limit : ℕ) (tracks : List ℕ) → AreDistinct tracks → All (λ track. track < limit) tracks → length tracks ≤ limit
+no_more_tracks limit tracks distinct below =
+    omega (
+      arith,
+      no_more tracks (numbers_below limit) distinct (λ track there. in_numbers limit track (All-contains (λ (t : ℕ). t < limit) tracks track below there)),
+      numbers_long limit,
+    )
+
+few_one : (shape : Shape) (units : List UnitState) (plan : Plan) (given : GivenTracks) → MayGive shape given → IsPlan units plan → AreGivenOf units plan.tracks plan.changes (Some given)
+    → length given.tracks.items ≤ 65535
+few_one shape units plan given may is are =
+    omega (arith, may.few, no_more_tracks (shape.blocks given.unit) given.tracks.items (given_distinct units plan given is are) may.tracks)
+
+pub few_given : (shape : Shape) (units : List UnitState) (plan : Plan) (given : Option GivenTracks) → OnGiven (MayGive shape) given → IsPlan units plan
+    → AreGivenOf units plan.tracks plan.changes given → count_given given ≤ 65535
+few_given shape units plan None may is are = omega arith
+few_given shape units plan (Some given) may is are = few_one shape units plan given may is are
+
+-- no track is given twice
+pub given_once : (units : List UnitState) (plan : Plan) (given : Option GivenTracks) → IsPlan units plan → AreGivenOf units plan.tracks plan.changes given
+    → OnGiven (λ some. AreDistinct some.tracks.items) given
+given_once units plan None is are = tt
+given_once units plan (Some given) is are = given_distinct units plan given is are
 
 -- ---- what is written
 

@@ -56,6 +56,11 @@ abbrev pub GivesAt : Option GivenTracks → ℕ → Type 0
 GivesAt (Some given) index = index < length given.tracks.items
 GivesAt None index = ⊥
 
+-- how many tracks the caller gives
+abbrev pub count_given : Option GivenTracks → ℕ
+count_given (Some given) = length given.tracks.items
+count_given None = 0
+
 -- the text of a track fits the slot of the one at a place
 abbrev pub FitsSlot : GivenTracks → ℕ → Track → Type 0
 FitsSlot given index text = length (track_text (address_of (heads_of given.device) (track_at given index)) text) ≤ slot_of given.device

@@ -9,13 +9,14 @@ ghost use Rattle.move_core.specs.Facts.{Original, shown};
 ghost use Rattle.move_core.specs.Runs.{AreCalls, IsRun, IsRunFor, Ended};
 ghost use Rattle.redo_core.specs.Phases.{of_commit};
 ghost use Rattle.redo_core.specs.Reading.{journal_of};
+ghost use Rattle.vtoc_layout.specs.Layout.{AreDistinct};
 ghost use Rattle.unit_load.specs.Reads.{OnlyReads};
 ghost use Rattle.unit_steps.specs.Plans.{IsOfUnits, IsPlan};
 ghost use Rattle.unit_steps.specs.Rendering.{WereRendered, entries_of, units_after};
 ghost use Rattle.unit_session.specs.Sessions.{IsSameSession};
 ghost use Rattle.unit_session.specs.declared.copies.Copies.{Copies as CopiesOf};
 ghost use Rattle.unit_session.specs.Copies.{AreCopiesOf, OnCopies, MayCopy, HaveTexts, IsLookFault, OnlyWrites, CopiesLeave, IsShortFor, contents_of, may_write_for};
-ghost use Rattle.unit_session.specs.Given.{AreGivenOf, AreNotBoth, FitsAt, GivesAt, IsGivenAt, OnGiven, is_given};
+ghost use Rattle.unit_session.specs.Given.{AreGivenOf, AreNotBoth, FitsAt, GivesAt, IsGivenAt, OnGiven, count_given, is_given};
 ghost use Rattle.unit_session.specs.Texts.{IsSeen};
 ghost use Rattle.unit_session.specs.Planned.{pool_planned, pool_copied, pool_given, pool_switched, done_by, pending_by, HoldsOriginal, IsMadeOf, IsPlanFault, IsKeptAs, MayBegin, MayWriteAll, IsReady, SparesUnchanged};
 
@@ -301,6 +302,19 @@ fn make_copies<P: Pool>(
 }
 
 impl<P: Pool> Planned<P> {
+    /// How many tracks the caller gives, which are those of the plan's new row.
+    pub fn to_give(&self) -> u32
+        ensures count { result ≡ count_given self.now.given }
+        ensures of_plan { IsPlan self.now.session.units self.now.plan }
+        ensures given { AreGivenOf self.now.session.units self.now.plan.tracks self.now.plan.changes self.now.given }
+        ensures once { OnGiven (λ given. AreDistinct given.tracks.items) self.now.given }
+    {
+        match &self.work.given {
+            Some(given) => given.tracks.len() as u32,
+            None => 0,
+        }
+    }
+
     /// Writes the text of a given track, past the journal. Another text for the track takes the place of the first. No memory is taken.
     pub fn give(self, index: u32, track: &Track) -> Result<Planned<P>, Broken<P>>
         requires place { GivesAt self.given index }
