@@ -23,7 +23,7 @@ use job_select::is_pinned;
 use set_facts::is_unexpired;
 
 /// Whether somebody holds a name against a command that changes its data set, or reads it.
-fn is_name_held(held: &Held, name: &Dsn, change: bool) -> bool
+pub fn is_name_held(held: &Held, name: &Dsn, change: bool) -> bool
     ensures { IsTrue result ↔ Any (Conflicts name.now change) held.now }
 {
     held.conflict(name, change).is_some()

@@ -10,6 +10,7 @@ mod wish;
 
 pub use copying::Copying;
 pub use job_select;
+pub use judging::is_name_held;
 pub use renames::is_rename;
 pub use step_room;
 pub use step_room::{step_plans, unit_change, unit_steps, vtoc_render};

@@ -27,7 +27,8 @@ use Rattle.job_acts.specs.declared.acts.Acted.TheVariants as variants
 use Rattle.job_ops.specs.declared.task.Task.{Task}
 use Rattle.job_acts.specs.Making.{MayBeChanged, HasSet, MayPlan}
 use Rattle.job_ops.specs.Asked.{IsCandidate, IsSeen}
-use Rattle.job_ops.specs.Ends.{ForUnits, Ends}
+use Rattle.job_steps.specs.Units.{ForUnits}
+use Rattle.job_ops.specs.Ends.{Ends}
 use Rattle.job_ops.specs.Reshaping.{step_to, MayReshape, NeedsRepair, StaysChangeable, EndsReshape, HasRoomToReshape, LacksRoomToReshape, IsTarget, steps_of_reshape}
 use Rattle.job_ops.specs.Turns.{Action, IsCutAction}
 use Rattle.job_acts.proofs.Sessions.{keeps_same}

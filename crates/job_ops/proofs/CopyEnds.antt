@@ -35,8 +35,8 @@ use Rattle.job_ops.specs.Transfers.{first_steps, steps_of_transfer, MayTransfer,
 use Rattle.job_ops.proofs.LoadedUnits.{AreKnown}
 use Rattle.job_ops.specs.Copy.{Request, CopiesSet, PreventsCopy, IsNewName, all_repairs, all_rebuilt}
 use Rattle.job_ops.specs.Copying.{request_in, IsThere, IsCase, GoesSoFar, IsReplacedIn, ArePlacedIn, HasGoodTexts, AreLines, IsTransferOf, StaysCopyable}
-use Rattle.job_ops.specs.Ends.{ForUnits, Ends}
-use Rattle.job_ops.specs.Setting.{facts_of}
+use Rattle.job_steps.specs.Units.{facts_of, ForUnits}
+use Rattle.job_ops.specs.Ends.{Ends}
 use Rattle.job_ops.specs.Turns.{Action, IsCutAction}
 use Rattle.job_ops.proofs.CopyBehind.{stays_done, stays_same}
 use Rattle.job_ops.proofs.CopyRoom.{IsTransferIn, has_room, lacks_room}

@@ -28,7 +28,8 @@ use Rattle.job_acts.specs.Acting.{AreSound}
 use Rattle.job_ops.specs.Transfers.{MayTransfer}
 use Rattle.job_ops.specs.Copy.{Request, CopiesSet, IsNewName}
 use Rattle.job_ops.specs.Copying.{MayBeCopied, MayStand, StaysCopyable, IsThere, IsCase, GoesSoFar, IsJudged, HasGoodTexts}
-use Rattle.job_ops.specs.Ends.{ForUnits, Ends}
+use Rattle.job_steps.specs.Units.{ForUnits}
+use Rattle.job_ops.specs.Ends.{Ends}
 use Rattle.job_ops.specs.Turns.{Action}
 use Rattle.job_ops.proofs.CopyBehind.{stays_same}
 use Rattle.job_ops.proofs.CopyEnds.{tells}

@@ -25,9 +25,10 @@ use Rattle.job_copies.specs.declared.wish.Wish.{Wish}
 use Rattle.job_ops.specs.Asked.{IsUnitFor}
 use Rattle.job_ops.specs.Copy.{uses_of, GoesBetween, CopiesBetween, CopiesSet, CopiesSets, IsCutCopy, request_of}
 use Rattle.job_ops.specs.Copying.{MayBeCopied}
-use Rattle.job_ops.specs.Ends.{ForUnits, Ends}
+use Rattle.job_steps.specs.Units.{facts_of, ForUnits}
+use Rattle.job_ops.specs.Ends.{Ends}
 use Rattle.job_ops.specs.Refusal.{Standing, standing_of, standing_in, Refuses, Lets}
-use Rattle.job_ops.specs.Setting.{Setting, setting_of, facts_of}
+use Rattle.job_ops.specs.Setting.{Setting, setting_of}
 use Rattle.job_ops.specs.Turns.{Turns, AreCutTurns}
 use Rattle.job_ops.proofs.SameSessions.{ends_as}
 use Rattle.job_ops.proofs.Standing.{standings_are, volume_of}

@@ -24,8 +24,7 @@ use Rattle.job_copies.specs.Reasons.{PreventsAtFirst, first_reasons}
 use Rattle.job_ops.specs.declared.copies.Judged.TheVariants as judges
 use Rattle.job_ops.specs.Copy.{Request}
 use Rattle.job_ops.specs.Copying.{MayBeCopied, IsCase, IsThere, IsJudged, MayStand}
-use Rattle.job_ops.specs.Ends.{ForUnits}
-use Rattle.job_ops.specs.Setting.{facts_of}
+use Rattle.job_steps.specs.Units.{facts_of, ForUnits}
 use Rattle.job_ops.proofs.LoadedUnits.{AreKnown}
 use Rattle.job_copies.proofs.SetsOfRows.{named_set}
 use Rattle.job_steps.proofs.unit_session.unit_steps.OneChange.{same_volume}

@@ -17,10 +17,11 @@ use Rattle.job_lines.specs.declared.message.Message.TheVariants as messages
 use Rattle.job_copies.specs.job_select.Selection.{Selects}
 use Rattle.job_steps.specs.declared.cut.Cut.{Cut}
 use Rattle.job_ops.specs.Asked.{IsUnitFor}
-use Rattle.job_ops.specs.Ends.{ForUnits, Ends}
+use Rattle.job_steps.specs.Units.{facts_of, ForUnits}
+use Rattle.job_ops.specs.Ends.{Ends}
 use Rattle.job_ops.specs.Refusal.{Standing, standing_of, standing_in, Refuses, Lets}
 use Rattle.job_ops.specs.Sets.{changed, GoesThrough, OverSets, IsCutOverSets}
-use Rattle.job_ops.specs.Setting.{setting_of, facts_of}
+use Rattle.job_ops.specs.Setting.{setting_of}
 use Rattle.job_ops.specs.Turns.{Action, Turns, AreCutTurns}
 use Rattle.job_ops.proofs.SameSessions.{ends_as}
 use Rattle.job_ops.proofs.Standing.{standings_are, volume_of}

@@ -15,7 +15,8 @@ use Rattle.job_ops.specs.declared.asking.Candidate.{Candidate}
 use Rattle.job_ops.specs.declared.reshaping.Layout.TheVariants as layouts
 use Rattle.job_ops.specs.declared.reshaping.Reshape.{Reshape}
 use Rattle.job_ops.specs.declared.task.Task.TheVariants as tasks
-use Rattle.job_ops.specs.Asked.{IsSet, IsSeen, IsReasonBefore, ReasonSoFar, said_of}
+use Rattle.job_steps.specs.Units.{IsSet}
+use Rattle.job_ops.specs.Asked.{IsSeen, IsReasonBefore, ReasonSoFar, said_of}
 use Rattle.job_ops.specs.Consolidate.{HasSeveral, IsPlaceOf, LacksPlace, LacksRoomAtPlace, run_from, ConsolidatesSet}
 use Rattle.job_ops.specs.Reasons.{LacksRoomFor}
 use Rattle.job_ops.specs.Reshaping.{HasRoomToReshape, LacksRoomToReshape, steps_of_reshape}

@@ -15,8 +15,7 @@ use Rattle.move_core.specs.Stands.{IsSettled}
 use Rattle.job_copies.specs.unit_steps.Loaded.{IsModel, AreModels}
 use Rattle.job_copies.specs.unit_steps.Plans.{IsLoadedAt}
 use Rattle.job_steps.specs.unit_session.Sessions.{SessionView}
-use Rattle.job_ops.specs.Setting.{facts_of}
-use Rattle.job_ops.specs.Ends.{ForUnits}
+use Rattle.job_steps.specs.Units.{facts_of, ForUnits}
 use Rattle.job_acts.specs.Acting.{AreSound}
 use Rattle.job_acts.proofs.Loaded.{are_sound}
 

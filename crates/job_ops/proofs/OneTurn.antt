@@ -29,7 +29,8 @@ use Rattle.job_ops.specs.declared.asking.Candidate.{Candidate}
 use Rattle.job_ops.specs.declared.task.Task.{Task}
 use Rattle.job_ops.specs.declared.task.Task.TheVariants as tasks
 use Rattle.job_ops.specs.Asked.{MayProcess, IsSeen, IsReasonBefore}
-use Rattle.job_ops.specs.Ends.{ForUnits, Ends}
+use Rattle.job_steps.specs.Units.{ForUnits}
+use Rattle.job_ops.specs.Ends.{Ends}
 use Rattle.job_ops.specs.Consolidate.{HasSeveral, LacksPlace, LacksRoomAtPlace}
 use Rattle.job_ops.specs.Meaning.{TurnOf}
 use Rattle.job_ops.specs.Reasons.{LacksRoomFor}
@@ -38,8 +39,8 @@ use Rattle.job_ops.specs.Reshaping.{StaysChangeable}
 use Rattle.job_ops.specs.Task.{StaysFor, severity_for}
 use Rattle.job_ops.specs.Turns.{Action, IsCutAction}
 use Rattle.job_ops.proofs.Judging.{reason_found}
-use Rattle.job_acts.proofs.Sessions.{keeps_same}
-use Rattle.job_ops.proofs.SameSessions.{for_new, ends_after, ends_said}
+use Rattle.job_acts.proofs.Sessions.{keeps_same, for_new}
+use Rattle.job_ops.proofs.SameSessions.{ends_after, ends_said}
 
 -- a reason is told
 pub reason_told : (task : Task) (held : List Hold) {unit : ℕ} {name : Dsn} {candidate : Candidate} {units : List UnitModel} (reason : Reason) → IsSeen task unit name candidate units

@@ -39,8 +39,7 @@ use Rattle.job_acts.proofs.Sessions.{no_change}
 use Rattle.job_ops.specs.declared.reshaping.Layout.{Layout}
 use Rattle.job_ops.specs.declared.reshaping.Layout.TheVariants as layouts
 use Rattle.job_ops.specs.declared.reshaping.Reshape.{Reshape}
-use Rattle.job_ops.specs.Ends.{ForUnits}
-use Rattle.job_ops.specs.Setting.{facts_of}
+use Rattle.job_steps.specs.Units.{facts_of, ForUnits}
 use Rattle.job_ops.specs.Reshaping.{step_of, step_to, steps_of_reshape, IsReshaped, MayReshape, NeedsRepair, IsTarget, LacksRoomToReshape, HasRoomToReshape, StaysChangeable, ReshapeAnswers, EndsReshape}
 use Rattle.job_ops.proofs.LoadedUnits.{AreKnown}
 use Rattle.job_ops.proofs.ReshapeRoom.{change_full, change_fits, repair_full, repair_fits}

@@ -1,14 +1,12 @@
--- Parts of a statement behind one another: their facts, their units and their ends.
+-- Parts of a statement behind one another: their facts and their ends.
 use Rattle.std.proofs.Common.{◌≡◌, List, [], ◌++◌, Option, None, sym, subst, ◌∙◌}
 use Rattle.std.specs.Prelude.{Result, Ok, Err, IfOk, IfErr}
 use Rattle.std.proofs.lemmas.List.{append-nil}
-use Rattle.dasd_pool.specs.Disk.{State}
 use Rattle.dasd_pool.specs.declared.pool.Pool.{Ghosts}
 use Rattle.volume_model.specs.Unit.{UnitModel}
 use Rattle.move_core.specs.declared.steps.Step.{Step}
-use Rattle.move_core.specs.Facts.{Facts, no_inputs, shown}
+use Rattle.move_core.specs.Facts.{shown}
 use Rattle.move_core.specs.Runs.{IsRun}
-use Rattle.move_core.specs.Stands.{IsSettled}
 use Rattle.move_core.proofs.Running.{run_idle, run_then}
 use Rattle.job_steps.specs.unit_session.Sessions.{SessionView, IsSameSession}
 use Rattle.job_lines.specs.declared.message.Message.{Message}
@@ -16,9 +14,9 @@ use Rattle.job_steps.specs.declared.cut.Cut.{Cut}
 use Rattle.job_steps.specs.declared.cut.Cut.TheVariants as cuts
 use Rattle.job_steps.specs.Carried.{pending_cut}
 use Rattle.job_acts.specs.Acting.{KeepsFacts, CutKeepsFacts}
-use Rattle.job_acts.proofs.Sessions.{no_change, keeps_same, keeps_then}
-use Rattle.job_ops.specs.Ends.{ForUnits, LeavesFacts, Ends}
-use Rattle.job_ops.specs.Setting.{facts_of}
+use Rattle.job_acts.proofs.Sessions.{no_change, keeps_same, keeps_then, for_old}
+use Rattle.job_steps.specs.Units.{ForUnits}
+use Rattle.job_ops.specs.Ends.{LeavesFacts, Ends}
 use Rattle.job_ops.specs.Turns.{Action}
 
 -- where memory ran out, no more is told
@@ -28,11 +26,6 @@ only_short kept before after (Ok next) err = tt
 only_short kept before after (Err cut) err = err.0
 
 module _ {P : Type 0} (pools : Ghosts P) where
-  -- ---- facts
-
-  pub facts_kept : {old new : SessionView P} → KeepsFacts pools old new → facts_of pools new ≡ facts_of pools old
-  facts_kept {old} {new} keeps = λ i. record { shape = keeps.shape i; names = keeps.names i; room = keeps.room i; inputs = no_inputs }
-
   pub leaves_then : {old mid : SessionView P} (result : Result (SessionView P) (Cut P)) → KeepsFacts pools old mid → LeavesFacts pools mid result → LeavesFacts pools old result
   leaves_then {old} {mid} (Ok next) one other = keeps_then pools one other
   leaves_then {old} {mid} (Err (cuts.Short kept)) one other = keeps_then pools one other
@@ -41,20 +34,6 @@ module _ {P : Type 0} (pools : Ghosts P) where
   pub cut_leaves : (session : SessionView P) (cut : Cut P) → CutKeepsFacts pools session cut → LeavesFacts pools session (Err cut)
   cut_leaves session (cuts.Halted broken) keeps = tt
   cut_leaves session (cuts.Short kept) keeps = keeps
-
-  -- ---- units
-
-  settled_as : (old new : SessionView P) (units : List UnitModel) → facts_of pools old ≡ facts_of pools new → (pools.disk old.pool).state ≡ (pools.disk new.pool).state
-      → IsSettled (facts_of pools old) (pools.disk old.pool).state units → IsSettled (facts_of pools new) (pools.disk new.pool).state units
-  settled_as old new units facts state settled =
-      subst (λ (s : State). IsSettled (facts_of pools new) s units) state (subst (λ (f : Facts). IsSettled f (pools.disk old.pool).state units) facts settled)
-
-  pub for_new : {old new : SessionView P} → IsSameSession pools old new → {Holds : List UnitModel → Type 0} → ForUnits pools old Holds → ForUnits pools new Holds
-  for_new {old} {new} same {Holds} holds told units settled = holds told units (settled_as new old units (facts_kept (keeps_same pools same)) (same.state told) settled)
-
-  pub for_old : {old new : SessionView P} → IsSameSession pools old new → {Holds : List UnitModel → Type 0} → ForUnits pools new Holds → ForUnits pools old Holds
-  for_old {old} {new} same {Holds} holds told units settled =
-      holds told units (settled_as old new units (sym (facts_kept (keeps_same pools same))) (sym (same.state told)) settled)
 
   -- ---- ends
 
@@ -76,13 +55,13 @@ module _ {P : Type 0} (pools : Ghosts P) where
       where
         by_end : (answer : Result (SessionView P) (Cut P)) → IfOk answer (λ next. ForUnits pools new (λ units. Means units ends.added ends.said))
             → IfOk answer (λ next. ForUnits pools old (λ units. Means units ends.added ends.said))
-        by_end (Ok next) holds = for_old same holds
+        by_end (Ok next) holds = for_old pools same holds
         by_end (Err short) holds = tt
 
         by_cut : (answer : Result (SessionView P) (Cut P)) → IfErr answer (λ cut. ForUnits pools new (λ units. IsCut units ends.added (pending_cut cut)))
             → IfErr answer (λ cut. ForUnits pools old (λ units. IsCut units ends.added (pending_cut cut)))
         by_cut (Ok next) holds = tt
-        by_cut (Err short) holds = for_old same holds
+        by_cut (Err short) holds = for_old pools same holds
 
     -- Something was done that ended, and then something is said, or there is no memory for it.
     pub ends_told : {old session : SessionView P} {added steps_before steps_after : List Step} {messages_before messages_after : List Message} (said : List Message) (result : Result (SessionView P) (Cut P))

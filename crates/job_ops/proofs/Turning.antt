@@ -16,11 +16,11 @@ use Rattle.job_lines.specs.declared.message.Message.{Message}
 use Rattle.job_steps.specs.declared.cut.Cut.{Cut}
 use Rattle.job_steps.specs.Carried.{pending_cut}
 use Rattle.job_acts.specs.Acting.{KeepsFacts}
-use Rattle.job_ops.specs.Ends.{ForUnits, Ends}
-use Rattle.job_ops.specs.Setting.{facts_of}
+use Rattle.job_steps.specs.Units.{facts_of, ForUnits}
+use Rattle.job_ops.specs.Ends.{Ends}
 use Rattle.job_ops.specs.Turns.{Action, Turns, IsCutAction, AreCutTurns}
-use Rattle.job_acts.proofs.Sessions.{no_change, keeps_then}
-use Rattle.job_ops.proofs.SameSessions.{facts_kept, leaves_then}
+use Rattle.job_acts.proofs.Sessions.{no_change, keeps_then, facts_kept}
+use Rattle.job_ops.proofs.SameSessions.{leaves_then}
 
 module _ {P : Type 0} (pools : Ghosts P) (facts : Facts) (Turn : Dsn → Action) where
   -- the turns of these names end so

@@ -1,11 +1,11 @@
 -- What the parts of a statement that goes through data sets are asked for and answer: words that link them.
-use Rattle.std.specs.Prelude.{◌≡◌, ◌⊎◌, ◌↔◌, ℕ, ◌<◌, ◌≤◌, true, IsTrue, if◌then◌else◌, List, [], ◌∷◌, ◌++◌, length, All, Contains, Option, Some, None, slice_get}
+use Rattle.std.specs.Prelude.{◌≡◌, ◌⊎◌, ◌↔◌, ℕ, ◌<◌, ◌≤◌, true, IsTrue, if◌then◌else◌, List, [], ◌∷◌, ◌++◌, length, All, Contains, Option, Some, None}
 use Rattle.ckd_image.specs.Device.{heads_of}
 use Rattle.dsn_filter.specs.declared.dsn.Dsn.{Dsn}
 use Rattle.enq_table.specs.declared.hold.Hold.{Hold}
 use Rattle.vol_label.specs.declared.serial.Serial.{Serial}
 use Rattle.volume_model.specs.Pinned.{IsNameOf, kept_tracks}
-use Rattle.volume_model.specs.Unit.{DataSet, OnlineVolume, UnitModel, online}
+use Rattle.volume_model.specs.Unit.{DataSet, OnlineVolume, UnitModel}
 use Rattle.vtoc_core.specs.declared.volume.Row.{Row}
 use Rattle.vtoc_core.specs.declared.volume.Volume.{Volume}
 use Rattle.job_copies.specs.unit_change.Described.{DescribesSet}
@@ -24,6 +24,7 @@ use Rattle.job_ops.specs.Reasons.{IsHeld}
 use Rattle.job_ops.specs.Refusal.{IsUnitOf}
 use Rattle.job_ops.specs.Release.{size_of, keep_of}
 use Rattle.job_ops.specs.Task.{StaysFor}
+use Rattle.job_steps.specs.Units.{IsSet}
 use Rattle.job_acts.specs.Making.{MayBeChanged}
 
 -- a unit whose volume a statement may change, and which has a data set of each of these names
@@ -56,12 +57,6 @@ pub record IsUnitFor (count : ℕ) (names : List Serial) (room : ℕ) (units : L
   pub may : named.changes ≡ true → MayBeChanged room units unit
 
 -- ---- a data set that has its turn
-
--- the data set of a name, on the volume of a unit
-pub record IsSet (units : List UnitModel) (unit : ℕ) (name : Dsn) (volume : OnlineVolume) (set : DataSet) : Type 0 where
-  pub online_is : slice_get units unit ≡ Some (online volume)
-  pub there : Contains volume.sets set
-  pub name_is : IsNameOf name set.name
 
 -- it is there, alone under its name, and what is asked of it is so
 pub record IsSeen (task : Task) (unit : ℕ) (name : Dsn) (candidate : Candidate) (units : List UnitModel) : Type 0 where

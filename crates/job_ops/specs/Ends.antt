@@ -12,7 +12,6 @@ use Rattle.volume_model.specs.Unit.{UnitModel}
 use Rattle.move_core.specs.declared.steps.Step.{Step}
 use Rattle.move_core.specs.Facts.{Inputs, shown}
 use Rattle.move_core.specs.Runs.{IsRun}
-use Rattle.move_core.specs.Stands.{IsSettled}
 use Rattle.job_steps.specs.unit_session.Sessions.{SessionView}
 use Rattle.job_steps.specs.declared.cut.Cut.{Cut}
 use Rattle.job_steps.specs.declared.cut.Cut.TheVariants as cuts
@@ -24,13 +23,10 @@ use Rattle.job_ops.specs.declared.report.Report.{Report}
 use Rattle.job_ops.specs.declared.outcome.Outcome.{Outcome}
 use Rattle.job_ops.specs.declared.outcome.Outcome.TheVariants as outcomes
 use Rattle.job_ops.specs.Meaning.{verb_of, IsReport, MeansStatement, IsCutCommand}
-use Rattle.job_ops.specs.Setting.{facts_of, setting_for}
+use Rattle.job_steps.specs.Units.{ForUnits}
+use Rattle.job_ops.specs.Setting.{setting_for}
 use Rattle.job_ops.specs.Turns.{Action}
 use Rattle.job_acts.specs.Acting.{KeepsFacts}
-
--- for all units that the session's pool stands for, where it tells
-abbrev pub ForUnits : {P : Type 0} → Ghosts P → SessionView P → (List UnitModel → Type 0) → Type 0
-ForUnits pools session Holds = pools.tells → (units : List UnitModel) → IsSettled (facts_of pools session) (pools.disk session.pool).state units → Holds units
 
 -- a session that is left keeps its facts
 abbrev pub LeavesFacts : {P : Type 0} → Ghosts P → SessionView P → Result (SessionView P) (Cut P) → Type 0

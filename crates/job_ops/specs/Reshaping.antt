@@ -23,7 +23,7 @@ use Rattle.job_acts.specs.Acting.{KeepsFacts, CutKeepsFacts, pool_acted, pending
 use Rattle.job_ops.specs.declared.reshaping.Layout.{Layout}
 use Rattle.job_ops.specs.declared.reshaping.Layout.TheVariants as layouts
 use Rattle.job_ops.specs.declared.reshaping.Reshape.{Reshape}
-use Rattle.job_ops.specs.Ends.{ForUnits}
+use Rattle.job_steps.specs.Units.{ForUnits}
 use Rattle.job_ops.specs.Reasons.{LacksRoomFor}
 
 -- ---- what a data set becomes

@@ -5,6 +5,7 @@ use Rattle.dasd_pool.specs.declared.pool.Pool.{Ghosts}
 use Rattle.enq_table.specs.declared.hold.Hold.{Hold}
 use Rattle.move_core.specs.Facts.{Facts, Inputs, no_inputs}
 use Rattle.job_steps.specs.unit_session.Sessions.{SessionView}
+use Rattle.job_steps.specs.Units.{facts_for}
 
 -- what never changes of the pool, the day, and the table of holds
 pub record Setting : Type 0 where
@@ -12,17 +13,11 @@ pub record Setting : Type 0 where
   pub today : Day
   pub held : List Hold
 
--- what never changes of a session's pool, where the inputs hold this
-abbrev pub facts_for : {P : Type 0} → Ghosts P → SessionView P → Inputs → Facts
-facts_for pools session inputs = record { shape = pools.shape session.pool; names = session.names; room = session.room; inputs = inputs }
-
+-- for a session's pool, where the inputs hold this
 abbrev pub setting_for : {P : Type 0} → Ghosts P → SessionView P → Inputs → List Hold → Day → Setting
 setting_for pools session inputs held today = record { facts = facts_for pools session inputs; today = today; held = held }
 
 -- and where they hold nothing: what calls no input is judged so
-abbrev pub facts_of : {P : Type 0} → Ghosts P → SessionView P → Facts
-facts_of pools session = facts_for pools session no_inputs
-
 abbrev pub setting_of : {P : Type 0} → Ghosts P → SessionView P → List Hold → Day → Setting
 setting_of pools session held today = setting_for pools session no_inputs held today
 

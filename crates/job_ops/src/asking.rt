@@ -9,7 +9,7 @@ ghost use Rattle.volume_model.specs.Unit.{DataSet};
 ghost use Rattle.job_copies.specs.unit_change.Described.{DescribesSet};
 ghost use Rattle.job_steps.specs.unit_session.Sessions.{IsSameSession};
 ghost use Rattle.job_ops.specs.Asked.{MayProcess, IsCandidate, IsSeen, IsReasonBefore};
-ghost use Rattle.job_ops.specs.Ends.{ForUnits};
+ghost use Rattle.job_steps.specs.Units.{ForUnits};
 ghost use Rattle.job_ops.specs.Reasons.{IsHeld};
 ghost use Rattle.job_ops.specs.Task.{StaysFor};
 

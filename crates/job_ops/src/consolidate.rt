@@ -7,9 +7,10 @@ ghost use Rattle.vtoc_core.specs.declared.volume.Volume.{Volume as VolumeOf};
 ghost use Rattle.job_copies.specs.unit_steps.Plans.{IsLoadedAt, HasRow};
 ghost use Rattle.job_copies.specs.step_plans.Plans.{IsPlaceOn};
 ghost use Rattle.job_ops.specs.declared.task.Task.TheVariants as tasks;
-ghost use Rattle.job_ops.specs.Asked.{MayProcess, IsCandidate, IsSeen, IsSet, IsReasonBefore};
+ghost use Rattle.job_ops.specs.Asked.{MayProcess, IsCandidate, IsSeen, IsReasonBefore};
 ghost use Rattle.job_ops.specs.Consolidate.{ConsolidatesSet, IsPlaceOf, LacksPlace};
-ghost use Rattle.job_ops.specs.Ends.{Ends, ForUnits};
+ghost use Rattle.job_steps.specs.Units.{ForUnits, IsSet};
+ghost use Rattle.job_ops.specs.Ends.{Ends};
 ghost use Rattle.job_ops.specs.Reshaping.{StaysChangeable};
 ghost use Rattle.job_ops.specs.Turns.{IsCutAction};
 

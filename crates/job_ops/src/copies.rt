@@ -17,8 +17,9 @@ ghost use Rattle.job_ops.specs.Transfers.{is_carried, MayTransfer};
 ghost use Rattle.job_ops.specs.Copy.{CopiesSet, CopiesSets, IsCutCopy, IsNewName};
 ghost use Rattle.job_ops.specs.Copying as spec;
 ghost use Rattle.job_ops.specs.Copying.{request_in, MayBeCopied, StaysCopyable, GoesSoFar, IsJudged, MayStandAs};
-ghost use Rattle.job_ops.specs.Ends.{Ends, ForUnits};
-ghost use Rattle.job_ops.specs.Setting.{facts_of, setting_of};
+ghost use Rattle.job_steps.specs.Units.{facts_of, ForUnits};
+ghost use Rattle.job_ops.specs.Ends.{Ends};
+ghost use Rattle.job_ops.specs.Setting.{setting_of};
 ghost use Rattle.job_ops.specs.Turns.{Turns, AreCutTurns, IsCutAction};
 
 use crate::log::{Log, say};

@@ -9,8 +9,8 @@ ghost use Rattle.job_copies.specs.unit_change.Described.{DescribesSet, Describes
 ghost use Rattle.job_copies.specs.step_plans.Plans.{IsSound, extents_from};
 ghost use Rattle.job_ops.specs.Listing.{extent_messages as messages_of_extents, set_messages, IsListing, Prints};
 ghost use Rattle.job_lines.specs.declared.message.Message.{Message as MessageOf};
-ghost use Rattle.job_ops.specs.Setting.{Setting, facts_of};
-ghost use Rattle.job_ops.specs.Ends.{ForUnits};
+ghost use Rattle.job_steps.specs.Units.{facts_of, ForUnits};
+ghost use Rattle.job_ops.specs.Setting.{Setting};
 
 use crate::units::{UnitUse, unit_for};
 use ckd_image::{Device, NoMemory};

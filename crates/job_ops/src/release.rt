@@ -3,7 +3,8 @@
 ghost use Rattle.std.specs.Prelude.{◌∷◌, [], IsTrue, IfOk, None};
 ghost use Rattle.job_ops.specs.declared.task.Task.TheVariants as tasks;
 ghost use Rattle.job_ops.specs.Asked.{MayProcess, IsCandidate, IsSeen, IsReasonBefore};
-ghost use Rattle.job_ops.specs.Ends.{Ends, ForUnits};
+ghost use Rattle.job_steps.specs.Units.{ForUnits};
+ghost use Rattle.job_ops.specs.Ends.{Ends};
 ghost use Rattle.job_ops.specs.Release.{ReleasesSet};
 ghost use Rattle.job_ops.specs.Reshaping.{StaysChangeable};
 ghost use Rattle.job_ops.specs.Turns.{IsCutAction};

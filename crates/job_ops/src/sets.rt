@@ -8,11 +8,12 @@ ghost use Rattle.vtoc_core.specs.declared.volume.Volume.{Volume as VolumeOf};
 ghost use Rattle.job_copies.specs.unit_steps.Plans.{IsLoadedAt, HasRow};
 ghost use Rattle.job_copies.specs.job_select.Selection.{Selects};
 ghost use Rattle.job_ops.specs.Asked.{MayProcess};
-ghost use Rattle.job_ops.specs.Ends.{Ends, ForUnits};
+ghost use Rattle.job_steps.specs.Units.{facts_of, ForUnits};
+ghost use Rattle.job_ops.specs.Ends.{Ends};
 ghost use Rattle.job_ops.specs.Meaning.{TurnOf};
 ghost use Rattle.job_ops.specs.Reshaping.{StaysChangeable};
 ghost use Rattle.job_ops.specs.Sets.{OverSets, IsCutOverSets};
-ghost use Rattle.job_ops.specs.Setting.{facts_of, setting_of};
+ghost use Rattle.job_ops.specs.Setting.{setting_of};
 ghost use Rattle.job_ops.specs.Turns.{Turns, AreCutTurns, IsCutAction};
 
 use crate::asking::{Scene, look_up, reason_before};

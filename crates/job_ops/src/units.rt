@@ -9,7 +9,7 @@ ghost use Rattle.job_copies.specs.unit_steps.Plans.{IsLoadedAt};
 ghost use Rattle.job_lines.specs.declared.message.Message.TheVariants as messages;
 ghost use Rattle.job_ops.specs.Refusal.{IsUnitOf, standing_in, IsUnknown, Refuses, Lets};
 ghost use Rattle.job_ops.specs.Asked.{IsUnitFor};
-ghost use Rattle.job_ops.specs.Ends.{ForUnits};
+ghost use Rattle.job_steps.specs.Units.{ForUnits};
 
 use dasd_pool::Pool;
 use job_lines::Message;

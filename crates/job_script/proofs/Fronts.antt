@@ -28,8 +28,8 @@ use Rattle.sysin_lang.specs.Flow.{Codes, Plan, Command, End, zero_codes, next_of
 use Rattle.job_ops.specs.unit_session.Sessions.{SessionView}
 use Rattle.job_ops.specs.declared.report.Report.{Report}
 use Rattle.job_acts.specs.Acting.{KeepsFacts}
-use Rattle.job_ops.specs.Ends.{ForUnits}
-use Rattle.job_ops.specs.Setting.{Setting, facts_of, facts_for, setting_for}
+use Rattle.job_steps.specs.Units.{facts_for, facts_of, ForUnits}
+use Rattle.job_ops.specs.Setting.{Setting, setting_for}
 use Rattle.job_script.specs.declared.left.Left.{Left}
 use Rattle.job_script.specs.declared.run.Between.{Between}
 use Rattle.job_script.specs.Built.{AreBuilt}

@@ -1,8 +1,11 @@
--- How many tracks and extents a data set of a loaded volume has.
-use Rattle.std.proofs.Common.{◌≡◌, inl, inr, ℕ, zero, suc, ◌+◌, ◌<◌, ◌≤◌, ◌&&◌, List, [], ◌∷◌, length, map, All, Contains, false, true, sym, subst, ◌∙◌, arith}
+-- How many tracks and extents a data set of a loaded volume has, and several have together.
+use Rattle.std.proofs.Common.{◌≡◌, ◌≢◌, inl, inr, ℕ, zero, suc, ◌+◌, ◌<◌, ◌≤◌, ◌&&◌, List, [], ◌∷◌, ◌++◌, length, map, sum_by, All, Contains, false, true, refl, sym, ap, subst, ◌∙◌, arith}
+use Rattle.std.specs.List.{flat_map}
 use Rattle.std.proofs.lemmas.Bool.{both_ways, cases_eq, lt-ltb}
 use Rattle.std.proofs.lemmas.List.{length-append, length-map}
 use Rattle.std.proofs.lemmas.List.Elements.{All-contains, All-head, All-tail}
+use Rattle.std.proofs.lemmas.List.Sums.{sum_by-cons}
+use Rattle.std.proofs.lemmas.Grind.{flat_map-append}
 use Rattle.ckd_image.specs.Device.{heads_of}
 use Rattle.dscb_rec.specs.declared.field.Extent.{Extent as Field}
 use Rattle.free_map.specs.declared.run.Run.{Run}
@@ -14,13 +17,14 @@ use Rattle.vtoc_core.specs.declared.volume.Row.{Row}
 use Rattle.vtoc_core.specs.declared.volume.Volume.{Volume}
 use Rattle.vtoc_core.specs.Loaded.{field_of}
 use Rattle.vtoc_layout.specs.Layout.{AreDistinct, AreApart}
-use Rattle.vtoc_layout.proofs.Apart.{all_from}
+use Rattle.vtoc_layout.proofs.Apart.{NoneShared, all_from, apart_flat, map_flat}
+use Rattle.volume_change.specs.Runs.{runs_in}
 use Rattle.vtoc_layout.proofs.Distinct.{at_first, in_front, in_back, from_map, from_flat, distinct_append, no_more, in_below, below_distinct, shifted_distinct}
 use Rattle.step_plans.proofs.vtoc_render.Known.{usable_small}
 use Rattle.step_plans.proofs.unit_change.Describing.{runs_in_row}
 use Rattle.step_plans.proofs.unit_steps.Blocks.{from_slots}
 use Rattle.step_plans.specs.Plans.{IsSound, extents_from}
-use Rattle.step_plans.proofs.LoadedRows.{IsLoadedRow, sound_row}
+use Rattle.step_plans.proofs.LoadedRows.{IsLoadedRow, sound_apart, sound_row}
 use Rattle.job_select.proofs.Wholes.{on}
 use Rattle.ckd_image.proofs.Lists.{contains_map}
 use Rattle.volume_model.proofs.Numbers.{numbers_long}
@@ -109,3 +113,51 @@ module _ (volume : Volume) (sound : IsSound volume) (row : Row) (there : Contain
         extents_few (extents_from volume.device row.extents) (each (λ e. 1 ≤ e.run.len) (λ extent c. (facts extent c).1)),
         length-map row.extents (on volume.device),
       )
+
+-- ---- several data sets
+
+tracks_append : (xs ys : List Extent) → tracks_of (xs ++ ys) ≡ tracks_of xs ++ tracks_of ys
+tracks_append xs ys = flat_map-append (λ (extent : Extent). tracks_in extent.run) xs ys
+
+module _ (volume : Volume) (sound : IsSound volume) where
+  abbrev extents : Row → List Extent
+  extents row = extents_from volume.device row.extents
+
+  abbrev count : Row → ℕ
+  count row = length (tracks_of (extents row))
+
+  abbrev runs_of : Row → List Run
+  runs_of row = map run_in (extents row)
+
+  counted : (rows : List Row) → length (tracks_of (flat_map extents rows)) ≡ sum_by count rows
+  counted [] = refl
+  counted (row ∷ rows) =
+      ap length (tracks_append (extents row) (flat_map extents rows)) ∙ length-append (tracks_of (extents row)) (tracks_of (flat_map extents rows))
+      ∙ ap (λ (n : ℕ). count row + n) (counted rows) ∙ sym (sum_by-cons count row rows)
+
+  runs_apart : (rows : List Row) → AreDistinct rows → ((row : Row) → Contains rows row → Contains volume.rows row)
+      → ((row other : Row) → Contains rows row → Contains rows other → row ≢ other → row.name ≢ other.name) → AreApart (map run_in (flat_map extents rows))
+  runs_apart rows once there names =
+      subst AreApart (sym (map_flat run_in extents rows))
+      (apart_flat runs_of rows once
+      (λ row c. subst AreApart (sym (runs_in_row (heads_of volume.device) row.extents)) (sound_row volume sound row (there row c)).apart)
+      (λ row other c d differ.
+      subst (λ (runs : List Run). NoneShared runs (runs_of other)) (sym (runs_in_row (heads_of volume.device) row.extents))
+      (subst (NoneShared (runs_in (heads_of volume.device) row.extents)) (sym (runs_in_row (heads_of volume.device) other.extents))
+      (sound_apart volume sound row other (there row c) (there other d) (names row other c d differ)))))
+
+  ends_below : (rows : List Row) → ((row : Row) → Contains rows row → Contains volume.rows row) → All (λ extent. end_of extent.run ≤ 65535) (flat_map extents rows)
+  ends_below rows there =
+      all_from (λ (extent : Extent). end_of extent.run ≤ 65535) (flat_map extents rows)
+      (λ extent c. let found = from_flat extents rows extent c in
+      let known = sound_row volume sound found.0 (there found.0 found.1) in
+      let field = from_map (on volume.device) found.0.extents extent found.2 in
+      let is = run_facts (heads_of volume.device) volume.usable (field_of field.0)
+      (All-contains (λ (e : Field). is_run (heads_of volume.device) volume.usable (field_of e) ≡ true) found.0.extents field.0 known.ranges field.1) in
+      omega (arith, is.0, usable_small (from_slots sound.3), ap (λ (e : Extent). end_of e.run) field.2))
+
+  -- data sets of different names have no more tracks together than a volume has
+  pub rows_tracks_few : (rows : List Row) → AreDistinct rows → ((row : Row) → Contains rows row → Contains volume.rows row)
+      → ((row other : Row) → Contains rows row → Contains rows other → row ≢ other → row.name ≢ other.name)
+      → sum_by (λ row. length (tracks_of (extents_from volume.device row.extents))) rows ≤ 65535
+  rows_tracks_few rows once there names = omega (arith, counted rows, tracks_few 65535 (flat_map extents rows) (runs_apart rows once there names) (ends_below rows there))

@@ -3,5 +3,5 @@ mod HasNames
 pub mod Wholes
 mod KeptFields
 pub mod Counts
-mod RowNames
+pub mod RowNames
 mod Picks

@@ -1,7 +1,8 @@
 -- The names of the data sets that a filter takes, row by row.
 use Rattle.std.proofs.Common.{◌≡◌, ◌≢◌, ◌↔◌, inl, inr, ℕ, zero, suc, ◌+◌, ◌<◌, List, [], ◌∷◌, ◌++◌, length, drop, get_or, All, AllPairs, Bool, Option, Some, None, refl, sym, ap, subst, ◌∙◌, arith, append_assoc}
 use Rattle.std.specs.Prelude.{IsTrue, IfNone}
-use Rattle.std.proofs.lemmas.List.{append-nil, length-map}
+use Rattle.std.proofs.Math.Seq.{drop-length}
+use Rattle.std.proofs.lemmas.List.{append-nil, drop_more, length-map}
 use Rattle.std.proofs.lemmas.List.Elements.{All-push, All-weaker}
 use Rattle.std.proofs.lemmas.List.Quantifiers.{all_pairs_push}
 use Rattle.by_rules.specs.declared.day.Day.{Day}
@@ -21,7 +22,7 @@ use Rattle.step_plans.specs.unit_steps.Plans.{HasRow}
 use Rattle.step_plans.specs.Plans.{IsSound, extents_from}
 use Rattle.set_facts.specs.Facts.{facts_from, facts_of}
 use Rattle.set_facts.specs.Selection.{Passes, criteria_in}
-use Rattle.job_select.specs.Selection.{Takes, Selects}
+use Rattle.job_select.specs.Selection.{ArePicked, Takes, Selects}
 use Rattle.job_select.proofs.OneName.{one_named}
 use Rattle.job_select.proofs.RowNames.{differ_at}
 use Rattle.job_select.proofs.Wholes.{on}
@@ -108,6 +109,7 @@ IsEarlier volume k name = (place : ℕ) × (row : Row) × (place < k) × (get_or
 pub record AreSoFar (volume : Volume) (filter : Filter) (today : Day) (k : ℕ) (names : List Dsn) : Type 0 where
   pub leads : (sets : List DataSet) → DescribesSets (heads_of volume.device) volume.rows sets
       → (more : List Dsn) → Selects filter today (drop k sets) more → Selects filter today sets (names ++ more)
+  pub picked : (more : List Dsn) → ArePicked volume (drop k volume.rows) more → ArePicked volume volume.rows (names ++ more)
   pub there : All (λ name. (row : Row) × HasRow volume name row) names
   pub earlier : All (IsEarlier volume k) names
   pub apart : AllPairs (λ name other. name ≢ other) names
@@ -115,6 +117,7 @@ pub record AreSoFar (volume : Volume) (filter : Filter) (today : Day) (k : ℕ) 
 pub none_yet : (volume : Volume) (filter : Filter) (today : Day) → AreSoFar volume filter today 0 []
 none_yet volume filter today = record {
   leads = λ sets are more selects. selects;
+  picked = λ more are. are;
   there = λ k d less. absurd (omega (arith, less));
   earlier = λ k d less. absurd (omega (arith, less));
   apart = λ i j d less within. absurd (omega (arith, within));
@@ -124,6 +127,9 @@ module _ (volume : Volume) (filter : Filter) (today : Day) (k : ℕ) (names : Li
     (less : k < length volume.rows) where
   next : (sets : List DataSet) → DescribesSets (heads_of volume.device) volume.rows sets → IsAt (heads_of volume.device) row sets k
   next sets are = subst (λ (r : Row). IsAt (heads_of volume.device) r sets k) at (described_at (heads_of volume.device) volume.rows sets k row are less)
+
+  rows_parted : drop k volume.rows ≡ row ∷ drop (k + 1) volume.rows
+  rows_parted = drop_more volume.rows k row less ∙ ap (λ (r : Row). r ∷ drop (k + 1) volume.rows) at
 
   still_earlier : All (IsEarlier volume (k + 1)) names
   still_earlier =
@@ -144,6 +150,9 @@ module _ (volume : Volume) (filter : Filter) (today : Day) (k : ℕ) (names : Li
         subst (Selects filter today sets) (sym (append_assoc names (name ∷ []) more))
         (so_far.leads sets are (name ∷ more)
         (subst (λ (l : List DataSet). Selects filter today l (name ∷ more)) (sym set.parted) (inl (takes set.set set.is, (name, more, has.lawful, named, refl, selects)))));
+    picked =
+        λ more are. subst (ArePicked volume volume.rows) (sym (append_assoc names (name ∷ []) more))
+        (so_far.picked (name ∷ more) (subst (λ (l : List Row). ArePicked volume l (name ∷ more)) (sym rows_parted) (inl (name, more, refl, has, are))));
     there = All-push (λ (n : Dsn). (r : Row) × HasRow volume n r) names name so_far.there (row, has);
     earlier = All-push (IsEarlier volume (k + 1)) names name still_earlier (k, row, omega arith, at, has.name_is);
     apart =
@@ -156,10 +165,18 @@ module _ (volume : Volume) (filter : Filter) (today : Day) (k : ℕ) (names : Li
     leads =
         λ sets are more selects. let set = next sets are in
         so_far.leads sets are more (subst (λ (l : List DataSet). Selects filter today l more) (sym set.parted) (inr (not set.set set.is, selects)));
+    picked = λ more are. so_far.picked more (subst (λ (l : List Row). ArePicked volume l more) (sym rows_parted) (inr are));
     there = so_far.there;
     earlier = still_earlier;
     apart = so_far.apart;
   })
+
+-- they are those of some rows
+pub all_picked : (volume : Volume) (filter : Filter) (today : Day) (k : ℕ) (names : List Dsn) → AreSoFar volume filter today k names → k ≡ length volume.rows
+    → ArePicked volume volume.rows names
+all_picked volume filter today k names so_far is =
+    let end : drop k volume.rows ≡ [] = ap (λ (n : ℕ). drop n volume.rows) is ∙ drop-length volume.rows in
+    subst (ArePicked volume volume.rows) (append-nil names) (so_far.picked [] (subst (λ (l : List Row). ArePicked volume l []) (sym end) refl))
 
 pub all_taken : (volume : Volume) (filter : Filter) (today : Day) (k : ℕ) (names : List Dsn) → AreSoFar volume filter today k names → k ≡ length volume.rows
     → (sets : List DataSet) → DescribesSets (heads_of volume.device) volume.rows sets → Selects filter today sets names

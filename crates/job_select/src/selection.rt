@@ -8,7 +8,7 @@ ghost use Rattle.vtoc_core.specs.declared.volume.Row.{Row as RowOf};
 ghost use Rattle.step_plans.specs.unit_change.Described.{Describes, DescribesSet};
 ghost use Rattle.step_plans.specs.unit_steps.Plans.{HasRow};
 ghost use Rattle.step_plans.specs.Plans.{IsSound};
-ghost use Rattle.job_select.specs.Selection.{Takes, Selects};
+ghost use Rattle.job_select.specs.Selection.{ArePicked, Takes, Selects};
 
 use crate::names::name_of;
 use crate::tracks::track_count;
@@ -62,6 +62,7 @@ pub fn select(
     ensures selected { IfOk result (λ names. (described : OnlineVolume) → Describes volume.now described → Selects filter.now today described.sets names.items) }
     ensures there { IfOk result (λ names. All (λ name. (row : RowOf) × HasRow volume.now name row) names.items) }
     ensures apart { IfOk result (λ names. AllPairs (λ name other. name ≢ other) names.items) }
+    ensures rows { IfOk result (λ names. ArePicked volume.now volume.now.rows names.items) }
 {
     let rows = volume.rows.as_slice();
     let mut names = Vec::new(alloc);

@@ -1,5 +1,5 @@
 -- The rows of a volume as it was loaded.
-use Rattle.std.proofs.Common.{◌≡◌, ℕ, ◌≤◌, ◌==◌, not, List, ◌∷◌, map, get_or, All, Contains, Bool, true, sym, ap, subst, ◌∙◌, arith}
+use Rattle.std.proofs.Common.{◌≡◌, ◌≢◌, ℕ, ◌≤◌, ◌==◌, not, List, ◌∷◌, map, get_or, All, Contains, Bool, true, sym, ap, subst, ◌∙◌, arith}
 use Rattle.std.specs.List.{flat_map}
 use Rattle.std.proofs.lemmas.Bool.{both_ways, eq-eqb}
 use Rattle.std.proofs.lemmas.List.Elements.{All-contains}
@@ -21,8 +21,8 @@ use Rattle.volume_model.specs.Space.{end_of, is_run, run_of}
 use Rattle.vtoc_core.specs.declared.volume.Row.{Row}
 use Rattle.vtoc_core.specs.declared.volume.Volume.{Volume}
 use Rattle.vtoc_core.specs.Loaded.{field_of, HasItsName}
-use Rattle.vtoc_layout.specs.Layout.{SetRecords, AreApart, AreSetRecords, layout_of, sets_of, extents_in_set, extents_by, runs_by, records_in_set}
-use Rattle.vtoc_layout.proofs.Apart.{all_from, apart_each, map_flat}
+use Rattle.vtoc_layout.specs.Layout.{SetRecords, AreApart, AreSetRecords, layout_of, name_of, sets_of, extents_in_set, extents_by, runs_by, records_in_set}
+use Rattle.vtoc_layout.proofs.Apart.{NoneShared, all_from, apart_each, apart_two, map_flat}
 use Rattle.vtoc_layout.proofs.Distinct.{from_filter, from_flat, in_flat, in_later}
 use Rattle.volume_change.specs.Runs.{runs_in}
 use Rattle.volume_change.specs.Spot.{AreNamed}
@@ -97,6 +97,21 @@ module _ {head : Head} {label : Label} {unit : Slots} {before : Bool} {slots : L
     apart = runs_apart;
   }
 
+module _ {head : Head} {label : Label} {unit : Slots} {before : Bool} {slots : List ℕ} {volume : Volume} {vtoc : Vtoc} {four : Placed}
+    (was : WasLoaded head label unit before slots volume vtoc four) where
+  -- the runs of two rows have no track in common
+  none_shared : (row other : Row) → Contains volume.rows row → Contains volume.rows other → row.name ≢ other.name
+      → NoneShared (runs_in (heads_of volume.device) row.extents) (runs_in (heads_of volume.device) other.extents)
+  none_shared row other here there differ =
+      let one = set_of_row was row here in
+      let two = set_of_row was other there in
+      let of_set : SetRecords → List Run = λ set. map (run_of vtoc.heads) (extents_in_set set) in
+      let all : AreApart (flat_map of_set (sets_of vtoc)) = subst AreApart (map_flat (run_of vtoc.heads) extents_in_set (sets_of vtoc)) (apart was).apart in
+      let none : NoneShared (of_set one.set) (of_set two.set) =
+      apart_two of_set (sets_of vtoc) one.set two.set all one.there two.there (λ same. differ (sym one.named ∙ ap name_of same ∙ two.named)) in
+      subst (λ (runs : List Run). NoneShared runs (runs_in (heads_of volume.device) other.extents)) (sym (λ i. map (run_of (heads_same was i)) (fields_same was row here i)))
+      (subst (NoneShared (of_set one.set)) (sym (λ i. map (run_of (heads_same was i)) (fields_same was other there i))) none)
+
 -- ---- a volume that was loaded from slots
 
 pub sound_named : (volume : Volume) → IsSound volume → AreNamed volume.rows
@@ -112,3 +127,8 @@ sound_runs volume sound row there =
     let ranges = (sound_row volume sound row there).ranges in
     (λ k d less. let field = field_of (get_or row.extents k d) in
     run_below heads volume.usable 65536 field (ranges k d less) (omega (arith, (run_facts heads volume.usable field (ranges k d less)).0, usable_small (from_slots sound.3))))
+
+-- the runs of rows of different names have no track in common
+pub sound_apart : (volume : Volume) → IsSound volume → (row other : Row) → Contains volume.rows row → Contains volume.rows other → row.name ≢ other.name
+    → NoneShared (runs_in (heads_of volume.device) row.extents) (runs_in (heads_of volume.device) other.extents)
+sound_apart volume sound row other here there differ = none_shared (from_slots sound.3) row other here there differ

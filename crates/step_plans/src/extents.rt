@@ -94,7 +94,7 @@ pub(crate) fn extents_of_runs(
 }
 
 /// The type of a data set's new extents: of cylinders where its own all are, and else of tracks.
-pub(crate) fn kind_for(extents: &[Extent]) -> u8
+pub fn kind_for(extents: &[Extent]) -> u8
     ensures { (device : DeviceOf) → IsNewKind (extents_from device extents.now) result }
 {
     if is_by_cylinders(extents) {

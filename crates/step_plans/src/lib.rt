@@ -8,6 +8,7 @@ mod plans;
 mod rows;
 
 pub use copies::{SetAt, SetCopy, carry_set, copy_set};
+pub use extents::kind_for;
 pub use parts::{PartSet, part_set};
 pub use plans::{MOST_EXTENTS, delete_set, join_set, repair_space, reset_flag, shrink_set};
 pub use rows::row_of;

@@ -31,7 +31,7 @@ use Rattle.unit_steps.specs.unit_change.Described.{own_place}
 use Rattle.unit_load.specs.declared.state.UnitState.{UnitState}
 use Rattle.unit_load.specs.declared.state.UnitState.TheVariants.{Online}
 use Rattle.unit_steps.specs.Loaded.{HaveStates, AreLoaded, KeepVtocs}
-use Rattle.unit_steps.specs.Plans.{HasRow, tracks_in}
+use Rattle.unit_steps.specs.Plans.{HasRow, IsLoadedAt, tracks_in}
 use Rattle.unit_steps.proofs.Rows.{set_of, gone_set}
 use Rattle.unit_steps.proofs.Units.{IsOnlineUnit, online_unit}
 use Rattle.unit_session.specs.Sessions.{HasOnlyFills}
@@ -103,6 +103,21 @@ module _ {head : List ℕ} {blocks : ℕ} {slots : Slots} {volume : Volume} {mod
       let one : set ≡ found.0 = same_first set found.0 (gone_set is found.0 set (take there.0 sets) (drop (suc there.0) sets) (set ∷ []) found.1.there refl split same) in
       subst (λ (s : DataSet). AreTexts (heads_of volume.device) own_place slots (tracks_in volume row) s.texts) (sym one) found.1.texts_are
 
+-- the texts of a data set are those of its tracks
+pub texts_of : {facts : Facts} {shape : Shape} {state : State} {room : ℕ} {control : Control} {fills : List Bool} {models : List UnitModel}
+    → facts.shape ≡ shape → IsSettled facts state models → (units : List UnitState) (unit : ℕ) (loaded : Volume) (name : Dsn) (row : Row)
+    → IsAtRest shape state room control fills → HasOnlyFills control fills units → HaveStates shape units → AreLoaded shape state.contents units → IsLoadedAt units unit loaded
+    → HasRow loaded name row → (volume : OnlineVolume) (set : DataSet) → slice_get models unit ≡ Some (online volume) → Contains volume.sets set → IsNameOf name set.name
+    → AreTexts (heads_of loaded.device) own_place (state.contents unit) (tracks_in loaded row) set.texts
+texts_of {shape = shape} {state = state} same settled units unit loaded name row rest free have are at has volume set there held named =
+    let own = are unit (Online loaded) at in
+    let less : unit < journal_of shape = omega (arith, slice_get_within units unit (Online loaded) at, have) in
+    let stands = subst (λ (filling : Bool). IsUnit filling false own_place (shape.head unit) (shape.blocks unit) (state.contents unit) (online volume)) (free.fit unit (Online loaded) at)
+    (unit_at same settled unit (online volume) rest free.idle less there) in
+    let is = online_unit (shape.head unit) (shape.blocks unit) (state.contents unit) loaded (online volume) own.0 own.1 stands in
+    let sets : Contains is.before.sets set = subst (λ (v : OnlineVolume). Contains v.sets set) (same_online volume is.before is.model_is) held in
+    set_texts is name row set has sets named
+
 -- what the tracks of a data set say is said of its texts
 pub texts_told : {facts : Facts} {shape : Shape} {state : State} {room : ℕ} {control : Control} {fills : List Bool} {models : List UnitModel}
     → facts.shape ≡ shape → IsSettled facts state models → (units : List UnitState) (unit : ℕ) (name : Dsn) (device : Device) (tracks : List ℕ)
@@ -110,17 +125,12 @@ pub texts_told : {facts : Facts} {shape : Shape} {state : State} {room : ℕ} {c
     → (volume : OnlineVolume) (set : DataSet) → slice_get models unit ≡ Some (online volume) → Contains volume.sets set → IsNameOf name set.name
     → (told : Bool) → (IsTrue told ↔ All (HasTextOn (heads_of device) (state.contents unit)) tracks) → (IsTrue told ↔ All IsGood set.texts)
 texts_told {shape = shape} {state = state} same settled units unit name device tracks rest free have loaded at volume set there held named told says =
-    let own = loaded unit (Online at.volume) at.loaded in
-    let less : unit < journal_of shape = omega (arith, slice_get_within units unit (Online at.volume) at.loaded, have) in
-    let stands = subst (λ (filling : Bool). IsUnit filling false own_place (shape.head unit) (shape.blocks unit) (state.contents unit) (online volume)) (free.fit unit (Online at.volume) at.loaded)
-    (unit_at same settled unit (online volume) rest free.idle less there) in
-    let is = online_unit (shape.head unit) (shape.blocks unit) (state.contents unit) at.volume (online volume) own.0 own.1 stands in
     let heads : heads_of device ≡ heads_of at.volume.device = ap heads_of at.device_is in
     let slots = state.contents unit in
-    let sets : Contains is.before.sets set = subst (λ (v : OnlineVolume). Contains v.sets set) (same_online volume is.before is.model_is) held in
     let are : AreTexts (heads_of device) own_place slots tracks set.texts =
     subst (λ (h : ℕ). AreTexts h own_place slots tracks set.texts) (sym heads)
-    (subst (λ (l : List ℕ). AreTexts (heads_of at.volume.device) own_place slots l set.texts) (sym at.tracks_are) (set_texts is name at.row set at.row_is sets named)) in (
+    (subst (λ (l : List ℕ). AreTexts (heads_of at.volume.device) own_place slots l set.texts) (sym at.tracks_are)
+    (texts_of same settled units unit at.volume name at.row rest free have loaded at.loaded at.row_is volume set there held named)) in (
       λ yes. all_good (heads_of device) slots tracks set.texts are (says.0 yes),
       λ each. says.1 (all_texts (heads_of device) slots tracks set.texts are each),
     )

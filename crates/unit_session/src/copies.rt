@@ -74,7 +74,7 @@ fn add_extent(device: Device, extent: &Extent, tracks: &mut Vec<u32>) -> Result<
 }
 
 /// The tracks of a row's extents, in order.
-pub(crate) fn tracks_of(alloc: Global, device: Device, row: &Row) -> Result<Vec<u32>, NoMemory>
+pub fn tracks_of(alloc: Global, device: Device, row: &Row) -> Result<Vec<u32>, NoMemory>
     ensures { IfOk result (λ tracks. tracks.items ≡ models.tracks_of (extents_of (heads_of device) row.now)) }
 {
     let mut tracks = Vec::new(alloc);

@@ -12,7 +12,7 @@ mod rendering;
 mod session;
 mod texts;
 
-pub use copies::{Copies, GivenTracks, TextMove};
+pub use copies::{Copies, GivenTracks, TextMove, tracks_of};
 pub use fault::{Broken, PlanFault, PlanStop};
 pub use planned::{Copied, Planned};
 pub use session::{Session, SessionParts};

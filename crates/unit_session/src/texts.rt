@@ -16,7 +16,7 @@ ghost use Rattle.unit_load.specs.Reads.{OnlyReads};
 ghost use Rattle.unit_steps.specs.Plans.{IsLoadedAt};
 ghost use Rattle.unit_session.specs.Copies.{HasSource, contents_of};
 ghost use Rattle.unit_session.specs.Sessions.{IsSameSession};
-ghost use Rattle.unit_session.specs.Texts.{HasTextOn, AreTracksAt};
+ghost use Rattle.unit_session.specs.Texts.{HasTextOn, AreTextsOf, AreTracksAt};
 
 use crate::copies::{Source, tracks_of, volume_at};
 use crate::session::Session;
@@ -139,5 +139,13 @@ impl<P: Pool> Session<P> {
             Ok(false) => Ok(false),
             Err(_) => Err(UnitFault::Pool),
         }
+    }
+
+    /// What stands on the tracks of data sets.
+    pub fn texts(&self)
+        ensures { P.tells → (facts : Facts) (models : List UnitModel) → facts.shape ≡ P.shape self.now.pool → IsSettled facts (P.disk self.now.pool).state models
+            → AreTextsOf self.now.units models (P.disk self.now.pool).state.contents }
+    {
+        self.journal.rests();
     }
 }

@@ -2,7 +2,7 @@ use Rattle.std.proofs.Common.{◌≡◌, ◌<◌, ◌∙◌, ℕ, Some, refl, sy
 use Rattle.std.specs.Prelude.{slice_get}
 use Rattle.std.specs.Cmp.Lexicographic.{same_text, other_text}
 use Rattle.std.proofs.lemmas.Option.{same_Some, slice_get-get_or}
-use Rattle.job_ops.specs.Setting.{facts_of}
+use Rattle.job_steps.specs.Units.{facts_of}
 use Rattle.job_ops.proofs.units.unit_of.Goals as goal
 
 pub loop-unit-init : goal.loop-unit-init

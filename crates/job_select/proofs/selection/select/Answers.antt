@@ -1,6 +1,6 @@
 use Rattle.std.proofs.Common.{◌≡◌, ◌<◌, List, length, get_or, sym, ap, ◌∙◌, arith}
 use Rattle.vtoc_core.specs.declared.volume.Row.{Row}
-use Rattle.job_select.proofs.Picks.{taken_more, passed_over, all_taken}
+use Rattle.job_select.proofs.Picks.{taken_more, passed_over, all_picked, all_taken}
 use Rattle.job_select.proofs.selection.select.Goals.{in-Some+in_ok-push, in_default}
 use Rattle.job_select.proofs.selection.select.Goals as goal
 
@@ -23,3 +23,8 @@ pub returns-clause-selected : goal.returns-clause-selected
 returns-clause-selected c described is =
     all_taken c.args.volume.now c.args.filter.now c.args.today c.loop-row.row-index c.loop-row.names.items c.loop-row.invariant
     (omega (arith, c.loop-row-test.false, c.loop-row.auto.row-index-end, ap length c.as_slice-rows.ensures)) described.sets is.sets_are
+
+pub returns-clause-rows : goal.returns-clause-rows
+returns-clause-rows c =
+    all_picked c.args.volume.now c.args.filter.now c.args.today c.loop-row.row-index c.loop-row.names.items c.loop-row.invariant
+    (omega (arith, c.loop-row-test.false, c.loop-row.auto.row-index-end, ap length c.as_slice-rows.ensures))
