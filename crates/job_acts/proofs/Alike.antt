@@ -21,14 +21,14 @@ use Rattle.move_core.specs.declared.steps.Step.{Step}
 use Rattle.move_core.specs.declared.steps.Step.TheVariants as steps
 use Rattle.move_core.specs.Steps.{IsNewKind, KeepsExtents, JoinsExtents, cut, extents_on}
 use Rattle.step_room.specs.unit_steps.declared.plan.Plan.{Plan}
-use Rattle.step_room.specs.unit_steps.Plans.{IsLoadedAt, HasRow, SwapsRow, PlansShrink, PlansMove, PlansCopy, PlansPut, PlansCarry, IsPlan, extents_in, putting}
+use Rattle.step_room.specs.unit_steps.Plans.{IsLoadedAt, HasRow, SwapsRow, PlansReset, PlansShrink, PlansMove, PlansCopy, PlansPut, PlansCarry, IsPlan, extents_in, putting}
 use Rattle.step_room.proofs.unit_steps.OneChange.{same_volume}
 use Rattle.step_room.specs.Room.{AreAlike, IsAsBefore}
 use Rattle.step_room.proofs.SoundRows.{one_row}
 use Rattle.job_acts.specs.Making.{MayJoin, MayPlan}
 use Rattle.job_acts.specs.Acting.{AreSound}
 use Rattle.job_acts.proofs.Kept.{IsBehind, kept}
-use Rattle.job_acts.proofs.PlansMade.{repair_planned, delete_planned, cut_planned, join_planned, put_planned, carry_planned}
+use Rattle.job_acts.proofs.PlansMade.{repair_planned, delete_planned, reset_planned, cut_planned, join_planned, put_planned, carry_planned}
 
 -- ---- changes that are alike
 
@@ -133,6 +133,10 @@ module _ {first units : List UnitState} (sound : AreSound first) (behind : IsBeh
       swaps_alike was.swap now.swap now.row_is.name_is was.row_is.name_is
       (now.row_is.extents_are ∙ ap (cut keep) (swap_extents was.swap now.swap) ∙ sym was.row_is.extents_are)
 
+  reset_alike : {unit : ℕ} {name : Dsn} {changes others : List (ℕ × Change)} → PlansReset first unit name changes → PlansReset units unit name others → AreAlikeChanges first changes others
+  reset_alike {unit} {name} was now =
+      swaps_alike was.swap now.swap now.row_is.name_is was.row_is.name_is (now.row_is.extents_are ∙ swap_extents was.swap now.swap ∙ sym was.row_is.extents_are)
+
   join_alike : {room : ℕ} {unit : ℕ} {name : Dsn} {to : List Run} {changes others : List (ℕ × Change)} → MayJoin room first unit name to → PlansMove first unit name to changes
       → PlansMove units unit name to others → AreAlikeChanges first changes others
   join_alike {room} {unit} {name} {to} {changes} {others} may was now =
@@ -204,7 +208,7 @@ module _ {first units : List UnitState} (sound : AreSound first) (behind : IsBeh
       (λ volume at. refl)
   step_alike room (steps.Carry from old unit name to replaced) may plan later is lawful same now =
       carry_alike (carry_planned first plan from old unit name to replaced is lawful).1 (carry_planned units later from old unit name to replaced same now).1
-  step_alike room (steps.ResetFlag unit name) may plan later is lawful same now = absurd may
+  step_alike room (steps.ResetFlag unit name) may plan later is lawful same now = reset_alike (reset_planned first plan unit name is lawful).1 (reset_planned units later unit name same now).1
   step_alike room (steps.Repair unit) may plan later is lawful same now =
       one_alike first unit Repair Repair plan.changes later.changes (repair_planned first plan unit is lawful).1.changes_are (repair_planned units later unit same now).1.changes_are (λ volume at. tt {0})
   step_alike room (steps.FillStart unit input) may plan later is lawful same now = absurd may

@@ -30,7 +30,7 @@ use Rattle.step_room.specs.step_plans.Plans.{IsPlaceOn, ArePlacesOn, IsClear}
 use Rattle.step_room.specs.Room.{IsAsBefore}
 use Rattle.step_room.proofs.Repairs.{as_it_was}
 use Rattle.job_steps.specs.Carried.{IsUnitAfter, AreUnitsAfter}
-use Rattle.job_acts.specs.Making.{MayBeChanged, HasSet, MayCut, MayJoin, MayPut, MayPlan}
+use Rattle.job_acts.specs.Making.{MayBeChanged, HasSet, MayReset, MayCut, MayJoin, MayPut, MayPlan}
 use Rattle.job_acts.specs.Acting.{AreSound}
 
 -- ---- a volume whose free space is stated
@@ -181,6 +181,9 @@ module _ (room : ℕ) {first units : List UnitState} (behind : IsBehind first un
     row_is = has_row (kept_at set.may) set.row_is;
   }
 
+  reset_behind : {unit : ℕ} {name : Dsn} → MayReset room first unit name → MayReset room units unit name
+  reset_behind {unit} {name} may = record { set = set_behind may.set; few = may.few }
+
   cut_behind : {unit : ℕ} {name : Dsn} {keep : ℕ} → MayCut room first unit name keep → MayCut room units unit name keep
   cut_behind {unit} {name} {keep} may = record {
     set = set_behind may.set;
@@ -229,7 +232,7 @@ module _ (room : ℕ) {first units : List UnitState} (behind : IsBehind first un
   plan_behind (steps.Replace unit name to (origins.Part input number)) may = absurd may
   plan_behind (steps.Delete unit name) may = set_behind may
   plan_behind (steps.Carry from old unit name to replaced) may = record { apart = may.apart; may = changeable_behind may.may; put = put_behind may.put }
-  plan_behind (steps.ResetFlag unit name) may = absurd may
+  plan_behind (steps.ResetFlag unit name) may = reset_behind may
   plan_behind (steps.Repair unit) may = changeable_behind may
   plan_behind (steps.FillStart unit input) may = absurd may
   plan_behind (steps.FillEnd unit input) may = absurd may

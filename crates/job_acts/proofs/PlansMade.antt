@@ -15,12 +15,12 @@ use Rattle.move_core.specs.declared.steps.Step.{Step}
 use Rattle.move_core.specs.declared.steps.Step.TheVariants as steps
 use Rattle.step_room.specs.unit_steps.declared.plan.Plan.{Plan}
 use Rattle.step_room.specs.unit_steps.declared.plan.Tracks.TheVariants as texts
-use Rattle.step_room.specs.unit_steps.Plans.{IsLoadedAt, HasRow, Plans, PlansRepair, PlansDelete, PlansShrink, PlansMove, PlansPut, PlansCarry, IsPlan, tracks_in}
+use Rattle.step_room.specs.unit_steps.Plans.{IsLoadedAt, HasRow, Plans, PlansRepair, PlansDelete, PlansReset, PlansShrink, PlansMove, PlansPut, PlansCarry, IsPlan, tracks_in}
 use Rattle.step_room.proofs.unit_steps.OneChange.{same_volume}
 use Rattle.step_room.specs.step_plans.Plans.{IsSound, IsPlanFor, IsPlanForBoth, IsJoinPlan, IsPlaceOn, ArePlacesOn, IsWhole, HasNone, HasManyExtents, HasFewTracks, IsInTheWay, IsClear}
 use Rattle.step_room.proofs.SoundRows.{one_row}
 use Rattle.job_steps.specs.unit_session.Planned.{MayBegin, IsIndexed, IsLong}
-use Rattle.job_acts.specs.Making.{MayBeChanged, HasSet, MayCut, MayJoin, MayPut, MayCarry, IsStepPlan, put_step}
+use Rattle.job_acts.specs.Making.{MayBeChanged, HasSet, MayReset, MayCut, MayJoin, MayPut, MayCarry, IsStepPlan, put_step}
 
 -- ---- nothing bars changes of volumes that may be changed
 
@@ -66,6 +66,9 @@ module _ (units : List UnitState) (plan : Plan) where
   pub delete_planned : (unit : ℕ) (name : Dsn) → plan.step ≡ steps.Delete unit name → IsPlan units plan → (plan.tracks ≡ texts.None) × PlansDelete units unit name plan.changes
   delete_planned unit name step_is is = subst (λ (step : Step). Plans units step plan.tracks plan.changes) step_is is
 
+  pub reset_planned : (unit : ℕ) (name : Dsn) → plan.step ≡ steps.ResetFlag unit name → IsPlan units plan → (plan.tracks ≡ texts.None) × PlansReset units unit name plan.changes
+  reset_planned unit name step_is is = subst (λ (step : Step). Plans units step plan.tracks plan.changes) step_is is
+
   pub cut_planned : (unit : ℕ) (name : Dsn) (keep : ℕ) → plan.step ≡ steps.Shrink unit name keep → IsPlan units plan
       → (plan.tracks ≡ texts.None) × PlansShrink units unit name keep plan.changes
   cut_planned unit name keep step_is is = subst (λ (step : Step). Plans units step plan.tracks plan.changes) step_is is
@@ -98,6 +101,12 @@ module _ {room : ℕ} {units : List UnitState} (unit : ℕ) (volume : Volume) (l
         let lawful = is.lawful units loaded in
         let made = (delete_planned units plan unit name is.step_is lawful).1 in
         record { step_is = is.step_is; lawful = lawful; may = one_change unit (Remove name) plan.changes set.may made.changes_are }
+
+    pub reset_made : HasSet room units unit name → IsPlanFor volume unit (steps.ResetFlag unit name) plan → IsStepPlan room units (steps.ResetFlag unit name) plan
+    reset_made set is =
+        let lawful = is.lawful units loaded in
+        let made = (reset_planned units plan unit name is.step_is lawful).1 in
+        record { step_is = is.step_is; lawful = lawful; may = one_change unit (Swap name made.swap.row) plan.changes set.may made.swap.changes_are }
 
     pub cut_made : (keep : ℕ) → HasSet room units unit name → IsPlanFor volume unit (steps.Shrink unit name keep) plan → IsStepPlan room units (steps.Shrink unit name keep) plan
     cut_made keep set is =
@@ -146,6 +155,11 @@ module _ {room : ℕ} {units : List UnitState} {unit : ℕ} {name : Dsn} (set : 
 
   not_many : length set.row.extents ≤ 16 → ¬ HasManyExtents volume name
   not_many few (row, has, many) = omega (arith, many, few, ap (λ (r : Row). length r.extents) (one_of row has))
+
+pub not_reset : {room : ℕ} {units : List UnitState} {unit : ℕ} {name : Dsn} (may : MayReset room units unit name) (volume : Volume) → IsLoadedAt units unit volume
+    → ¬ (HasNone volume name ⊎ HasManyExtents volume name)
+not_reset may volume loaded (inl none) = not_none may.set volume loaded none
+not_reset may volume loaded (inr many) = not_many may.set volume loaded may.few many
 
 pub not_cut : {room : ℕ} {units : List UnitState} {unit : ℕ} {name : Dsn} {keep : ℕ} (may : MayCut room units unit name keep) (volume : Volume) → IsLoadedAt units unit volume
     → ¬ (HasNone volume name ⊎ (HasManyExtents volume name ⊎ HasFewTracks volume name keep))

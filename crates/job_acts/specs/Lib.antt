@@ -1,2 +1,3 @@
+pub use Rattle.job_steps.specs as job_steps
 pub mod Making
 pub mod Acting

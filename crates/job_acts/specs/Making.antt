@@ -34,6 +34,11 @@ pub record MayCut (room : ℕ) (units : List UnitState) (unit : ℕ) (name : Dsn
   pub few : length set.row.extents ≤ 16
   pub fewer : keep < length (tracks_in set.may.volume set.row)
 
+-- It can count as dumped: it has at most 16 extents.
+pub record MayReset (room : ℕ) (units : List UnitState) (unit : ℕ) (name : Dsn) : Type 0 where
+  pub set : HasSet room units unit name
+  pub few : length set.row.extents ≤ 16
+
 -- It can move into one extent: it has another number of them, at most 16, and the run is free, and as long as all its tracks.
 pub record MayJoin (room : ℕ) (units : List UnitState) (unit : ℕ) (name : Dsn) (to : List Run) : Type 0 where
   pub set : HasSet room units unit name
@@ -71,6 +76,7 @@ pub record MayCarry (room : ℕ) (units : List UnitState) (from : ℕ) (old : Ds
 abbrev pub MayPlan : ℕ → List UnitState → Step → Type 0
 MayPlan room units (steps.Repair unit) = MayBeChanged room units unit
 MayPlan room units (steps.Delete unit name) = HasSet room units unit name
+MayPlan room units (steps.ResetFlag unit name) = MayReset room units unit name
 MayPlan room units (steps.Shrink unit name keep) = MayCut room units unit name keep
 MayPlan room units (steps.Move unit name to) = MayJoin room units unit name to
 MayPlan room units (steps.Add unit name to (origins.Row from old)) = MayPut room units from old unit name to false

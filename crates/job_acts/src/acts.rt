@@ -20,7 +20,7 @@ pub struct Acts {
 
 /// What was seen of steps: each has room, or a VTOC has none for one of them.
 #[derive(Drop)]
-enum Looked<P: Pool> {
+pub enum Looked<P: Pool> {
     Fits(Session<P>),
     Full(Session<P>),
 }
@@ -81,8 +81,8 @@ fn do_steps<P: Pool>(
     Ok(session)
 }
 
-/// Looks whether there is room for a step.
-fn look<P: Pool>(alloc: Global, session: Session<P>, step: &Step) -> Result<Looked<P>, Cut<P>>
+/// Looks whether there is room for a step. Nothing is done.
+pub fn look<P: Pool>(alloc: Global, session: Session<P>, step: &Step) -> Result<Looked<P>, Cut<P>>
     requires { MayPlan session.room session.units step.now }
     ensures { EndsLook P.Pool session (step.now ∷ []) result }
 {

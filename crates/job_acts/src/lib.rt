@@ -5,5 +5,6 @@ mod acts;
 mod copies;
 mod plans;
 
-pub use acts::{Acted, Acts};
+pub use acts::{Acted, Acts, Looked, look};
 pub use copies::same_runs;
+pub use job_steps;

@@ -3,7 +3,7 @@
 ghost use Rattle.std.specs.Prelude.{◌≡◌, ◌∷◌, [], IfOk};
 ghost use Rattle.free_map.specs.declared.run.Run.{Run as RunOf};
 ghost use Rattle.move_core.specs.declared.steps.Step.TheVariants as steps;
-ghost use Rattle.job_acts.specs.Making.{MayBeChanged, HasSet, MayCut, MayJoin, MayPut, MayCarry, MayPlan, IsStepPlan, put_step};
+ghost use Rattle.job_acts.specs.Making.{MayBeChanged, HasSet, MayReset, MayCut, MayJoin, MayPut, MayCarry, MayPlan, IsStepPlan, put_step};
 
 use crate::copies::same_runs;
 use ckd_image::NoMemory;
@@ -14,7 +14,7 @@ use job_steps::unit_session::Session;
 use move_core::{Origin, Step};
 use std::alloc::Global;
 use step_room::step_plans::{
-    SetAt, SetCopy, carry_set, copy_set, delete_set, join_set, repair_space, shrink_set,
+    SetAt, SetCopy, carry_set, copy_set, delete_set, join_set, repair_space, reset_flag, shrink_set,
 };
 use step_room::unit_steps::Plan;
 
@@ -33,6 +33,18 @@ fn plan_delete<P: Pool>(alloc: Global, session: &Session<P>, at: SetAt) -> Resul
 {
     let volume = session.volume(at.unit);
     let Some(plan) = delete_set(alloc, at.unit, volume, at.name)? else {
+        unreachable!()
+    };
+    Ok(plan)
+}
+
+/// A data set counts as dumped.
+fn plan_reset<P: Pool>(alloc: Global, session: &Session<P>, at: SetAt) -> Result<Plan, NoMemory>
+    requires { MayReset session.now.room session.now.units at.unit at.name }
+    ensures { IfOk result (IsStepPlan session.now.room session.now.units (steps.ResetFlag at.unit at.name)) }
+{
+    let volume = session.volume(at.unit);
+    let Some(plan) = reset_flag(alloc, at.unit, volume, at.name)? else {
         unreachable!()
     };
     Ok(plan)
@@ -156,6 +168,7 @@ pub(crate) fn plan_step<P: Pool>(
     match step {
         Step::Repair { unit } => plan_repair(alloc, session, *unit),
         Step::Delete { unit, name } => plan_delete(alloc, session, at(unit, name)),
+        Step::ResetFlag { unit, name } => plan_reset(alloc, session, at(unit, name)),
         Step::Shrink { unit, name, keep } => plan_cut(alloc, session, at(unit, name), *keep),
         Step::Move { unit, name, to } => plan_join(alloc, session, at(unit, name), to.as_slice()),
         Step::Add {

@@ -1,7 +1,7 @@
 mod KeptNames
 pub mod SetsOfRows
 mod Replaced
-mod Rows
+pub mod Rows
 mod Tests
 pub mod Holds
 mod Reasons

@@ -16,7 +16,7 @@ use Rattle.job_lines.specs.declared.message.SetSummary.{SetSummary}
 use Rattle.job_lines.specs.declared.message.ExtentSummary.{ExtentSummary}
 use Rattle.job_lines.specs.declared.message.Message.{Message}
 use Rattle.job_lines.specs.declared.message.Message.TheVariants as messages
-use Rattle.job_lines.specs.Names.{printed}
+use Rattle.job_lines.specs.Names.{dd_text, printed}
 use Rattle.job_lines.specs.Severity.{letter_of, severity_in}
 
 -- ---- numbers and names
@@ -128,13 +128,19 @@ number_of (messages.Released name tracks) = 120
 number_of (messages.Consolidated name extents first) = 127
 number_of (messages.Copied name serial copy) = 121
 number_of (messages.Deleted name) = 124
+number_of (messages.Dumped name) = 122
+number_of (messages.Reset name) = 125
 number_of messages.NothingSelected = 201
 number_of (messages.Rebuilt serial) = 202
 number_of (messages.NotProcessed name reason severity) = reason_number reason
+number_of (messages.OutputLost name) = 321
+number_of messages.NoOutputWhole = 406
 number_of (messages.Offline serial why) = 401
 number_of (messages.Indexed serial) = 402
 number_of (messages.VtocTooLong serial) = 403
 number_of (messages.UnknownName serial) = 408
+number_of (messages.UnknownOutput name) = 408
+number_of (messages.OutputUsed name) = 409
 number_of messages.UnlikeDevices = 411
 
 abbrev pub text_in : Message → List ℕ
@@ -147,13 +153,19 @@ text_in (messages.Released name tracks) = printed name ++ codes " RELEASED " ++ 
 text_in (messages.Consolidated name extents first) = printed name ++ codes " CONSOLIDATED FROM " ++ decimal extents ++ codes " EXTENTS TO " ++ decimal first
 text_in (messages.Copied name serial copy) = printed name ++ codes " COPIED TO " ++ printed serial.text ++ renamed copy
 text_in (messages.Deleted name) = printed name ++ codes " DELETED"
+text_in (messages.Dumped name) = printed name ++ codes " DUMPED"
+text_in (messages.Reset name) = printed name ++ codes " RESET"
 text_in messages.NothingSelected = codes "NOTHING SELECTED"
 text_in (messages.Rebuilt serial) = printed serial.text ++ codes " VTOC REBUILT"
 text_in (messages.NotProcessed name reason severity) = printed name ++ codes " NOT PROCESSED: " ++ reason_words reason
+text_in (messages.OutputLost name) = codes "OUTPUT " ++ dd_text name ++ codes " LOST"
+text_in messages.NoOutputWhole = codes "NO OUTPUT WHOLE"
 text_in (messages.Offline serial why) = codes "UNIT " ++ printed serial.text ++ codes " OFFLINE: " ++ why_words why
 text_in (messages.Indexed serial) = codes "VOLUME " ++ printed serial.text ++ codes " INDEXED"
 text_in (messages.VtocTooLong serial) = codes "VOLUME " ++ printed serial.text ++ codes " VTOC TOO LONG"
 text_in (messages.UnknownName serial) = codes "UNKNOWN NAME " ++ printed serial.text
+text_in (messages.UnknownOutput name) = codes "UNKNOWN NAME " ++ dd_text name
+text_in (messages.OutputUsed name) = codes "OUTPUT " ++ dd_text name ++ codes " USED BEFORE"
 text_in messages.UnlikeDevices = codes "UNLIKE DEVICES"
 
 -- a line: the message's number and letter, the number of its statement in brackets, and its text

@@ -23,10 +23,14 @@ abbrev pub severity_in : Message → Severity
 severity_in messages.NothingSelected = severities.Warning
 severity_in (messages.Rebuilt serial) = severities.Warning
 severity_in (messages.NotProcessed name reason severity) = severity
+severity_in (messages.OutputLost name) = severities.Error
+severity_in messages.NoOutputWhole = severities.Ending
 severity_in (messages.Offline serial why) = severities.Ending
 severity_in (messages.Indexed serial) = severities.Ending
 severity_in (messages.VtocTooLong serial) = severities.Ending
 severity_in (messages.UnknownName serial) = severities.Ending
+severity_in (messages.UnknownOutput name) = severities.Ending
+severity_in (messages.OutputUsed name) = severities.Ending
 severity_in messages.UnlikeDevices = severities.Ending
 severity_in _ = severities.Information
 

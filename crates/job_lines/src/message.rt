@@ -5,6 +5,7 @@ ghost use Rattle.job_lines.specs.Severity.{severity_in};
 
 use crate::severity::Severity;
 use ckd_image::Device;
+use dd_names::DdName;
 use sysin_words::Verb;
 use vol_label::Serial;
 use volume_model::Why;
@@ -72,17 +73,29 @@ pub enum Message {
     /// A data set, the volume to which it was copied, and the name of the copy where it is another.
     Copied([u8; 44], Serial, Option<[u8; 44]>),
     Deleted([u8; 44]),
+    /// A data set that stands whole in a dump.
+    Dumped([u8; 44]),
+    /// A data set that counts as dumped since.
+    Reset([u8; 44]),
     /// The filter takes no data set.
     NothingSelected,
     /// The free space of the volume with this serial was stated anew.
     Rebuilt(Serial),
     /// A data set that was selected and isn't processed, why, and how grave that is.
     NotProcessed([u8; 44], Reason, Severity),
+    /// An output of a dump that failed. It gets no more.
+    OutputLost(DdName),
+    /// Each output of a dump was lost.
+    NoOutputWhole,
     Offline(Serial, Why),
     Indexed(Serial),
     VtocTooLong(Serial),
     /// No unit is registered under this serial.
     UnknownName(Serial),
+    /// The run has no output of this name.
+    UnknownOutput(DdName),
+    /// An output on which a dump was begun before, or that is named twice.
+    OutputUsed(DdName),
     /// A data set can't be copied to a volume of another device.
     UnlikeDevices,
 }
@@ -94,10 +107,14 @@ impl Message {
         match self {
             Message::NothingSelected | Message::Rebuilt(_) => Severity::Warning,
             Message::NotProcessed(_, _, severity) => *severity,
-            Message::Offline(..)
+            Message::OutputLost(_) => Severity::Error,
+            Message::NoOutputWhole
+            | Message::Offline(..)
             | Message::Indexed(_)
             | Message::VtocTooLong(_)
             | Message::UnknownName(_)
+            | Message::UnknownOutput(_)
+            | Message::OutputUsed(_)
             | Message::UnlikeDevices => Severity::Ending,
             _ => Severity::Information,
         }

@@ -1,9 +1,10 @@
 //! Names of the code page as they are printed.
 
-ghost use Rattle.std.specs.Prelude.{◌≡◌, ◌<◌, ◌≤◌, IfOk, length, string_bytes, unwrap_or};
+ghost use Rattle.std.specs.Prelude.{◌≡◌, ◌<◌, ◌≤◌, nat_lt, if◌then◌else◌, IfOk, length, string_bytes, unwrap_or};
 ghost use Rattle.vol_label.specs.CodePage.{ascii_of};
-ghost use Rattle.job_lines.specs.Names.{trimmed as trimmed_bytes, printed};
+ghost use Rattle.job_lines.specs.Names.{dd_text, trimmed as trimmed_bytes, printed};
 
+use dd_names::DdName;
 use std::alloc::{AllocError, Global};
 use vol_label::{BLANK, to_ascii};
 
@@ -42,6 +43,26 @@ pub(crate) fn printed_name(alloc: Global, bytes: &[u8]) -> Result<String, AllocE
     let mut text = String::new(alloc);
     for byte in trimmed(bytes) {
         text.push(printed_character(*byte))?;
+    }
+    Ok(text)
+}
+
+/// A character of a DD name; a question mark for what is none.
+fn dd_character(byte: u8) -> char
+    ensures value { result ≡ (if nat_lt byte 128 then byte else 63) }
+    ensures ascii { result < 128 }
+{
+    if byte < 128 { char::from(byte) } else { '?' }
+}
+
+/// A DD name as it is printed.
+pub(crate) fn printed_dd(alloc: Global, name: DdName) -> Result<String, AllocError>
+    ensures { IfOk result (λ text. string_bytes text ≡ dd_text name) }
+{
+    let len = usize::from(name.len).min(8);
+    let mut text = String::new(alloc);
+    for byte in &name.text[..len] {
+        text.push(dd_character(*byte))?;
     }
     Ok(text)
 }

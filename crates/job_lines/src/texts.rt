@@ -2,12 +2,13 @@
 
 ghost use Rattle.std.specs.Prelude.{◌≡◌, ◌++◌, IfOk, string_bytes, codes};
 ghost use Rattle.std.specs.Fmt.{decimal};
-ghost use Rattle.job_lines.specs.Names.{printed};
+ghost use Rattle.job_lines.specs.Names.{dd_text, printed};
 ghost use Rattle.job_lines.specs.Lines as spec;
 
 use crate::message::{ExtentSummary, Message, Reason, SetSummary, VolumeSummary};
-use crate::names::printed_name;
+use crate::names::{printed_dd, printed_name};
 use crate::words::{base_organization, command_name, device_name, reason_words, rule_words};
+use dd_names::DdName;
 use std::alloc::{AllocError, Global};
 use sysin_words::Verb;
 use vol_label::Serial;
@@ -32,13 +33,19 @@ pub(crate) fn text_in(alloc: Global, message: &Message) -> Result<String, AllocE
         }
         Message::Copied(name, serial, copy) => copied_text(alloc, name, *serial, *copy),
         Message::Deleted(name) => deleted_text(alloc, name),
+        Message::Dumped(name) => dumped_text(alloc, name),
+        Message::Reset(name) => reset_text(alloc, name),
         Message::NothingSelected => String::from_str(alloc, "NOTHING SELECTED"),
         Message::Rebuilt(serial) => rebuilt_text(alloc, *serial),
         Message::NotProcessed(name, reason, _) => not_processed_text(alloc, name, *reason),
+        Message::OutputLost(name) => lost_text(alloc, *name),
+        Message::NoOutputWhole => String::from_str(alloc, "NO OUTPUT WHOLE"),
         Message::Offline(serial, why) => offline_text(alloc, *serial, *why),
         Message::Indexed(serial) => indexed_text(alloc, *serial),
         Message::VtocTooLong(serial) => too_long_text(alloc, *serial),
         Message::UnknownName(serial) => unknown_text(alloc, *serial),
+        Message::UnknownOutput(name) => unknown_output_text(alloc, *name),
+        Message::OutputUsed(name) => used_text(alloc, *name),
         Message::UnlikeDevices => String::from_str(alloc, "UNLIKE DEVICES"),
     }
 }
@@ -166,6 +173,27 @@ fn deleted_text(alloc: Global, name: &[u8; 44]) -> Result<String, AllocError>
     format!(in alloc; "{name} DELETED")
 }
 
+fn dumped_text(alloc: Global, name: &[u8; 44]) -> Result<String, AllocError>
+    ensures { IfOk result (λ text. string_bytes text ≡ printed name.now ++ codes " DUMPED") }
+{
+    let name = printed_name(alloc, name)?;
+    format!(in alloc; "{name} DUMPED")
+}
+
+fn reset_text(alloc: Global, name: &[u8; 44]) -> Result<String, AllocError>
+    ensures { IfOk result (λ text. string_bytes text ≡ printed name.now ++ codes " RESET") }
+{
+    let name = printed_name(alloc, name)?;
+    format!(in alloc; "{name} RESET")
+}
+
+fn lost_text(alloc: Global, name: DdName) -> Result<String, AllocError>
+    ensures { IfOk result (λ text. string_bytes text ≡ codes "OUTPUT " ++ dd_text name ++ codes " LOST") }
+{
+    let name = printed_dd(alloc, name)?;
+    format!(in alloc; "OUTPUT {name} LOST")
+}
+
 fn rebuilt_text(alloc: Global, serial: Serial) -> Result<String, AllocError>
     ensures { IfOk result (λ text. string_bytes text ≡ printed serial.text ++ codes " VTOC REBUILT") }
 {
@@ -223,4 +251,18 @@ fn unknown_text(alloc: Global, serial: Serial) -> Result<String, AllocError>
 {
     let serial = printed_name(alloc, &serial.text)?;
     format!(in alloc; "UNKNOWN NAME {serial}")
+}
+
+fn unknown_output_text(alloc: Global, name: DdName) -> Result<String, AllocError>
+    ensures { IfOk result (λ text. string_bytes text ≡ codes "UNKNOWN NAME " ++ dd_text name) }
+{
+    let name = printed_dd(alloc, name)?;
+    format!(in alloc; "UNKNOWN NAME {name}")
+}
+
+fn used_text(alloc: Global, name: DdName) -> Result<String, AllocError>
+    ensures { IfOk result (λ text. string_bytes text ≡ codes "OUTPUT " ++ dd_text name ++ codes " USED BEFORE") }
+{
+    let name = printed_dd(alloc, name)?;
+    format!(in alloc; "OUTPUT {name} USED BEFORE")
 }

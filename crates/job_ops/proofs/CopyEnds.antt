@@ -13,37 +13,37 @@ use Rattle.move_core.specs.declared.steps.Step.{Step}
 use Rattle.move_core.specs.Runs.{moves_of}
 use Rattle.move_core.specs.Stands.{IsGood, IsSettled}
 use Rattle.move_core.proofs.Running.{run_steps}
-use Rattle.job_steps.specs.unit_session.Sessions.{SessionView}
-use Rattle.job_copies.specs.step_room.Room.{LackingChangesAreFull, FittingChangesAreNotFull}
+use Rattle.job_turns.specs.job_steps.unit_session.Sessions.{SessionView}
+use Rattle.job_turns.specs.job_copies.step_room.Room.{LackingChangesAreFull, FittingChangesAreNotFull}
 use Rattle.job_lines.specs.declared.message.Message.{Message}
 use Rattle.job_lines.specs.declared.message.Message.TheVariants as messages
 use Rattle.job_lines.specs.declared.message.Reason.{Reason}
 use Rattle.job_lines.specs.declared.message.Reason.TheVariants as reasons
 use Rattle.job_lines.specs.declared.severity.Severity.TheVariants as severities
 use Rattle.job_lines.specs.Order.{IsReason}
-use Rattle.job_steps.specs.declared.cut.Cut.{Cut}
-use Rattle.job_steps.specs.declared.cut.Cut.TheVariants as cuts
-use Rattle.job_steps.specs.Carried.{pending_cut}
-use Rattle.job_copies.specs.Case.{Case}
-use Rattle.job_copies.specs.Reasons.{PreventsAtFirst, first_reasons}
+use Rattle.job_turns.specs.job_steps.declared.cut.Cut.{Cut}
+use Rattle.job_turns.specs.job_steps.declared.cut.Cut.TheVariants as cuts
+use Rattle.job_turns.specs.job_steps.Carried.{pending_cut}
+use Rattle.job_turns.specs.job_copies.Case.{Case}
+use Rattle.job_turns.specs.job_copies.Reasons.{PreventsAtFirst, first_reasons}
 use Rattle.job_ops.specs.declared.copies.Scene.{Scene}
 use Rattle.job_ops.specs.declared.transfer.Transfer.{Transfer}
-use Rattle.job_acts.specs.declared.acts.Acted.{Acted}
-use Rattle.job_acts.specs.declared.acts.Acted.TheVariants as variants
-use Rattle.job_acts.specs.Acting.{AllFit, SomeLacks}
+use Rattle.job_turns.specs.job_acts.declared.acts.Acted.{Acted}
+use Rattle.job_turns.specs.job_acts.declared.acts.Acted.TheVariants as variants
+use Rattle.job_turns.specs.job_acts.Acting.{AllFit, SomeLacks}
 use Rattle.job_ops.specs.Transfers.{first_steps, steps_of_transfer, MayTransfer, EndsTransfer}
-use Rattle.job_ops.proofs.LoadedUnits.{AreKnown}
+use Rattle.job_turns.proofs.LoadedUnits.{AreKnown}
 use Rattle.job_ops.specs.Copy.{Request, CopiesSet, PreventsCopy, IsNewName, all_repairs, all_rebuilt}
 use Rattle.job_ops.specs.Copying.{request_in, IsThere, IsCase, GoesSoFar, IsReplacedIn, ArePlacedIn, HasGoodTexts, AreLines, IsTransferOf, StaysCopyable}
-use Rattle.job_steps.specs.Units.{facts_of, ForUnits}
-use Rattle.job_ops.specs.Ends.{Ends}
-use Rattle.job_ops.specs.Turns.{Action, IsCutAction}
+use Rattle.job_turns.specs.job_steps.Units.{facts_of, ForUnits}
+use Rattle.job_turns.specs.Ends.{Ends}
+use Rattle.job_turns.specs.Turns.{Action, IsCutAction}
 use Rattle.job_ops.proofs.CopyBehind.{stays_done, stays_same}
 use Rattle.job_ops.proofs.CopyRoom.{IsTransferIn, has_room, lacks_room}
 use Rattle.job_ops.proofs.CopySteps.{steps_same, lines_same}
 use Rattle.job_ops.proofs.CopyTurns.{case_of, is_case, no_reason, vtoc_full, placed_somewhere}
-use Rattle.job_acts.proofs.Sessions.{keeps_same}
-use Rattle.job_ops.proofs.SameSessions.{cut_leaves, only_short, ends_told, told_grows}
+use Rattle.job_turns.proofs.job_acts.Sessions.{keeps_same}
+use Rattle.job_turns.proofs.SameSessions.{cut_leaves, only_short, ends_told, told_grows}
 use Rattle.job_ops.proofs.TextCounts.{texts_counted}
 
 -- ---- a data set that isn't copied

@@ -11,19 +11,20 @@ use Rattle.sysin_lang.specs.declared.command.Command.{Command}
 use Rattle.move_core.specs.declared.steps.Step.{Step}
 use Rattle.move_core.specs.Facts.{shown}
 use Rattle.move_core.specs.Runs.{IsRun}
-use Rattle.job_steps.specs.unit_session.Sessions.{SessionView}
-use Rattle.job_steps.specs.declared.cut.Cut.{Cut}
-use Rattle.job_steps.specs.declared.cut.Cut.TheVariants as cuts
-use Rattle.job_steps.specs.Carried.{IsShort}
+use Rattle.job_turns.specs.job_steps.unit_session.Sessions.{SessionView}
+use Rattle.job_turns.specs.job_steps.declared.cut.Cut.{Cut}
+use Rattle.job_turns.specs.job_steps.declared.cut.Cut.TheVariants as cuts
+use Rattle.job_turns.specs.job_steps.Carried.{IsShort}
 use Rattle.job_lines.specs.declared.message.Message.{Message}
 use Rattle.job_lines.specs.declared.message.Message.TheVariants as messages
 use Rattle.job_lines.specs.Severity.{greatest_code}
 use Rattle.job_ops.specs.declared.outcome.Outcome.{Outcome}
 use Rattle.job_ops.specs.declared.outcome.Outcome.TheVariants as outcomes
-use Rattle.job_acts.specs.Acting.{KeepsFacts}
-use Rattle.job_ops.specs.Ends.{Ends, EndsStatement, HasOuts, IsCutOutcome, IsDoneOutcome, LeavesSession, IsUnchanged}
+use Rattle.job_turns.specs.job_acts.Acting.{KeepsFacts}
+use Rattle.job_turns.specs.Ends.{Ends}
+use Rattle.job_ops.specs.Ends.{EndsStatement, HasOuts, IsCutOutcome, IsDoneOutcome, LeavesSession, IsUnchanged}
 use Rattle.job_ops.specs.Meaning.{IsFramed, MeansOnVolumes, MeansWhole, IsCutOnVolumes, verb_of}
-use Rattle.job_ops.specs.Setting.{setting_of}
+use Rattle.job_turns.specs.Setting.{setting_of}
 
 module _ {P B : Type 0} {Own : B → Type 0} (pools : Ghosts P) (seen : OutDd B Own → OutSeen) (files : Files) (ins : List InSeen) (given : List (OutDd B Own)) (session : SessionView P) where
   module _ (next : SessionView P) (command : Command) (held : List Hold) (today : Day) (before after : List Step) (said : List Message)

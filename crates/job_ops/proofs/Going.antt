@@ -1,7 +1,6 @@
 -- The data sets that a filter takes have their turns.
-use Rattle.std.proofs.Common.{◌≡◌, ◌≢◌, inl, inr, ℕ, length, ◌==◌, true, false, ◌∙◌, arith, List, [], ◌∷◌, Some, refl, sym, ap, subst}
+use Rattle.std.proofs.Common.{◌≡◌, ◌≢◌, inl, inr, ℕ, List, [], ◌∷◌, Some, refl, sym, subst}
 use Rattle.std.specs.Prelude.{Result, slice_get, map}
-use Rattle.std.proofs.lemmas.Bool.{eqb-true, false≢true}
 use Rattle.by_rules.specs.declared.day.Day.{Day}
 use Rattle.dasd_pool.specs.declared.pool.Pool.{Ghosts}
 use Rattle.dsn_filter.specs.declared.dsn.Dsn.{Dsn}
@@ -10,21 +9,21 @@ use Rattle.sysin_lang.specs.declared.command.Filter.{Filter}
 use Rattle.vol_label.specs.declared.serial.Serial.{Serial}
 use Rattle.volume_model.specs.Unit.{OnlineVolume, online}
 use Rattle.move_core.specs.declared.steps.Step.{Step}
-use Rattle.job_copies.specs.unit_steps.Loaded.{AreModels}
-use Rattle.job_steps.specs.unit_session.Sessions.{SessionView}
+use Rattle.job_turns.specs.job_copies.unit_steps.Loaded.{AreModels}
+use Rattle.job_turns.specs.job_steps.unit_session.Sessions.{SessionView}
 use Rattle.job_lines.specs.declared.message.Message.{Message}
 use Rattle.job_lines.specs.declared.message.Message.TheVariants as messages
-use Rattle.job_copies.specs.job_select.Selection.{Selects}
-use Rattle.job_steps.specs.declared.cut.Cut.{Cut}
-use Rattle.job_ops.specs.Asked.{IsUnitFor}
-use Rattle.job_steps.specs.Units.{facts_of, ForUnits}
-use Rattle.job_ops.specs.Ends.{Ends}
-use Rattle.job_ops.specs.Refusal.{Standing, standing_of, standing_in, Refuses, Lets}
+use Rattle.job_turns.specs.job_copies.job_select.Selection.{Selects}
+use Rattle.job_turns.specs.job_steps.declared.cut.Cut.{Cut}
+use Rattle.job_turns.specs.Refusal.{IsUnitFor}
+use Rattle.job_turns.specs.job_steps.Units.{facts_of, ForUnits}
+use Rattle.job_turns.specs.Ends.{Ends}
+use Rattle.job_turns.specs.Refusal.{Standing, standing_of, standing_in, Refuses, Lets}
 use Rattle.job_ops.specs.Sets.{changed, GoesThrough, OverSets, IsCutOverSets}
-use Rattle.job_ops.specs.Setting.{setting_of}
-use Rattle.job_ops.specs.Turns.{Action, Turns, AreCutTurns}
-use Rattle.job_ops.proofs.SameSessions.{ends_as}
-use Rattle.job_ops.proofs.Standing.{standings_are, volume_of}
+use Rattle.job_turns.specs.Setting.{setting_of}
+use Rattle.job_turns.specs.Turns.{Action, Turns, AreCutTurns}
+use Rattle.job_turns.proofs.SameSessions.{ends_as}
+use Rattle.job_turns.proofs.Standing.{standings_are, volume_of}
 
 module _ {P : Type 0} (pools : Ghosts P) (Turn : ℕ → Dsn → Action) (session : SessionView P) (held : List Hold) (today : Day) (filter : Filter) (serial : Serial) (models : ForUnits pools session (AreModels session.units)) where
   -- what refuses it as it was loaded refuses it
@@ -71,12 +70,3 @@ module _ {P : Type 0} (pools : Ghosts P) (Turn : ℕ → Dsn → Action) (sessio
           goes told units settled,
           subst (λ (list : List Dsn). AreCutTurns (facts_of pools session) (Turn unit) list units steps pending) same turns,
         )) ends
-
--- ---- whether there are names
-
-pub no_names : (names : List Dsn) (count : ℕ) → count ≡ length names → (count == 0) ≡ true → names ≡ []
-no_names [] count long is = refl
-no_names (name ∷ names) count long is = absurd (omega (arith, long, eqb-true count 0 is))
-
-pub some_names : (names : List Dsn) (count : ℕ) → count ≡ length names → (count == 0) ≡ false → names ≢ []
-some_names names count long is none = false≢true (sym is ∙ ap (λ (n : ℕ). n == 0) (long ∙ ap (λ (list : List Dsn). length list) none))

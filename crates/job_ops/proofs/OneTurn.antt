@@ -1,12 +1,8 @@
 -- The turn of a data set: what was asked of it, and what became of it.
-use Rattle.std.proofs.Common.{◌≡◌, inl, ℕ, ◌+◌, ◌<◌, length, drop, get_or, All, List, [], ◌∷◌, ◌++◌, Option, Some, None, refl, sym, ap, subst, ◌∙◌}
+use Rattle.std.proofs.Common.{◌≡◌, inl, ℕ, All, List, [], ◌∷◌, ◌++◌, Option, Some, None, refl, sym, ap, subst, ◌∙◌}
 use Rattle.std.specs.Prelude.{Result, Ok, Err, IfOk, IfErr}
-use Rattle.std.proofs.Math.Numerals.{add-one}
-use Rattle.std.proofs.Math.Seq.{drop-cons}
-use Rattle.std.proofs.lemmas.List.{append-nil}
 use Rattle.std.proofs.lemmas.List.Elements.{All-nil, All-cons, All-head, All-tail, All-weaker}
 use Rattle.ckd_image.specs.Device.{heads_of}
-use Rattle.dasd_pool.specs.Count.{Rose}
 use Rattle.dasd_pool.specs.declared.pool.Pool.{Ghosts}
 use Rattle.dsn_filter.specs.declared.dsn.Dsn.{Dsn}
 use Rattle.enq_table.specs.declared.hold.Hold.{Hold}
@@ -15,32 +11,31 @@ use Rattle.move_core.specs.declared.steps.Step.{Step}
 use Rattle.move_core.specs.Facts.{shown}
 use Rattle.move_core.specs.Runs.{IsRun}
 use Rattle.move_core.specs.Steps.{shrunk}
-use Rattle.move_core.proofs.Running.{run_less}
 use Rattle.vtoc_core.specs.declared.volume.Row.{Row}
 use Rattle.unit_load.specs.declared.state.UnitState.{UnitState}
-use Rattle.job_copies.specs.unit_steps.Plans.{HasRow}
-use Rattle.job_steps.specs.unit_session.Sessions.{SessionView, BrokenView, IsSameSession}
+use Rattle.job_turns.specs.job_copies.unit_steps.Plans.{HasRow}
+use Rattle.job_turns.specs.job_steps.unit_session.Sessions.{SessionView, IsSameSession}
 use Rattle.job_lines.specs.declared.message.Message.{Message}
 use Rattle.job_lines.specs.declared.message.Message.TheVariants as messages
 use Rattle.job_lines.specs.declared.message.Reason.{Reason}
-use Rattle.job_steps.specs.declared.cut.Cut.{Cut}
-use Rattle.job_steps.specs.declared.cut.Cut.TheVariants as cuts
+use Rattle.job_turns.specs.job_steps.declared.cut.Cut.{Cut}
+use Rattle.job_turns.specs.job_steps.declared.cut.Cut.TheVariants as cuts
 use Rattle.job_ops.specs.declared.asking.Candidate.{Candidate}
 use Rattle.job_ops.specs.declared.task.Task.{Task}
 use Rattle.job_ops.specs.declared.task.Task.TheVariants as tasks
 use Rattle.job_ops.specs.Asked.{MayProcess, IsSeen, IsReasonBefore}
-use Rattle.job_steps.specs.Units.{ForUnits}
-use Rattle.job_ops.specs.Ends.{Ends}
+use Rattle.job_turns.specs.job_steps.Units.{ForUnits}
+use Rattle.job_turns.specs.Ends.{Ends}
 use Rattle.job_ops.specs.Consolidate.{HasSeveral, LacksPlace, LacksRoomAtPlace}
 use Rattle.job_ops.specs.Meaning.{TurnOf}
 use Rattle.job_ops.specs.Reasons.{LacksRoomFor}
 use Rattle.job_ops.specs.Release.{keep_of, HasUnused}
 use Rattle.job_ops.specs.Reshaping.{StaysChangeable}
 use Rattle.job_ops.specs.Task.{StaysFor, severity_for}
-use Rattle.job_ops.specs.Turns.{Action, IsCutAction}
+use Rattle.job_turns.specs.Turns.{IsCutAction}
 use Rattle.job_ops.proofs.Judging.{reason_found}
-use Rattle.job_acts.proofs.Sessions.{keeps_same, for_new}
-use Rattle.job_ops.proofs.SameSessions.{ends_after, ends_said}
+use Rattle.job_turns.proofs.job_acts.Sessions.{for_new}
+use Rattle.job_turns.proofs.SameSessions.{ends_after, ends_said}
 
 -- a reason is told
 pub reason_told : (task : Task) (held : List Hold) {unit : ℕ} {name : Dsn} {candidate : Candidate} {units : List UnitModel} (reason : Reason) → IsSeen task unit name candidate units
@@ -92,35 +87,6 @@ module _ {P : Type 0} (pools : Ghosts P) {old new : SessionView P} (run : IsRun 
       (ends_said pools (messages.NotProcessed candidate.name reason (severity_for task reason) ∷ []) result steps ok err
       (for_new pools same (λ told units settled. reason_told task held reason (seen told units settled) (told_before told units settled))) (λ units. inl (refl, refl)))
 
-  -- the pool failed
-  pub halted : {Means : Action} {steps : List Step} {messages : List Message} (broken : BrokenView P) → Rose (pools.faults old.pool) (pools.faults new.pool) → broken.pool ≡ new.pool → broken.pending ≡ None
-      → Ends pools Means (IsCutAction Means) old steps steps messages messages (Err (cuts.Halted broken))
-  halted {Means} {steps} {messages} broken rose pool none = record {
-    added = [];
-    said = [];
-    steps_are = sym (append-nil steps);
-    messages_are = sym (append-nil messages);
-    run =
-        subst (λ (p : P). IsRun pools.tells (shown pools old.pool) (shown pools p) ⊥ [] broken.pending) (sym pool)
-        (subst (λ (step : Option Step). IsRun pools.tells (shown pools old.pool) (shown pools new.pool) ⊥ [] step) (sym none) (run_less (λ never. tt {0}) (λ never. rose) run));
-    facts = tt;
-    ended = tt;
-    cut = λ told units settled. inl (refl, none);
-  }
-
-  -- memory ran out
-  pub short : {Means : Action} {steps : List Step} {messages : List Message} → Ends pools Means (IsCutAction Means) old steps steps messages messages (Err (cuts.Short new))
-  short {Means} {steps} {messages} = record {
-    added = [];
-    said = [];
-    steps_are = sym (append-nil steps);
-    messages_are = sym (append-nil messages);
-    run = run;
-    facts = keeps_same pools same;
-    ended = tt;
-    cut = λ told units settled. inl (refl, refl);
-  }
-
 -- ---- what can be changed then
 
 module _ {P : Type 0} (pools : Ghosts P) {old new : SessionView P} (same : IsSameSession pools old new) (unit : ℕ) where
@@ -153,6 +119,3 @@ may_later {room} {after} {units} {next} {unit} name left later is may stays same
       sets =
           All-weaker Has (λ other. (row : Row) × HasRow new.0.volume other row) (λ other has. new.1 other has.0 has.1) later (All-tail Has name later (subst (All Has) is may.sets));
     })
-
-pub first_left : (names : List Dsn) (index : ℕ) (d : Dsn) → index < length names → drop index names ≡ get_or names index d ∷ drop (index + 1) names
-first_left names index d less = drop-cons names index d less ∙ ap (λ (n : ℕ). get_or names index d ∷ drop n names) (sym (add-one index))

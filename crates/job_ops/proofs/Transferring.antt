@@ -16,31 +16,33 @@ use Rattle.volume_change.specs.declared.change.Change.TheVariants.{Remove}
 use Rattle.unit_load.specs.declared.state.UnitState.{UnitState}
 use Rattle.move_core.specs.declared.steps.Step.{Step}
 use Rattle.move_core.specs.declared.steps.Step.TheVariants as steps
-use Rattle.job_copies.specs.vtoc_render.Next.{IsNext, IsChanged}
-use Rattle.job_copies.specs.unit_steps.declared.plan.Plan.{Plan}
-use Rattle.job_copies.specs.unit_steps.Plans.{IsLoadedAt, HasRow, PlansCopy, PlansCarry, PlansPut, PlansDelete, IsPlan, putting}
-use Rattle.job_copies.proofs.unit_steps.OneChange.{same_volume}
-use Rattle.job_copies.proofs.job_select.OneName.{one_named}
-use Rattle.job_copies.specs.step_room.Room as room
-use Rattle.job_copies.specs.step_room.Room.{AlikeChangesHaveRoom, RemovalsHaveRoom}
-use Rattle.job_copies.specs.vtoc_render.Next.{MayChange}
+use Rattle.job_turns.specs.job_copies.vtoc_render.Next.{IsNext, IsChanged}
+use Rattle.job_turns.specs.job_copies.unit_steps.declared.plan.Plan.{Plan}
+use Rattle.job_turns.specs.job_copies.unit_steps.Plans.{IsLoadedAt, HasRow, PlansCopy, PlansCarry, PlansPut, PlansDelete, IsPlan, putting}
+use Rattle.job_turns.proofs.job_copies.unit_steps.OneChange.{same_volume}
+use Rattle.job_turns.proofs.job_copies.job_select.OneName.{one_named}
+use Rattle.job_turns.specs.job_copies.step_room.Room as room
+use Rattle.job_turns.specs.job_copies.step_room.Room.{AlikeChangesHaveRoom, StatedVolumesHaveRoom, ChangesStateSpace}
+use Rattle.job_turns.specs.job_copies.vtoc_render.Next.{MayChange}
+use Rattle.job_turns.proofs.job_steps.unit_session.unit_steps.Small.{putting_no_mark}
 use Rattle.dasd_pool.specs.declared.pool.Pool.{Ghosts}
 use Rattle.move_core.proofs.Running.{run_idle}
-use Rattle.job_steps.specs.unit_session.Sessions.{SessionView}
-use Rattle.job_steps.specs.declared.cut.Cut.{Cut}
-use Rattle.job_steps.specs.declared.cut.Cut.TheVariants as cuts
-use Rattle.job_steps.specs.Carried.{IsUnitAfter}
-use Rattle.job_acts.specs.Making.{MayBeChanged, HasSet, MayPut, MayPlan, put_step, repair_steps}
-use Rattle.job_acts.specs.declared.acts.Acts.{Acts}
-use Rattle.job_acts.specs.declared.acts.Acted.{Acted}
-use Rattle.job_acts.specs.Acting.{AreSound, Fits, LacksRoom, IsDone, MayDo, AllFit, MayAct, EndsActs, looked_at}
-use Rattle.job_acts.proofs.Kept.{IsBehind, behind_itself, put_behind, after_one, loaded_after}
-use Rattle.job_acts.proofs.PlansMade.{put_planned, carry_planned, delete_planned}
-use Rattle.job_acts.proofs.Repairing.{AfterRepairs, may_step, may_repairs, repairs_planned, full_one, may_act, seen_are}
-use Rattle.job_acts.proofs.Sessions.{no_change}
+use Rattle.job_turns.specs.job_steps.unit_session.Sessions.{SessionView}
+use Rattle.job_turns.specs.job_steps.declared.cut.Cut.{Cut}
+use Rattle.job_turns.specs.job_steps.declared.cut.Cut.TheVariants as cuts
+use Rattle.job_turns.specs.job_steps.Carried.{IsUnitAfter}
+use Rattle.job_turns.specs.job_acts.Making.{MayBeChanged, HasSet, MayPut, MayPlan, put_step, repair_steps}
+use Rattle.job_turns.specs.job_acts.declared.acts.Acts.{Acts}
+use Rattle.job_turns.specs.job_acts.declared.acts.Acted.{Acted}
+use Rattle.job_turns.specs.job_acts.Acting.{AreSound, Fits, LacksRoom, IsDone, MayDo, AllFit, MayAct, EndsActs, looked_at}
+use Rattle.job_turns.proofs.job_acts.Kept.{IsBehind, behind_itself, put_behind, after_one, loaded_after}
+use Rattle.job_turns.proofs.job_acts.PlansMade.{put_planned, carry_planned, delete_planned}
+use Rattle.job_turns.proofs.job_acts.Repairing.{AfterRepairs, may_step, may_repairs, repairs_planned, full_one, may_act, seen_are}
+use Rattle.job_turns.proofs.job_acts.Sessions.{no_change}
 use Rattle.job_ops.specs.declared.transfer.Transfer.{Transfer}
 use Rattle.job_ops.specs.Copy.{lower_first}
-use Rattle.job_ops.specs.Transfers.{is_carried, is_deleted, is_unstated, due, units_due, copying_step, first_steps, last_steps, steps_of_transfer, MayTransfer, EndsTransfer}
+use Rattle.job_ops.specs.Transfers.{is_carried, is_deleted, units_due, copying_step, first_steps, last_steps, steps_of_transfer, MayTransfer, EndsTransfer}
+use Rattle.job_turns.specs.Stating.{is_unstated, due}
 
 -- ---- where it goes
 
@@ -252,27 +254,28 @@ module _ {least : ℕ} {units after : List UnitState} (transfer : Transfer) (may
     row_is = still_there;
   }
 
-  delete_fits : RemovalsHaveRoom → ¬ LacksRoom after (steps.Delete transfer.from.unit transfer.from.name)
-  delete_fits law lacks =
+  delete_fits : StatedVolumesHaveRoom → ChangesStateSpace → ¬ LacksRoom after (steps.Delete transfer.from.unit transfer.from.name)
+  delete_fits law states lacks =
       let made : PlansDelete after transfer.from.unit transfer.from.name lacks.plan.changes = (delete_planned after lacks.plan transfer.from.unit transfer.from.name lacks.step_is lacks.lawful).1 in
       let one = full_one lacks.full in
       elim (first_or_later (transfer.from.unit, Remove transfer.from.name) one.0 [] (subst (λ (list : List (ℕ × Change)). Contains list one.0) made.changes_are one.2)) [
         | inl same ↦
             let here : (v : Volume) × IsLoadedAt after transfer.from.unit v × room.LacksRoom v (Remove transfer.from.name) =
             subst (λ (c : ℕ × Change). (v : Volume) × IsLoadedAt after c.0 v × room.LacksRoom v c.1) (sym same) (one.1, one.3, one.4) in
-            law behind.next transfer.from.name may.row (sound transfer.from.unit behind.next next_loaded) changed.fives_are still_there may.few
+            (law behind.next behind.next transfer.from.name may.row (sound transfer.from.unit behind.next next_loaded)
+            (states behind.volume behind.next (putting transfer.replaced transfer.to.name planned.copy.row) (putting_no_mark transfer.replaced transfer.to.name planned.copy.row) next_is) still_there may.few).0
             (subst (λ (v : Volume). room.LacksRoom v (Remove transfer.from.name)) (same_volume after transfer.from.unit here.0 behind.next here.1 next_loaded) here.2)
         | inr none ↦ absurd (in_none one.0 none)
       ]
 
-  last_may : RemovalsHaveRoom → MayDo least after (last_steps transfer)
-  last_may law =
+  last_may : StatedVolumesHaveRoom → ChangesStateSpace → MayDo least after (last_steps transfer)
+  last_may law states =
       subst (λ (b : Bool). MayDo least after (if b then steps.Delete transfer.from.unit transfer.from.name ∷ [] else [])) (sym deleted)
-      (delete_may, delete_fits law, λ last gone known. tt {0})
+      (delete_may, delete_fits law states, λ last gone known. tt {0})
 
 -- ---- all of them
 
-module _ {least : ℕ} {first : List UnitState} {transfer : Transfer} (began : MayTransfer least first transfer) (sound : AreSound first) (alike : AlikeChangesHaveRoom) (removed : RemovalsHaveRoom)
+module _ {least : ℕ} {first : List UnitState} {transfer : Transfer} (began : MayTransfer least first transfer) (sound : AreSound first) (alike : AlikeChangesHaveRoom) (stated : StatedVolumesHaveRoom) (states : ChangesStateSpace)
     (fit : AllFit first (first_steps first transfer)) where
   copy_fits : Fits first (copying_step transfer)
   copy_fits = All-contains (Fits first) (first_steps first transfer) (copying_step transfer) fit (in_middle (repair_steps (units_due first transfer)) (copying_step transfer) [])
@@ -290,7 +293,7 @@ module _ {least : ℕ} {first : List UnitState} {transfer : Transfer} (began : M
       next units after behind known done reached = by (is_deleted transfer) refl
         where
           by : (deleted : Bool) → is_deleted transfer ≡ deleted → MayDo least after (last_steps transfer)
-          by true deleted = last_may transfer (put_behind least behind known began.put) began.apart deleted done reached removed
+          by true deleted = last_may transfer (put_behind least behind known began.put) began.apart deleted done reached stated states
           by false stays =
               subst (λ (b : Bool). MayDo least after (if b then steps.Delete transfer.from.unit transfer.from.name ∷ [] else [])) (sym stays) (tt {0})
 
@@ -302,10 +305,10 @@ module _ {least : ℕ} {first : List UnitState} {transfer : Transfer} (began : M
 
 -- ---- acts
 
-pub transfer_acts : {least : ℕ} {units : List UnitState} {transfer : Transfer} → MayTransfer least units transfer → AreSound units → AlikeChangesHaveRoom → RemovalsHaveRoom → (acts : Acts)
+pub transfer_acts : {least : ℕ} {units : List UnitState} {transfer : Transfer} → MayTransfer least units transfer → AreSound units → AlikeChangesHaveRoom → StatedVolumesHaveRoom → ChangesStateSpace → (acts : Acts)
     → acts.steps.items ≡ steps_of_transfer units transfer → acts.looked ≡ length (first_steps units transfer) → MayAct least units acts
-transfer_acts {least} {units} {transfer} may sound alike removed acts steps_are looked =
-    may_act acts (first_steps units transfer) (last_steps transfer) steps_are looked least units (looks_may may) (may_transfer_all may sound alike removed)
+transfer_acts {least} {units} {transfer} may sound alike stated states acts steps_are looked =
+    may_act acts (first_steps units transfer) (last_steps transfer) steps_are looked least units (looks_may may) (may_transfer_all may sound alike stated states)
 
 module _ {P : Type 0} (pools : Ghosts P) (session : SessionView P) (transfer : Transfer) where
   pub transfer_ends : (acts : Acts) (before after : List Step) (result : Result (Acted P) (Cut P)) → acts.steps.items ≡ steps_of_transfer session.units transfer

@@ -15,25 +15,25 @@ use Rattle.volume_model.specs.Unit.{UnitModel}
 use Rattle.move_core.specs.declared.steps.Step.{Step}
 use Rattle.move_core.specs.Facts.{Facts}
 use Rattle.move_core.proofs.Running.{run_idle}
-use Rattle.job_steps.specs.unit_session.Sessions.{SessionView}
+use Rattle.job_turns.specs.job_steps.unit_session.Sessions.{SessionView}
 use Rattle.job_lines.specs.declared.message.Message.{Message}
 use Rattle.job_lines.specs.declared.message.Message.TheVariants as messages
 use Rattle.job_lines.specs.Severity.{greatest_code}
-use Rattle.job_steps.specs.declared.cut.Cut.{Cut}
-use Rattle.job_steps.specs.declared.cut.Cut.TheVariants as cuts
+use Rattle.job_turns.specs.job_steps.declared.cut.Cut.{Cut}
+use Rattle.job_turns.specs.job_steps.declared.cut.Cut.TheVariants as cuts
 use Rattle.job_ops.specs.Consolidate.{ConsolidatesSet}
-use Rattle.job_ops.specs.Ends.{Ends}
+use Rattle.job_turns.specs.Ends.{Ends}
 use Rattle.job_ops.specs.Copy.{CopiesSet, CopiesSets, IsCutCopy, request_of}
 use Rattle.job_ops.specs.Meaning.{IsFramed, MeansOnVolumes, MeansWhole, IsCutOnVolumes, verb_of, wish_of}
 use Rattle.job_ops.specs.Release.{ReleasesSet}
 use Rattle.job_ops.specs.Sets.{OverSets, IsCutOverSets}
-use Rattle.job_copies.specs.declared.wish.Wish.{Wish}
+use Rattle.job_turns.specs.job_copies.declared.wish.Wish.{Wish}
 use Rattle.dsn_filter.specs.declared.rename.Rename.{Rename}
-use Rattle.job_ops.specs.Setting.{Setting, setting_of}
-use Rattle.job_ops.specs.Turns.{Action, Turns, AreCutTurns}
+use Rattle.job_turns.specs.Setting.{Setting, setting_of}
+use Rattle.job_turns.specs.Turns.{Action, Turns, AreCutTurns}
 use Rattle.job_ops.proofs.Codes.{code_started}
-use Rattle.job_acts.proofs.Sessions.{no_change}
-use Rattle.job_ops.proofs.SameSessions.{ends_told, told_grows}
+use Rattle.job_turns.proofs.job_acts.Sessions.{no_change}
+use Rattle.job_turns.proofs.SameSessions.{ends_told, told_grows}
 
 -- ---- what may be cut
 

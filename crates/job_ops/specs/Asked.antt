@@ -1,31 +1,28 @@
 -- What the parts of a statement that goes through data sets are asked for and answer: words that link them.
-use Rattle.std.specs.Prelude.{◌≡◌, ◌⊎◌, ◌↔◌, ℕ, ◌<◌, ◌≤◌, true, IsTrue, if◌then◌else◌, List, [], ◌∷◌, ◌++◌, length, All, Contains, Option, Some, None}
+use Rattle.std.specs.Prelude.{◌≡◌, ◌⊎◌, ◌↔◌, ℕ, ◌≤◌, IsTrue, if◌then◌else◌, List, [], ◌∷◌, ◌++◌, length, All, Contains, Option, Some, None}
 use Rattle.ckd_image.specs.Device.{heads_of}
 use Rattle.dsn_filter.specs.declared.dsn.Dsn.{Dsn}
 use Rattle.enq_table.specs.declared.hold.Hold.{Hold}
-use Rattle.vol_label.specs.declared.serial.Serial.{Serial}
 use Rattle.volume_model.specs.Pinned.{IsNameOf, kept_tracks}
 use Rattle.volume_model.specs.Unit.{DataSet, OnlineVolume, UnitModel}
 use Rattle.vtoc_core.specs.declared.volume.Row.{Row}
 use Rattle.vtoc_core.specs.declared.volume.Volume.{Volume}
-use Rattle.job_copies.specs.unit_change.Described.{DescribesSet}
+use Rattle.job_turns.specs.job_copies.unit_change.Described.{DescribesSet}
 use Rattle.unit_load.specs.declared.state.UnitState.{UnitState}
-use Rattle.job_copies.specs.unit_steps.Plans.{IsLoadedAt, HasRow, tracks_in}
+use Rattle.job_turns.specs.job_copies.unit_steps.Plans.{IsLoadedAt, HasRow, tracks_in}
 use Rattle.move_core.specs.Stands.{IsGood}
-use Rattle.job_copies.specs.step_plans.Plans.{IsSound}
+use Rattle.job_turns.specs.job_copies.step_plans.Plans.{IsSound}
 use Rattle.job_ops.specs.declared.asking.Candidate.{Candidate}
 use Rattle.job_ops.specs.declared.task.Task.{Task}
-use Rattle.job_ops.specs.declared.units.UnitUse.{UnitUse}
 use Rattle.job_lines.specs.declared.message.Message.{Message}
 use Rattle.job_lines.specs.declared.message.Message.TheVariants as messages
 use Rattle.job_lines.specs.declared.message.Reason.{Reason}
 use Rattle.job_lines.specs.declared.message.Reason.TheVariants as reasons
 use Rattle.job_ops.specs.Reasons.{IsHeld}
-use Rattle.job_ops.specs.Refusal.{IsUnitOf}
 use Rattle.job_ops.specs.Release.{size_of, keep_of}
 use Rattle.job_ops.specs.Task.{StaysFor}
-use Rattle.job_steps.specs.Units.{IsSet}
-use Rattle.job_acts.specs.Making.{MayBeChanged}
+use Rattle.job_turns.specs.job_steps.Units.{IsSet}
+use Rattle.job_turns.specs.job_acts.Making.{MayBeChanged}
 
 -- a unit whose volume a statement may change, and which has a data set of each of these names
 pub record MayProcess (room : ℕ) (units : List UnitState) (unit : ℕ) (names : List Dsn) : Type 0 where
@@ -47,14 +44,6 @@ pub record IsCandidate (task : Task) (units : List UnitState) (unit : ℕ) (name
   pub few : IsTrue candidate.stays ⊎ (length row.extents ≤ 16)
   pub stays : (set : DataSet) → DescribesSet (heads_of volume.device) row set → (IsTrue candidate.stays ↔ StaysFor task (heads_of volume.device) set)
   pub keep_is : (set : DataSet) → DescribesSet (heads_of volume.device) row set → candidate.keep ≡ kept_tracks (heads_of volume.device) set
-
--- The unit that a statement names: it has a volume, which may be changed if the statement changes it.
-pub record IsUnitFor (count : ℕ) (names : List Serial) (room : ℕ) (units : List UnitState) (named : UnitUse) (unit : ℕ) : Type 0 where
-  pub unit_is : IsUnitOf names named.serial unit
-  pub below : unit < count
-  pub volume : Volume
-  pub loaded : IsLoadedAt units unit volume
-  pub may : named.changes ≡ true → MayBeChanged room units unit
 
 -- ---- a data set that has its turn
 

@@ -7,22 +7,22 @@ use Rattle.volume_model.specs.Unit.{DataSet, OnlineVolume, UnitModel, online}
 use Rattle.vtoc_core.specs.declared.volume.Row.{Row}
 use Rattle.vtoc_core.specs.declared.volume.Volume.{Volume}
 use Rattle.unit_load.specs.declared.state.UnitState.{UnitState}
-use Rattle.unit_load.specs.declared.state.UnitState.TheVariants as states
-use Rattle.job_copies.specs.unit_steps.Plans.{IsLoadedAt, HasRow}
+use Rattle.job_turns.specs.job_copies.unit_steps.Plans.{IsLoadedAt, HasRow}
 use Rattle.move_core.specs.Stands.{IsGood}
-use Rattle.job_copies.specs.step_plans.Plans.{ArePlacesOn, IsClear}
+use Rattle.job_turns.specs.job_copies.step_plans.Plans.{ArePlacesOn, IsClear}
 use Rattle.job_lines.specs.declared.message.Message.{Message}
 use Rattle.job_lines.specs.declared.message.Message.TheVariants as messages
 use Rattle.job_lines.specs.Order.{IsFirst}
-use Rattle.job_copies.specs.Case.{Case, ReplacesSome}
-use Rattle.job_copies.specs.Places.{ArePlacesFor, HasNoPlaces}
-use Rattle.job_copies.specs.Reasons.{PreventsAtFirst, first_reasons}
+use Rattle.job_turns.specs.job_copies.Case.{Case, ReplacesSome}
+use Rattle.job_turns.specs.job_copies.Places.{ArePlacesFor, HasNoPlaces}
+use Rattle.job_turns.specs.job_copies.Reasons.{PreventsAtFirst, first_reasons}
 use Rattle.job_ops.specs.declared.copies.Scene.{Scene}
 use Rattle.job_ops.specs.declared.copies.Judged.{Judged}
 use Rattle.job_ops.specs.declared.copies.Judged.TheVariants as judges
 use Rattle.job_ops.specs.declared.transfer.Transfer.{Transfer}
 use Rattle.job_ops.specs.Transfers.{is_carried}
-use Rattle.job_acts.specs.Making.{MayBeChanged}
+use Rattle.job_turns.specs.job_acts.Making.{MayBeChanged}
+use Rattle.job_turns.specs.Stating.{rebuilt_in}
 use Rattle.job_ops.specs.Copy.{Request, lower_first}
 
 abbrev pub request_in : Scene → Request
@@ -102,13 +102,6 @@ abbrev pub HasGoodTexts : Request → Dsn → Dsn → List UnitModel → Type 0
 HasGoodTexts request name new units = (case : Case) → IsCase request name new units case → All IsGood case.set.texts
 
 -- ---- lines
-
-abbrev pub rebuilt_of : Option UnitState → List Message
-rebuilt_of (Some (states.Online volume)) = if volume.repair then messages.Rebuilt volume.serial ∷ [] else []
-rebuilt_of _ = []
-
-abbrev pub rebuilt_in : List UnitState → ℕ → List Message
-rebuilt_in units unit = rebuilt_of (slice_get units unit)
 
 -- that free space was stated, the lower unit's first
 abbrev pub rebuilt_for : Bool → List UnitState → ℕ → ℕ → List Message

@@ -1,5 +1,5 @@
 -- How a part of a statement ends, and how a statement does.
-use Rattle.std.specs.Prelude.{◌≡◌, ◌⊎◌, List, [], ◌∷◌, ◌++◌, map, take, Option, None, Result, Ok, Err, IfOk, IfErr}
+use Rattle.std.specs.Prelude.{◌≡◌, ◌⊎◌, List, [], ◌∷◌, ◌++◌, map, take, None, Result, Ok, Err}
 use Rattle.by_rules.specs.declared.day.Day.{Day}
 use Rattle.dasd_pool.specs.Count.{Rose}
 use Rattle.dasd_pool.specs.declared.pool.Pool.{Ghosts}
@@ -8,14 +8,12 @@ use Rattle.dump_fmt.specs.Outs.{OutSeen, InSeen, Files, FilesSeen}
 use Rattle.enq_table.specs.declared.hold.Hold.{Hold}
 use Rattle.sysin_lang.specs.declared.command.Command.{Command}
 use Rattle.sysin_lang.specs.declared.command.Command.TheVariants as commands
-use Rattle.volume_model.specs.Unit.{UnitModel}
 use Rattle.move_core.specs.declared.steps.Step.{Step}
 use Rattle.move_core.specs.Facts.{Inputs, shown}
 use Rattle.move_core.specs.Runs.{IsRun}
-use Rattle.job_steps.specs.unit_session.Sessions.{SessionView}
-use Rattle.job_steps.specs.declared.cut.Cut.{Cut}
-use Rattle.job_steps.specs.declared.cut.Cut.TheVariants as cuts
-use Rattle.job_steps.specs.Carried.{pool_left, pending_left, pending_cut, Continues}
+use Rattle.job_turns.specs.job_steps.unit_session.Sessions.{SessionView}
+use Rattle.job_turns.specs.job_steps.declared.cut.Cut.{Cut}
+use Rattle.job_turns.specs.job_steps.declared.cut.Cut.TheVariants as cuts
 use Rattle.job_lines.specs.declared.message.Message.{Message}
 use Rattle.job_lines.specs.declared.message.Message.TheVariants as messages
 use Rattle.job_lines.specs.Severity.{greatest_code}
@@ -23,29 +21,9 @@ use Rattle.job_ops.specs.declared.report.Report.{Report}
 use Rattle.job_ops.specs.declared.outcome.Outcome.{Outcome}
 use Rattle.job_ops.specs.declared.outcome.Outcome.TheVariants as outcomes
 use Rattle.job_ops.specs.Meaning.{verb_of, IsReport, MeansStatement, IsCutCommand}
-use Rattle.job_steps.specs.Units.{ForUnits}
-use Rattle.job_ops.specs.Setting.{setting_for}
-use Rattle.job_ops.specs.Turns.{Action}
-use Rattle.job_acts.specs.Acting.{KeepsFacts}
-
--- a session that is left keeps its facts
-abbrev pub LeavesFacts : {P : Type 0} → Ghosts P → SessionView P → Result (SessionView P) (Cut P) → Type 0
-LeavesFacts pools session (Ok next) = KeepsFacts pools session next
-LeavesFacts pools session (Err (cuts.Short kept)) = KeepsFacts pools session kept
-LeavesFacts pools session (Err (cuts.Halted broken)) = Unit {0}
-
--- What a part of a statement does that goes on from a session: its steps are added to those of the run, and its messages to those of the statement. They are
--- those of an action, or it was cut within them.
-pub record Ends {P : Type 0} (pools : Ghosts P) (Means : Action) (IsCut : List UnitModel → List Step → Option Step → Type 0) (session : SessionView P)
-    (steps_before steps_after : List Step) (messages_before messages_after : List Message) (result : Result (SessionView P) (Cut P)) : Type 0 where
-  pub added : List Step
-  pub said : List Message
-  pub steps_are : steps_after ≡ steps_before ++ added
-  pub messages_are : messages_after ≡ messages_before ++ said
-  pub run : IsRun pools.tells (shown pools session.pool) (shown pools (pool_left result)) (Continues result) added (pending_left result)
-  pub facts : LeavesFacts pools session result
-  pub ended : IfOk result (λ next. ForUnits pools session (λ units. Means units added said))
-  pub cut : IfErr result (λ cut. ForUnits pools session (λ units. IsCut units added (pending_cut cut)))
+use Rattle.job_turns.specs.job_steps.Units.{ForUnits}
+use Rattle.job_turns.specs.Setting.{setting_for}
+use Rattle.job_turns.specs.job_acts.Acting.{KeepsFacts}
 
 -- ---- what only reads
 

@@ -1,9 +1,7 @@
-pub use Rattle.job_steps.specs.unit_session as unit_session
-pub mod Setting
-pub mod Refusal
+pub use Rattle.job_turns.specs as job_turns
+pub use Rattle.job_turns.specs.job_steps.unit_session as unit_session
 pub mod Reasons
 pub mod Task
-pub mod Turns
 pub mod Sets
 pub mod Listing
 pub mod Release

@@ -13,17 +13,17 @@ use Rattle.job_lines.specs.declared.message.Message.{Message}
 use Rattle.job_lines.specs.declared.message.Message.TheVariants as messages
 use Rattle.job_lines.specs.Severity.{greatest_code}
 use Rattle.job_ops.specs.declared.report.Report.{Report}
-use Rattle.job_ops.specs.Setting.{Setting, without_inputs}
+use Rattle.job_turns.specs.Setting.{Setting, without_inputs}
 use Rattle.job_ops.specs.Listing.{Prints}
 use Rattle.job_ops.specs.declared.task.Task.{Task}
 use Rattle.job_ops.specs.declared.task.Task.TheVariants as tasks
 use Rattle.dsn_filter.specs.Rename.{IsRename}
-use Rattle.job_copies.specs.declared.wish.Wish.{Wish}
+use Rattle.job_turns.specs.job_copies.declared.wish.Wish.{Wish}
 use Rattle.job_ops.specs.Consolidate.{ConsolidatesSet}
 use Rattle.job_ops.specs.Copy.{CopiesSets, IsCutCopy}
 use Rattle.job_ops.specs.Release.{ReleasesSet}
 use Rattle.job_ops.specs.Sets.{OverSets, IsCutOverSets}
-use Rattle.job_ops.specs.Turns.{Action}
+use Rattle.job_turns.specs.Turns.{Action}
 
 -- what a copy says beside its filter, its volumes and the new names
 abbrev pub wish_of : Bool → Bool → Bool → Bool → Wish

@@ -1,31 +1,23 @@
 -- Statements that go through the data sets of a volume that a filter takes.
-use Rattle.std.specs.Prelude.{◌≡◌, ◌≢◌, ◌⊎◌, ℕ, true, if◌then◌else◌, List, [], ◌∷◌, map, Contains, Option, Some, None, slice_get}
+use Rattle.std.specs.Prelude.{◌≡◌, ◌≢◌, ◌⊎◌, ℕ, true, List, [], ◌∷◌, map, Contains, Option, Some, None, slice_get}
 use Rattle.dsn_filter.specs.declared.dsn.Dsn.{Dsn}
 use Rattle.vol_label.specs.declared.serial.Serial.{Serial}
 use Rattle.volume_model.specs.Pinned.{IsNameOf}
 use Rattle.volume_model.specs.Unit.{DataSet, OnlineVolume, UnitModel, online}
 use Rattle.sysin_lang.specs.declared.command.Filter.{Filter}
 use Rattle.move_core.specs.declared.steps.Step.{Step}
-use Rattle.move_core.specs.declared.steps.Step.TheVariants.{Repair}
 use Rattle.job_lines.specs.declared.message.Message.{Message}
 use Rattle.job_lines.specs.declared.message.Message.TheVariants as messages
 use Rattle.job_lines.specs.declared.message.Reason.{Reason}
 use Rattle.job_lines.specs.declared.severity.Severity.{Severity}
-use Rattle.job_copies.specs.job_select.Selection.{Selects}
-use Rattle.job_ops.specs.declared.units.UnitUse.{UnitUse}
+use Rattle.job_turns.specs.job_copies.job_select.Selection.{Selects}
+use Rattle.job_turns.specs.declared.units.UnitUse.{UnitUse}
 use Rattle.job_lines.specs.Order.{IsReason, HasNoReason}
-use Rattle.job_ops.specs.Refusal.{IsUnitOf, standing_of, Refuses, Lets}
-use Rattle.job_ops.specs.Setting.{Setting}
-use Rattle.job_ops.specs.Turns.{Action, Turns, AreCutTurns}
+use Rattle.job_turns.specs.Refusal.{IsUnitOf, standing_of, Refuses, Lets}
+use Rattle.job_turns.specs.Setting.{Setting}
+use Rattle.job_turns.specs.Turns.{Action, Turns, AreCutTurns}
 
 -- ---- one data set
-
--- where the free space isn't stated, it is stated before the first change
-abbrev pub repairs : ℕ → OnlineVolume → List Step
-repairs unit volume = if volume.repair then Repair unit ∷ [] else []
-
-abbrev pub rebuilt : OnlineVolume → List Message
-rebuilt volume = if volume.repair then messages.Rebuilt volume.serial ∷ [] else []
 
 -- The turn of a name: its data set has a reason, which is told, or something is done with it.
 pub record TakesTurn (Prevents : OnlineVolume → DataSet → Reason → Type 0) (severity : Reason → Severity) (Does : OnlineVolume → DataSet → List Step → List Message → Type 0)

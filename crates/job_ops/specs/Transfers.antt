@@ -1,16 +1,16 @@
 -- A data set that is copied, and deleted where that is asked: its steps, and when they may be done.
-use Rattle.std.specs.Prelude.{◌≡◌, ◌≢◌, ℕ, ◌==◌, Bool, true, false, not, if◌then◌else◌, List, [], ◌∷◌, ◌++◌, Option, Some, slice_get, Result}
+use Rattle.std.specs.Prelude.{◌≡◌, ◌≢◌, ℕ, ◌==◌, Bool, true, false, not, if◌then◌else◌, List, [], ◌∷◌, ◌++◌, Result}
 use Rattle.dasd_pool.specs.declared.pool.Pool.{Ghosts}
 use Rattle.unit_load.specs.declared.state.UnitState.{UnitState}
-use Rattle.unit_load.specs.declared.state.UnitState.TheVariants as states
 use Rattle.move_core.specs.declared.steps.Step.{Step}
 use Rattle.move_core.specs.declared.steps.Step.TheVariants as steps
-use Rattle.job_steps.specs.unit_session.Sessions.{SessionView}
-use Rattle.job_steps.specs.declared.cut.Cut.{Cut}
-use Rattle.job_acts.specs.declared.acts.Acted.{Acted}
-use Rattle.job_acts.specs.Making.{MayBeChanged, MayPut, put_step}
-use Rattle.job_acts.specs.Acting.{EndsActs}
+use Rattle.job_turns.specs.job_steps.unit_session.Sessions.{SessionView}
+use Rattle.job_turns.specs.job_steps.declared.cut.Cut.{Cut}
+use Rattle.job_turns.specs.job_acts.declared.acts.Acted.{Acted}
+use Rattle.job_turns.specs.job_acts.Making.{MayBeChanged, MayPut, put_step, repair_steps}
+use Rattle.job_turns.specs.job_acts.Acting.{EndsActs}
 use Rattle.job_ops.specs.declared.transfer.Transfer.{Transfer}
+use Rattle.job_turns.specs.Stating.{due}
 use Rattle.job_ops.specs.Copy.{lower_first}
 
 -- ---- its steps
@@ -29,27 +29,11 @@ copying_step transfer =
     if is_carried transfer then steps.Carry transfer.from.unit transfer.from.name transfer.to.unit transfer.to.name transfer.runs transfer.replaced
     else put_step transfer.from.unit transfer.from.name transfer.to.unit transfer.to.name transfer.runs transfer.replaced
 
--- the free space of a unit's volume isn't stated
-abbrev pub says_unstated : Option UnitState → Bool
-says_unstated (Some (states.Online volume)) = volume.repair
-says_unstated _ = false
-
-abbrev pub is_unstated : List UnitState → ℕ → Bool
-is_unstated units unit = says_unstated (slice_get units unit)
-
--- and is to be
-abbrev pub due : List UnitState → ℕ → List ℕ
-due units unit = if is_unstated units unit then unit ∷ [] else []
-
 -- the units whose volumes are changed and whose free space is to be stated before, the lower one first
 abbrev pub units_due : List UnitState → Transfer → List ℕ
 units_due units transfer =
     if is_carried transfer then lower_first transfer.from.unit transfer.to.unit (due units transfer.from.unit) (due units transfer.to.unit)
     else due units transfer.to.unit
-
-abbrev pub repair_steps : List ℕ → List Step
-repair_steps [] = []
-repair_steps (unit ∷ units) = steps.Repair unit ∷ repair_steps units
 
 -- the repairs, and the step that puts the copy: there has to be room for each of them
 abbrev pub first_steps : List UnitState → Transfer → List Step

@@ -4,27 +4,28 @@ ghost use Rattle.std.specs.Prelude.{◌<◌, ◌∷◌, [], IsTrue, IfOk, IfSome
 ghost use Rattle.volume_model.specs.Unit.{DataSet, OnlineVolume};
 ghost use Rattle.vtoc_core.specs.declared.volume.Row.{Row as RowOf};
 ghost use Rattle.vtoc_core.specs.declared.volume.Volume.{Volume as VolumeOf};
-ghost use Rattle.job_copies.specs.unit_steps.Plans.{IsLoadedAt, HasRow};
-ghost use Rattle.job_copies.specs.step_plans.Plans.{IsPlaceOn};
+ghost use Rattle.job_turns.specs.job_copies.unit_steps.Plans.{IsLoadedAt, HasRow};
+ghost use Rattle.job_turns.specs.job_copies.step_plans.Plans.{IsPlaceOn};
 ghost use Rattle.job_ops.specs.declared.task.Task.TheVariants as tasks;
 ghost use Rattle.job_ops.specs.Asked.{MayProcess, IsCandidate, IsSeen, IsReasonBefore};
 ghost use Rattle.job_ops.specs.Consolidate.{ConsolidatesSet, IsPlaceOf, LacksPlace};
-ghost use Rattle.job_steps.specs.Units.{ForUnits, IsSet};
-ghost use Rattle.job_ops.specs.Ends.{Ends};
+ghost use Rattle.job_turns.specs.job_steps.Units.{ForUnits, IsSet};
+ghost use Rattle.job_turns.specs.Ends.{Ends};
 ghost use Rattle.job_ops.specs.Reshaping.{StaysChangeable};
-ghost use Rattle.job_ops.specs.Turns.{IsCutAction};
+ghost use Rattle.job_turns.specs.Turns.{IsCutAction};
 
 use crate::asking::{Candidate, Scene};
-use crate::log::{Log, refuse, say_done};
+use crate::log::{refuse, say_done};
 use crate::reshaping::{Layout, Reshape};
 use crate::task::Task;
 use dasd_pool::Pool;
 use dsn_filter::Dsn;
 use free_map::Run;
-use job_acts::Acted;
 use job_lines::{Message, Reason};
-use job_steps::Cut;
-use job_steps::unit_session::Session;
+use job_turns::Log;
+use job_turns::job_acts::Acted;
+use job_turns::job_steps::Cut;
+use job_turns::job_steps::unit_session::Session;
 use plan_core::next_consolidate;
 use std::alloc::Global;
 

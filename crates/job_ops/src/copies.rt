@@ -8,37 +8,36 @@ ghost use Rattle.redo_core.specs.Reading.{journal_of};
 ghost use Rattle.volume_model.specs.Pinned.{IsNameOf};
 ghost use Rattle.volume_model.specs.Unit.{OnlineVolume, online};
 ghost use Rattle.vtoc_core.specs.declared.volume.Row.{Row as RowOf};
-ghost use Rattle.job_copies.specs.unit_steps.Plans.{IsLoadedAt, HasRow};
+ghost use Rattle.job_turns.specs.job_copies.unit_steps.Plans.{IsLoadedAt, HasRow};
 ghost use Rattle.vtoc_core.specs.declared.volume.Volume.{Volume as VolumeOf};
 ghost use Rattle.job_lines.specs.declared.message.Message.{Message as MessageOf};
-ghost use Rattle.job_copies.specs.job_select.Selection.{Selects};
-ghost use Rattle.job_steps.specs.declared.cut.Cut.TheVariants as cuts;
+ghost use Rattle.job_turns.specs.job_copies.job_select.Selection.{Selects};
+ghost use Rattle.job_turns.specs.job_steps.declared.cut.Cut.TheVariants as cuts;
 ghost use Rattle.job_ops.specs.Transfers.{is_carried, MayTransfer};
 ghost use Rattle.job_ops.specs.Copy.{CopiesSet, CopiesSets, IsCutCopy, IsNewName};
 ghost use Rattle.job_ops.specs.Copying as spec;
 ghost use Rattle.job_ops.specs.Copying.{request_in, MayBeCopied, StaysCopyable, GoesSoFar, IsJudged, MayStandAs};
-ghost use Rattle.job_steps.specs.Units.{facts_of, ForUnits};
-ghost use Rattle.job_ops.specs.Ends.{Ends};
-ghost use Rattle.job_ops.specs.Setting.{setting_of};
-ghost use Rattle.job_ops.specs.Turns.{Turns, AreCutTurns, IsCutAction};
+ghost use Rattle.job_turns.specs.job_steps.Units.{facts_of, ForUnits};
+ghost use Rattle.job_turns.specs.Ends.{Ends};
+ghost use Rattle.job_turns.specs.Setting.{setting_of};
+ghost use Rattle.job_turns.specs.Turns.{Turns, AreCutTurns, IsCutAction};
 
-use crate::log::{Log, say};
 use crate::transfer::Transfer;
-use crate::units::{UnitUse, units_for};
 use by_rules::Day;
 use ckd_image::NoMemory;
 use dasd_pool::Pool;
 use dsn_filter::{Dsn, Rename};
 use enq_table::Held;
 use free_map::{Runs, choice_laws, run_laws};
-use job_acts::Acted;
-use job_copies::job_select::select;
-use job_copies::step_plans::SetAt;
-use job_copies::step_room::room_laws;
-use job_copies::{Copying, Wish};
 use job_lines::{Message, Reason, Severity};
-use job_steps::Cut;
-use job_steps::unit_session::Session;
+use job_turns::job_acts::Acted;
+use job_turns::job_copies::job_select::select;
+use job_turns::job_copies::step_plans::SetAt;
+use job_turns::job_copies::step_room::room_laws;
+use job_turns::job_copies::{Copying, Wish};
+use job_turns::job_steps::Cut;
+use job_turns::job_steps::unit_session::Session;
+use job_turns::{Log, UnitUse, push_rebuilt, say, say_all, taken, units_for};
 use std::alloc::Global;
 use sysin_lang::Filter;
 use unit_load::{UnitFault, UnitState};
@@ -125,23 +124,6 @@ fn not_copied<P: Pool>(
     say(session, &mut log.messages, message)
 }
 
-/// Adds that the free space of a unit's volume was stated, where it isn't before.
-fn push_rebuilt<P: Pool>(
-    session: &Session<P>,
-    unit: u32,
-    said: &mut Vec<Message>,
-) -> Result<(), NoMemory>
-    requires { unit < journal_of (P.shape session.now.pool) }
-    ensures { OnOk result (said.new.items ≡ said.old.items ++ spec.rebuilt_in session.now.units unit) }
-{
-    match session.unit(unit) {
-        UnitState::Online(volume) if volume.repair => {
-            Ok(said.push(Message::Rebuilt(volume.serial))?)
-        }
-        _ => Ok(()),
-    }
-}
-
 /// Adds that the free space of the volumes was stated that are changed, the lower unit's first.
 fn push_all_rebuilt<P: Pool>(
     session: &Session<P>,
@@ -191,24 +173,6 @@ fn lines<P: Pool>(
         said.push(Message::Deleted(text))?;
     }
     Ok(said)
-}
-
-/// Says all of it.
-fn say_all<P: Pool>(
-    session: Session<P>,
-    messages: &[Message],
-    log: &mut Log,
-) -> Result<Session<P>, Cut<P>>
-    ensures steps { log.new.steps ≡ log.old.steps }
-    ensures said { IfOk result (λ next. (next ≡ session) × (log.new.messages.items ≡ log.old.messages.items ++ messages.now)) }
-    ensures short { IfErr result (λ cut. cut ≡ cuts.Short session) }
-    ensures grows { (said : List MessageOf) × (log.new.messages.items ≡ log.old.messages.items ++ said) }
-{
-    let mut session = session;
-    for message in messages {
-        session = say(session, &mut log.messages, *message)?;
-    }
-    Ok(session)
 }
 
 /// Puts the copy of a data set that nothing prevents but want of room in a VTOC.
@@ -382,24 +346,6 @@ fn are_alike<P: Pool>(session: &Session<P>, from: u32, to: u32) -> bool
     let source = session.volume(from);
     let target = session.volume(to);
     target.device == source.device
-}
-
-/// The names that a filter takes of a unit's volume.
-fn taken<P: Pool>(
-    alloc: Global,
-    session: &Session<P>,
-    unit: u32,
-    filter: &Filter,
-    today: Day,
-) -> Result<Vec<Dsn>, NoMemory>
-    requires online { (volume : VolumeOf) × IsLoadedAt session.now.units unit volume }
-    requires today { IsToday today }
-    ensures taken { IfOk result (λ names. ForUnits P.Pool session.now (λ units. (volume : OnlineVolume) → slice_get units unit ≡ Some (online volume) → Selects filter.now today volume.sets names.items)) }
-    ensures there { IfOk result (λ names. (volume : VolumeOf) → IsLoadedAt session.now.units unit volume → All (λ name. (row : RowOf) × HasRow volume name row) names.items) }
-    ensures apart { IfOk result (λ names. AllPairs (λ name other. name ≢ other) names.items) }
-{
-    session.stands();
-    select(alloc, session.volume(unit), filter, today)
 }
 
 /// Copies each data set that the filter takes.

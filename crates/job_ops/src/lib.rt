@@ -14,12 +14,12 @@ mod sets;
 mod statement;
 mod task;
 mod transfer;
-mod units;
 
-pub use job_copies::job_select::select;
 pub use job_lines::{Message, Reason, Severity, line_of};
-pub use job_steps::unit_session;
+pub use job_turns;
+pub use job_turns::UnitUse;
+pub use job_turns::job_copies::job_select::select;
+pub use job_turns::job_steps::unit_session;
 pub use outcome::Outcome;
 pub use report::{Messages, Report};
 pub use statement::{is_built, run_statement, verb_of};
-pub use units::UnitUse;

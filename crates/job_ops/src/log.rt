@@ -1,8 +1,8 @@
-//! What a statement did and said so far.
+//! What a statement says of a data set.
 
 ghost use Rattle.std.specs.Prelude.{◌≡◌, ◌∷◌, ◌++◌, [], List, IfOk, IfErr};
 ghost use Rattle.job_lines.specs.declared.message.Message.{Message as MessageOf};
-ghost use Rattle.job_steps.specs.declared.cut.Cut.TheVariants as cuts;
+ghost use Rattle.job_turns.specs.job_steps.declared.cut.Cut.TheVariants as cuts;
 ghost use Rattle.job_ops.specs.Asked.{said_of};
 ghost use Rattle.job_ops.specs.Task.{severity_for};
 
@@ -10,31 +10,9 @@ use crate::asking::Candidate;
 use crate::task::Task;
 use dasd_pool::Pool;
 use job_lines::{Message, Reason};
-use job_steps::Cut;
-use job_steps::unit_session::Session;
-use move_core::Step;
-
-/// The steps of the run, and the messages of the statement.
-#[derive(Drop)]
-pub(crate) struct Log {
-    pub steps: Vec<Step>,
-    pub messages: Vec<Message>,
-}
-
-/// Adds a message.
-pub(crate) fn say<P: Pool>(
-    session: Session<P>,
-    messages: &mut Vec<Message>,
-    message: Message,
-) -> Result<Session<P>, Cut<P>>
-    ensures said { IfOk result (λ next. (next ≡ session) × (messages.new.items ≡ messages.old.items ++ (message ∷ []))) }
-    ensures short { IfErr result (λ cut. (cut ≡ cuts.Short session) × (messages.new.items ≡ messages.old.items)) }
-{
-    match messages.push(message) {
-        Ok(()) => Ok(session),
-        Err(_) => Err(Cut::Short(session)),
-    }
-}
+use job_turns::job_steps::Cut;
+use job_turns::job_steps::unit_session::Session;
+use job_turns::{Log, say};
 
 /// Says that a data set isn't processed.
 pub(crate) fn refuse<P: Pool>(

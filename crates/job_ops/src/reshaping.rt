@@ -7,10 +7,10 @@ use ckd_image::{Listed, NoMemory};
 use dasd_pool::Pool;
 use dsn_filter::Dsn;
 use free_map::{Run, Runs};
-use job_acts::{Acted, Acts};
-use job_copies::step_room::room_laws;
-use job_steps::Cut;
-use job_steps::unit_session::Session;
+use job_turns::job_acts::{Acted, Acts};
+use job_turns::job_copies::step_room::room_laws;
+use job_turns::job_steps::Cut;
+use job_turns::job_steps::unit_session::Session;
 use move_core::Step;
 use std::alloc::Global;
 

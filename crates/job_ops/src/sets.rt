@@ -5,32 +5,32 @@ ghost use Rattle.by_rules.specs.Day.{IsToday};
 ghost use Rattle.volume_model.specs.Unit.{OnlineVolume, online};
 ghost use Rattle.vtoc_core.specs.declared.volume.Row.{Row as RowOf};
 ghost use Rattle.vtoc_core.specs.declared.volume.Volume.{Volume as VolumeOf};
-ghost use Rattle.job_copies.specs.unit_steps.Plans.{IsLoadedAt, HasRow};
-ghost use Rattle.job_copies.specs.job_select.Selection.{Selects};
+ghost use Rattle.job_turns.specs.job_copies.unit_steps.Plans.{IsLoadedAt, HasRow};
+ghost use Rattle.job_turns.specs.job_copies.job_select.Selection.{Selects};
 ghost use Rattle.job_ops.specs.Asked.{MayProcess};
-ghost use Rattle.job_steps.specs.Units.{facts_of, ForUnits};
-ghost use Rattle.job_ops.specs.Ends.{Ends};
+ghost use Rattle.job_turns.specs.job_steps.Units.{facts_of, ForUnits};
+ghost use Rattle.job_turns.specs.Ends.{Ends};
 ghost use Rattle.job_ops.specs.Meaning.{TurnOf};
 ghost use Rattle.job_ops.specs.Reshaping.{StaysChangeable};
 ghost use Rattle.job_ops.specs.Sets.{OverSets, IsCutOverSets};
-ghost use Rattle.job_ops.specs.Setting.{setting_of};
-ghost use Rattle.job_ops.specs.Turns.{Turns, AreCutTurns, IsCutAction};
+ghost use Rattle.job_turns.specs.Setting.{setting_of};
+ghost use Rattle.job_turns.specs.Turns.{Turns, AreCutTurns, IsCutAction};
 
 use crate::asking::{Scene, look_up, reason_before};
 use crate::consolidate::join;
-use crate::log::{Log, refuse, say};
+use crate::log::refuse;
 use crate::release::give_back;
 use crate::task::Task;
-use crate::units::{UnitUse, unit_for};
 use by_rules::Day;
 use ckd_image::NoMemory;
 use dasd_pool::Pool;
 use dsn_filter::Dsn;
 use enq_table::Held;
-use job_copies::job_select::select;
 use job_lines::Message;
-use job_steps::Cut;
-use job_steps::unit_session::Session;
+use job_turns::job_copies::job_select::select;
+use job_turns::job_steps::Cut;
+use job_turns::job_steps::unit_session::Session;
+use job_turns::{Log, UnitUse, say, taken, unit_for};
 use std::alloc::Global;
 use sysin_lang::Filter;
 use unit_load::UnitFault;
@@ -91,23 +91,6 @@ fn take_turns<P: Pool>(
         session = take_turn(alloc, session, scene, task, name, log)?;
     }
     Ok(session)
-}
-
-/// The names that a filter takes of a unit's volume.
-fn taken<P: Pool>(
-    alloc: Global,
-    session: &Session<P>,
-    unit: u32,
-    filter: &Filter,
-    today: Day,
-) -> Result<Vec<Dsn>, NoMemory>
-    requires online { (volume : VolumeOf) × IsLoadedAt session.now.units unit volume }
-    requires today { IsToday today }
-    ensures taken { IfOk result (λ names. ForUnits P.Pool session.now (λ units. (volume : OnlineVolume) → slice_get units unit ≡ Some (online volume) → Selects filter.now today volume.sets names.items)) }
-    ensures there { IfOk result (λ names. (volume : VolumeOf) → IsLoadedAt session.now.units unit volume → All (λ name. (row : RowOf) × HasRow volume name row) names.items) }
-{
-    session.stands();
-    select(alloc, session.volume(unit), filter, today)
 }
 
 /// Does what is to be done with each data set that the filter takes.

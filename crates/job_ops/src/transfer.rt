@@ -3,16 +3,19 @@
 ghost use Rattle.std.specs.Prelude.{◌≡◌, ◌<◌, ◌++◌, length, IfOk, OnOk};
 ghost use Rattle.redo_core.specs.Reading.{journal_of};
 ghost use Rattle.job_ops.specs.Transfers as spec;
-ghost use Rattle.job_ops.specs.Transfers.{copying_step, due, units_due, repair_steps, first_steps, steps_of_transfer, MayTransfer, EndsTransfer};
+ghost use Rattle.job_ops.specs.Transfers.{copying_step, units_due, first_steps, steps_of_transfer, MayTransfer, EndsTransfer};
+ghost use Rattle.job_turns.specs.Stating.{due};
+ghost use Rattle.job_turns.specs.job_acts.Making.{repair_steps};
 
 use ckd_image::NoMemory;
 use dasd_pool::Pool;
 use free_map::Runs;
-use job_acts::{Acted, Acts, same_runs};
-use job_copies::step_plans::SetAt;
-use job_copies::step_room::room_laws;
-use job_steps::Cut;
-use job_steps::unit_session::Session;
+use job_turns::job_acts::{Acted, Acts, same_runs};
+use job_turns::job_copies::step_plans::SetAt;
+use job_turns::job_copies::step_room::room_laws;
+use job_turns::job_steps::Cut;
+use job_turns::job_steps::unit_session::Session;
+use job_turns::push_repair;
 use move_core::{Origin, Step};
 use std::alloc::Global;
 use unit_load::UnitState;
@@ -25,21 +28,6 @@ pub(crate) struct Transfer {
     pub runs: Runs,
     pub replaced: bool,
     pub delete: bool,
-}
-
-/// Adds the repair of a unit's volume, if its free space isn't stated.
-fn push_repair<P: Pool>(
-    session: &Session<P>,
-    unit: u32,
-    steps: &mut Vec<Step>,
-) -> Result<(), NoMemory>
-    requires { unit < journal_of (P.shape session.now.pool) }
-    ensures { OnOk result (steps.new.items ≡ steps.old.items ++ repair_steps (due session.now.units unit)) }
-{
-    match session.unit(unit) {
-        UnitState::Online(volume) if volume.repair => Ok(steps.push(Step::Repair { unit })?),
-        _ => Ok(()),
-    }
 }
 
 impl Transfer {

@@ -27,9 +27,9 @@ use Rattle.sysin_lang.specs.declared.command.Statement.{Statement}
 use Rattle.sysin_lang.specs.Flow.{Codes, Plan, Command, End, zero_codes, next_of, answered, Leaves}
 use Rattle.job_ops.specs.unit_session.Sessions.{SessionView}
 use Rattle.job_ops.specs.declared.report.Report.{Report}
-use Rattle.job_acts.specs.Acting.{KeepsFacts}
-use Rattle.job_steps.specs.Units.{facts_for, facts_of, ForUnits}
-use Rattle.job_ops.specs.Setting.{Setting, setting_for}
+use Rattle.job_ops.specs.job_turns.job_acts.Acting.{KeepsFacts}
+use Rattle.job_ops.specs.job_turns.job_steps.Units.{facts_for, facts_of, ForUnits}
+use Rattle.job_ops.specs.job_turns.Setting.{Setting, setting_for}
 use Rattle.job_script.specs.declared.left.Left.{Left}
 use Rattle.job_script.specs.declared.run.Between.{Between}
 use Rattle.job_script.specs.Built.{AreBuilt}

@@ -22,11 +22,11 @@ use Rattle.run_lines.proofs.Appending.{appends_none}
 use Rattle.sysin_lang.specs.declared.command.Statement.{Statement}
 use Rattle.job_ops.specs.unit_session.Sessions.{SessionView}
 use Rattle.job_ops.specs.declared.report.Report.{Report}
-use Rattle.job_acts.specs.Acting.{KeepsFacts}
-use Rattle.job_steps.specs.Units.{facts_for, ForUnits}
+use Rattle.job_ops.specs.job_turns.job_acts.Acting.{KeepsFacts}
+use Rattle.job_ops.specs.job_turns.job_steps.Units.{facts_for, ForUnits}
 use Rattle.job_ops.specs.Ends.{OnlyReads}
 use Rattle.job_ops.specs.Meaning.{IsReport, MeansStatement, IsCutCommand}
-use Rattle.job_ops.specs.Setting.{setting_for}
+use Rattle.job_ops.specs.job_turns.Setting.{setting_for}
 use Rattle.job_script.specs.declared.left.Left.{Left}
 use Rattle.job_script.specs.declared.run.Between.{Between}
 use Rattle.job_script.specs.Ends.{After, after_of, SinkSeen, Prints, LeavesAfter}

@@ -5,7 +5,7 @@ use Rattle.std.proofs.lemmas.Grind.{flat_map-append}
 use Rattle.volume_model.specs.Unit.{UnitModel}
 use Rattle.sysin_lang.specs.declared.command.Statement.{Statement}
 use Rattle.sysin_lang.specs.Flow.{Codes, Plan, Command, next_of, answered, Leaves}
-use Rattle.job_ops.specs.Setting.{Setting}
+use Rattle.job_ops.specs.job_turns.Setting.{Setting}
 use Rattle.dump_fmt.specs.Outs.{Files}
 use Rattle.job_script.specs.Runs.{Ran, steps_of, lines_of, lines_in, answers_of, Follow, HandOn}
 

@@ -11,9 +11,9 @@ use Rattle.move_core.specs.Runs.{IsRun}
 use Rattle.sysin_lang.specs.declared.command.Statement.{Statement}
 use Rattle.sysin_lang.specs.Flow.{Plan}
 use Rattle.job_ops.specs.unit_session.Sessions.{SessionView}
-use Rattle.job_steps.specs.Units.{ForUnits}
+use Rattle.job_ops.specs.job_turns.job_steps.Units.{ForUnits}
 use Rattle.dump_fmt.specs.Outs.{FilesSeen}
-use Rattle.job_ops.specs.Setting.{setting_for}
+use Rattle.job_ops.specs.job_turns.Setting.{setting_for}
 use Rattle.run_lines.specs.declared.ending.RunEnd.{RunEnd}
 use Rattle.run_lines.specs.declared.ending.RunEnd.TheVariants as ends
 use Rattle.run_lines.specs.Texts.{AppendsLess}

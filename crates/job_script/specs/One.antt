@@ -13,11 +13,11 @@ use Rattle.move_core.specs.Runs.{IsRun}
 use Rattle.sysin_lang.specs.declared.command.Statement.{Statement}
 use Rattle.job_ops.specs.unit_session.Sessions.{SessionView}
 use Rattle.job_ops.specs.declared.report.Report.{Report}
-use Rattle.job_acts.specs.Acting.{KeepsFacts}
-use Rattle.job_steps.specs.Units.{ForUnits}
+use Rattle.job_ops.specs.job_turns.job_acts.Acting.{KeepsFacts}
+use Rattle.job_ops.specs.job_turns.job_steps.Units.{ForUnits}
 use Rattle.job_ops.specs.Ends.{OnlyReads}
 use Rattle.job_ops.specs.Meaning.{IsReport, MeansStatement}
-use Rattle.job_ops.specs.Setting.{setting_for}
+use Rattle.job_ops.specs.job_turns.Setting.{setting_for}
 use Rattle.run_lines.specs.declared.ending.RunEnd.{RunEnd}
 use Rattle.run_lines.specs.declared.ending.RunEnd.TheVariants as ends
 use Rattle.run_lines.specs.Texts.{AppendsLess}

@@ -13,7 +13,7 @@ use Rattle.job_lines.specs.Lines.{line}
 use Rattle.job_ops.specs.declared.report.Report.{Report}
 use Rattle.job_ops.specs.Ends.{OnlyReads}
 use Rattle.job_ops.specs.Meaning.{verb_of, CallsNoFile, IsReport, MeansStatement, IsCutCommand}
-use Rattle.job_ops.specs.Setting.{Setting}
+use Rattle.job_ops.specs.job_turns.Setting.{Setting}
 use Rattle.run_lines.specs.declared.ending.RunEnd.{RunEnd}
 use Rattle.run_lines.specs.declared.ending.RunEnd.TheVariants as ends
 use Rattle.run_lines.specs.Endings.{last_line}

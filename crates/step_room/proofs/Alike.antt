@@ -89,7 +89,7 @@ runs_alike heads (Swap name row) (Swap other like) alike = one_run_list heads ro
 runs_alike heads (Remove name) (Remove other) alike = refl
 runs_alike heads _ _ alike = absurd alike
 
-as_many : (heads : ℕ) (row like : Row) → extents_of heads like ≡ extents_of heads row → length row.extents ≡ length like.extents
+pub as_many : (heads : ℕ) (row like : Row) → extents_of heads like ≡ extents_of heads row → length row.extents ≡ length like.extents
 as_many heads row like extents = omega (
   arith,
   ap length extents,

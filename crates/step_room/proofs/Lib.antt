@@ -6,4 +6,4 @@ mod Rooms
 mod Alike
 pub mod Repairs
 mod RunCounts
-mod Removals
+mod Stated

@@ -19,9 +19,9 @@ use Rattle.step_room.specs.Room.{LacksRoom, RepairsKeepRoom, RepairsKeepRoomForE
 use Rattle.step_room.proofs.Counts.{next_counted}
 use Rattle.step_room.proofs.Alike.{one_use, no_marks_alike, alike_use}
 
--- ---- a change of a repaired volume
+-- ---- a repaired volume
 
-module _ {loaded repaired new : Volume} {change : Change} (repair : IsChanged loaded Repair repaired) (changed : IsChanged repaired change new) where
+module _ {loaded repaired : Volume} (repair : IsChanged loaded Repair repaired) where
   nothing_gone : runs_of_rows loaded repair.gone ≡ []
   nothing_gone = ap (runs_of_rows loaded) repair.rows_are.0
 
@@ -33,26 +33,29 @@ module _ {loaded repaired new : Volume} {change : Change} (repair : IsChanged lo
       subst (λ (runs : List Run). AreMaximalRuns (IsFreeAfter loaded.free [] runs) repaired.free.runs) nothing_put
       (subst (λ (runs : List Run). AreMaximalRuns (IsFreeAfter loaded.free runs (runs_of_rows loaded repair.put)) repaired.free.runs) nothing_gone repair.free_are)
 
-  free_to : (track : ℕ) → IsFree loaded.free track → IsFree repaired.free track
+  pub free_to : (track : ℕ) → IsFree loaded.free track → IsFree repaired.free track
   free_to track free = (stated.exact track).0 (inl free, λ none. none)
 
-  free_from : (track : ℕ) → IsFree repaired.free track → IsFree loaded.free track
+  pub free_from : (track : ℕ) → IsFree repaired.free track → IsFree loaded.free track
   free_from track free = by ((stated.exact track).1 free).0
     where
       by : (IsFree loaded.free track ⊎ InRuns [] track) → IsFree loaded.free track
       by (inl stays) = stays
       by (inr none) = absurd none
 
+-- ---- a change of it
+
+module _ {loaded repaired new : Volume} {change : Change} (repair : IsChanged loaded Repair repaired) (changed : IsChanged repaired change new) where
   -- whether tracks are given back and taken from the one or the other
   free_same : (gone put : List Run) (runs : List Run) → AreMaximalRuns (IsFreeAfter repaired.free gone put) runs → AreMaximalRuns (IsFreeAfter loaded.free gone put) runs
   free_same gone put runs are = record { apart = are.apart; exact = λ track. (λ h. (are.exact track).0 (to track h.0, h.1), λ h. back track ((are.exact track).1 h)) }
     where
       to : (track : ℕ) → (IsFree loaded.free track ⊎ InRuns gone track) → IsFree repaired.free track ⊎ InRuns gone track
-      to track (inl free) = inl (free_to track free)
+      to track (inl free) = inl (free_to repair track free)
       to track (inr given) = inr given
 
       from : (track : ℕ) → (IsFree repaired.free track ⊎ InRuns gone track) → IsFree loaded.free track ⊎ InRuns gone track
-      from track (inl free) = inl (free_from track free)
+      from track (inl free) = inl (free_from repair track free)
       from track (inr given) = inr given
 
       back : (track : ℕ) → IsFreeAfter repaired.free gone put track → IsFreeAfter loaded.free gone put track

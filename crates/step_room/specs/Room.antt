@@ -4,7 +4,7 @@ use Rattle.std.specs.Prelude.{All}
 use Rattle.ckd_image.specs.Device.{heads_of}
 use Rattle.dsn_filter.specs.declared.dsn.Dsn.{Dsn}
 use Rattle.volume_model.specs.Changed.{ChangesSets, IsFull}
-use Rattle.volume_model.specs.Unit.{Text, DataSet, OnlineVolume, fives_for}
+use Rattle.volume_model.specs.Unit.{Text, DataSet, OnlineVolume}
 use Rattle.vtoc_core.specs.declared.volume.Row.{Row}
 use Rattle.vtoc_core.specs.declared.volume.Volume.{Volume}
 use Rattle.volume_change.specs.declared.change.Change.{Change}
@@ -72,8 +72,14 @@ AlikeChangesHaveRoom =
     (loaded later next : Volume) (change like : Change)
     → IsSound loaded → IsAsBefore loaded later → IsNext loaded change next → AreAlike (heads_of loaded.device) change like → ¬ LacksRoom later like
 
--- A data set of at most 16 extents that is taken away leaves room, where the format 5s of the volume are those that its free runs need.
-abbrev pub RemovalsHaveRoom : Type 0
-RemovalsHaveRoom =
-    (loaded : Volume) (name : Dsn) (row : Row)
-    → IsSound loaded → loaded.fives ≡ fives_for (length loaded.free.runs) → HasRow loaded name row → length row.extents ≤ 16 → ¬ LacksRoom loaded (Remove name)
+-- Where the free space of a volume can be stated, there is room for a data set of at most 16 extents to be taken away, and to be put in its own place again.
+abbrev pub StatedVolumesHaveRoom : Type 0
+StatedVolumesHaveRoom =
+    (loaded stated : Volume) (name : Dsn) (row : Row)
+    → IsSound loaded → IsNext loaded Repair stated → HasRow loaded name row → length row.extents ≤ 16
+    → (¬ LacksRoom loaded (Remove name))
+    × ((like : Row) → like.name ≡ row.name → extents_of (heads_of loaded.device) like ≡ extents_of (heads_of loaded.device) row → ¬ LacksRoom loaded (Swap name like))
+
+-- It can be where a change stated it.
+abbrev pub ChangesStateSpace : Type 0
+ChangesStateSpace = (loaded next : Volume) (change : Change) → change ≢ Mark → IsNext loaded change next → IsNext next Repair next

@@ -3,8 +3,9 @@ use Rattle.std.proofs.lemmas.List.{drop_all}
 use Rattle.std.proofs.lemmas.Result.{err_from_is_err_and}
 use Rattle.dsn_filter.specs.declared.dsn.Dsn.{Dsn}
 use Rattle.job_ops.specs.Meaning.{TurnOf}
-use Rattle.job_ops.proofs.OneTurn.{may_one, may_later, first_left}
-use Rattle.job_ops.proofs.Turning.{leads_begin, leads_more, leads_cut, leads_end}
+use Rattle.job_ops.proofs.OneTurn.{may_one, may_later}
+use Rattle.job_turns.proofs.Names.{first_left}
+use Rattle.job_turns.proofs.Turning.{leads_begin, leads_more, leads_cut, leads_end}
 use Rattle.job_ops.proofs.sets.take_turns.Goals as goal
 
 abbrev no_name : Dsn

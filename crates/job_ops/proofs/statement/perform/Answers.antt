@@ -2,10 +2,11 @@ use Rattle.std.proofs.Common.{[], Ok, Err, refl, sym, subst}
 use Rattle.std.proofs.lemmas.List.{append-nil}
 use Rattle.sysin_lang.specs.declared.command.Command.{Command}
 use Rattle.move_core.proofs.Running.{run_idle}
-use Rattle.job_steps.specs.declared.cut.Cut.TheVariants as cuts
-use Rattle.job_ops.specs.Ends.{Ends, OnlyReads}
+use Rattle.job_turns.specs.job_steps.declared.cut.Cut.TheVariants as cuts
+use Rattle.job_turns.specs.Ends.{Ends}
+use Rattle.job_ops.specs.Ends.{OnlyReads}
 use Rattle.job_ops.specs.Meaning.{MeansOnVolumes, IsCutOnVolumes}
-use Rattle.job_ops.specs.Setting.{setting_of}
+use Rattle.job_turns.specs.Setting.{setting_of}
 use Rattle.job_ops.proofs.statement.perform.Goals as goal
 
 pub returns-in-Ok-clause-ends : goal.returns-in-Ok-clause-ends

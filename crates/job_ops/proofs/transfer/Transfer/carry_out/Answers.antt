@@ -1,11 +1,11 @@
-use Rattle.job_ops.proofs.LoadedUnits.{known_units}
+use Rattle.job_turns.proofs.LoadedUnits.{known_units}
 use Rattle.job_ops.proofs.Transferring.{transfer_acts, transfer_ends, transfer_short}
 use Rattle.job_ops.proofs.transfer.Transfer.carry_out.Goals as goal
 
 pub carry_out-requires : goal.carry_out-requires
 carry_out-requires g c =
     let known = known_units g.P.Pool c.args.session c.stands.ensures.kept c.stands.ensures.models in
-    transfer_acts c.requires.may known.sound c.room_laws.ensures.alike c.room_laws.ensures.removed c.in-Ok.acts c.in-Ok.ensures.steps c.in-Ok.ensures.looked
+    transfer_acts c.requires.may known.sound c.room_laws.ensures.alike c.room_laws.ensures.stated c.room_laws.ensures.states c.in-Ok.acts c.in-Ok.ensures.steps c.in-Ok.ensures.looked
 
 pub returns-in-Ok : goal.returns-in-Ok
 returns-in-Ok g c =
