@@ -1,5 +1,5 @@
 mod Fronts
-mod Looks
+pub mod Looks
 mod Slots
 mod TextsPut
 mod Judged
@@ -10,3 +10,4 @@ mod PartPut
 mod Counted
 mod Passed
 pub mod InOrder
+mod Changeable

@@ -1,15 +1,16 @@
 -- The turns of data sets in a dump: words that link the parts of that.
-use Rattle.std.specs.Prelude.{◌≡◌, ◌↔◌, ℕ, ◌≤◌, Bool, IsTrue, List, [], ◌∷◌, length, All, Option, Some, None, slice_get}
+use Rattle.std.specs.Prelude.{◌≡◌, ◌↔◌, ℕ, ◌≤◌, Bool, true, false, IsTrue, List, [], ◌∷◌, length, All, Option, Some, None, slice_get}
 use Rattle.dasd_pool.specs.declared.pool.Pool.{Ghosts}
 use Rattle.dsn_filter.specs.declared.dsn.Dsn.{Dsn}
 use Rattle.dump_fmt.specs.declared.progress.Progress.{Progress}
 use Rattle.dump_fmt.specs.Outs.{OutSeen}
 use Rattle.dump_fmt.specs.Parts.{DumpPart}
 use Rattle.volume_model.specs.Unit.{DataSet, OnlineVolume, UnitModel, online}
+use Rattle.vtoc_core.specs.declared.volume.Row.{Row}
 use Rattle.vtoc_core.specs.declared.volume.Volume.{Volume}
 use Rattle.unit_load.specs.declared.state.UnitState.{UnitState}
 use Rattle.job_copies.specs.step_room.Room.{IsFullFor}
-use Rattle.job_copies.specs.unit_steps.Plans.{IsLoadedAt, tracks_in}
+use Rattle.job_copies.specs.unit_steps.Plans.{HasRow, IsLoadedAt, tracks_in}
 use Rattle.job_lines.specs.declared.message.Reason.{Reason}
 use Rattle.job_steps.specs.unit_session.Sessions.{SessionView}
 use Rattle.job_lines.specs.Order.{IsFirst}
@@ -17,7 +18,7 @@ use Rattle.job_steps.specs.Units.{ForUnits, IsSet}
 use Rattle.job_dumps.specs.declared.pass.DumpScene.{DumpScene}
 use Rattle.job_dumps.specs.Dumped.{DumpRequest, DumpsSet, DumpsSets, IsCutDump, IsUnderWayFor}
 use Rattle.job_dumps.specs.Putting.{AreInOrder, HasBegun, HasPut, HoldsNow}
-use Rattle.job_dumps.specs.Reasons.{PreventsAtFirst, first_reasons}
+use Rattle.job_dumps.specs.Reasons.{PreventsAtFirst, changes_sets, first_reasons}
 use Rattle.job_dumps.specs.Texts.{IsAt, IsOfRow}
 
 abbrev pub request_in : DumpScene → DumpRequest
@@ -59,6 +60,11 @@ pub record LeavesTurn {P X : Type 0} (pools : Ghosts P) (seen : X → OutSeen) (
   pub under_way : ForUnits pools session (λ units. IsUnderWayFor request (name ∷ []) units current)
   pub put : HasPut seen at.volume.device at.row.name (length (tracks_in at.volume at.row)) [] current progress outs after sent
 
+-- It can be changed once it stands in the dump, as far as its unit was loaded: it has at most 16 extents, and the VTOC has room for stating the free space.
+pub record CanBeChanged (units : List UnitState) (scene : DumpScene) (name : Dsn) : Type 0 where
+  pub few : (volume : Volume) (row : Row) → IsLoadedAt units scene.unit volume → HasRow volume name row → length row.extents ≤ 16
+  pub room : changes_sets scene.wish ≡ true → scene.full ≡ false
+
 -- ---- all names
 
 -- a dump of these data sets of a unit's volume was begun
@@ -86,3 +92,9 @@ pub record LeavesAll {P X : Type 0} (pools : Ghosts P) (seen : X → OutSeen) (s
   pub current : Option DumpPart
   pub cut : ForUnits pools session (λ units. IsCutDump request names units parts current)
   pub holds : HoldsParts seen session.units request.unit parts current progress outs after sent
+
+-- each that is dumped can be changed then
+abbrev pub DumpedCanBeChanged : List UnitState → DumpScene → List Dsn → List (Option Reason) → Type 0
+DumpedCanBeChanged units scene [] [] = Unit {0}
+DumpedCanBeChanged units scene (name ∷ names) (reason ∷ told) = (reason ≡ None → CanBeChanged units scene name) × DumpedCanBeChanged units scene names told
+DumpedCanBeChanged units scene _ _ = ⊥

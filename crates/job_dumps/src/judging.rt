@@ -1,6 +1,6 @@
 //! Why a data set isn't dumped.
 
-ghost use Rattle.std.specs.Prelude.{◌↔◌, All, IsTrue, IfOk, IfErr};
+ghost use Rattle.std.specs.Prelude.{◌↔◌, ◌≤◌, All, length, IsTrue, IfOk, IfErr};
 ghost use Rattle.ckd_image.specs.Device.{heads_of};
 ghost use Rattle.volume_model.specs.Pinned.{IsPinned};
 ghost use Rattle.volume_model.specs.Unit.{DataSet, OnlineVolume};
@@ -61,6 +61,7 @@ impl Dumping<'_> {
     pub(crate) fn judge(&self, held: &Held, today: Day) -> Result<(), Reason>
         ensures goes { IfOk result (λ none. (volume : OnlineVolume) (set : DataSet) → Describes self.now.volume.now volume → DescribesSet (heads_of self.now.volume.now.device) self.now.row.now set
             → All (λ reason. ¬ PreventsAtFirst held.now today self.now.wish volume self.now.name set reason) first_reasons) }
+        ensures few { IfOk result (λ none. length self.now.row.now.extents ≤ 16) }
         ensures refused { IfErr result (λ reason. (volume : OnlineVolume) (set : DataSet) → Describes self.now.volume.now volume → DescribesSet (heads_of self.now.volume.now.device) self.now.row.now set
             → IsFirst (PreventsAtFirst held.now today self.now.wish volume self.now.name set) first_reasons reason) }
     {

@@ -90,6 +90,7 @@ pub(crate) fn put_part<P: Pool>(
     ensures looks { OnlyLooks P.Pool session.old session.new }
     ensures put { IfOk result (PutsPart P.Pool ⟦<OutDd as Seen>⟧.seen session.old unit name.now writer.old.progress writer.old.outs.items writer.new.progress writer.new.outs.items) }
     ensures left { IfErr result (λ fault. LeavesPart P.Pool ⟦<OutDd as Seen>⟧.seen session.old unit name.now writer.old.progress writer.old.outs.items writer.new.progress writer.new.outs.items) }
+    ensures places { writer.new.progress.places.items ≡ writer.old.progress.places.items }
     ensures cause { IfErr result (λ fault. fault ≡ UnitFault.Pool → Rose (P.faults session.old.pool) (P.faults session.new.pool)) }
 {
     let Ok(found) = set_to_dump(alloc, session, unit, name) else {

@@ -1,11 +1,15 @@
 //! The data sets that a dump takes, one after the other.
 
-ghost use Rattle.std.specs.Prelude.{◌≡◌, ◌<◌, IfOk, IfErr};
+ghost use Rattle.std.specs.Prelude.{◌≡◌, ◌<◌, ◌≤◌, true, None, length, IfOk, IfErr};
 ghost use Rattle.dasd_pool.specs.Count.{Rose};
 ghost use Rattle.redo_core.specs.Reading.{journal_of};
+ghost use Rattle.vtoc_core.specs.declared.volume.Row.{Row as RowOf};
+ghost use Rattle.vtoc_core.specs.declared.volume.Volume.{Volume as VolumeOf};
+ghost use Rattle.job_copies.specs.unit_steps.Plans.{HasRow, IsLoadedAt};
 ghost use Rattle.job_steps.specs.unit_session.Copies.{HasSource};
 ghost use Rattle.job_steps.specs.Units.{ForUnits};
-ghost use Rattle.job_dumps.specs.Passing.{BeginsDump, GoesSoFar, IsRefusedSoFar, LeavesAll, LeavesTurn, SaysFull, TakesAll, TakesTurn, request_in};
+ghost use Rattle.job_dumps.specs.Passing.{BeginsDump, CanBeChanged, DumpedCanBeChanged, GoesSoFar, IsRefusedSoFar, LeavesAll, LeavesTurn, SaysFull, TakesAll, TakesTurn, request_in};
+ghost use Rattle.job_dumps.specs.Reasons.{changes_sets};
 ghost use Rattle.job_dumps.specs.Texts.{MayPutSet, OnlyLooks};
 
 use crate::judging::Dumping;
@@ -23,7 +27,7 @@ use std::alloc::Global;
 use unit_load::UnitFault;
 
 /// From which unit data sets are dumped, what is asked of them, and what they are judged by; and that its VTOC has no room for stating the free space of its
-/// volume.
+/// volume, which matters only where data sets are changed.
 #[derive(Clone, Copy)]
 pub struct DumpScene<'a> {
     pub unit: u32,
@@ -37,6 +41,7 @@ pub struct DumpScene<'a> {
 fn judge<P: Pool>(session: &Session<P>, scene: DumpScene<'_>, name: &Dsn) -> Result<(), Reason>
     requires { HasSource session.now.units scene.unit name.now }
     ensures goes { IfOk result (λ none. ForUnits P.Pool session.now (GoesSoFar (request_in scene.entry) name.now)) }
+    ensures few { IfOk result (λ none. (volume : VolumeOf) (row : RowOf) → IsLoadedAt session.now.units scene.entry.unit volume → HasRow volume name.now row → length row.extents ≤ 16) }
     ensures refused { IfErr result (λ reason. ForUnits P.Pool session.now (IsRefusedSoFar (request_in scene.entry) name.now reason)) }
 {
     session.stands();
@@ -64,10 +69,12 @@ fn take_turn<P: Pool>(
 ) -> Result<Option<Reason>, UnitFault>
     requires unit { scene.unit < journal_of (P.shape session.old.pool) }
     requires may { MayPutSet ⟦<OutDd as Seen>⟧.seen session.old.units scene.unit name.now writer.old.progress writer.old.outs.items }
-    requires full { ForUnits P.Pool session.old (SaysFull scene.unit scene.full) }
+    requires full { changes_sets scene.wish ≡ true → ForUnits P.Pool session.old (SaysFull scene.unit scene.full) }
     ensures looks { OnlyLooks P.Pool session.old session.new }
     ensures put { IfOk result (TakesTurn P.Pool ⟦<OutDd as Seen>⟧.seen session.old (request_in scene.entry) name.now writer.old.progress writer.old.outs.items writer.new.progress writer.new.outs.items) }
     ensures left { IfErr result (λ fault. LeavesTurn P.Pool ⟦<OutDd as Seen>⟧.seen session.old (request_in scene.entry) name.now writer.old.progress writer.old.outs.items writer.new.progress writer.new.outs.items) }
+    ensures places { writer.new.progress.places.items ≡ writer.old.progress.places.items }
+    ensures may { IfOk result (λ reason. reason ≡ None → CanBeChanged session.old.units scene.entry name.now) }
     ensures cause { IfErr result (λ fault. fault ≡ UnitFault.Pool → Rose (P.faults session.old.pool) (P.faults session.new.pool)) }
 {
     session.stands();
@@ -96,10 +103,12 @@ pub fn put_parts<P: Pool>(
 ) -> Result<Vec<Option<Reason>>, UnitFault>
     requires unit { scene.unit < journal_of (P.shape session.old.pool) }
     requires begun { BeginsDump ⟦<OutDd as Seen>⟧.seen session.old.units scene.unit names.now writer.old.progress writer.old.outs.items }
-    requires full { ForUnits P.Pool session.old (SaysFull scene.unit scene.full) }
+    requires full { changes_sets scene.wish ≡ true → ForUnits P.Pool session.old (SaysFull scene.unit scene.full) }
     ensures looks { OnlyLooks P.Pool session.old session.new }
     ensures put { IfOk result (λ told. TakesAll P.Pool ⟦<OutDd as Seen>⟧.seen session.old (request_in scene.entry) names.now writer.old.progress writer.old.outs.items writer.new.progress writer.new.outs.items told.items) }
     ensures left { IfErr result (λ fault. LeavesAll P.Pool ⟦<OutDd as Seen>⟧.seen session.old (request_in scene.entry) names.now writer.old.progress writer.old.outs.items writer.new.progress writer.new.outs.items) }
+    ensures places { writer.new.progress.places.items ≡ writer.old.progress.places.items }
+    ensures may { IfOk result (λ told. DumpedCanBeChanged session.old.units scene.entry names.now told.items) }
     ensures cause { IfErr result (λ fault. fault ≡ UnitFault.Pool → Rose (P.faults session.old.pool) (P.faults session.new.pool)) }
 {
     session.stands();

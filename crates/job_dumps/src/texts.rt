@@ -72,6 +72,7 @@ fn put_next<P: Pool>(
     ensures put { IfOk result (λ more. (found : Option TrackOf) × (is_some found ≡ more)
         × PutsNext P.Pool ⟦<OutDd as Seen>⟧.seen session.old set.now.unit set.now.device track writer.old.progress writer.old.outs.items writer.new.progress writer.new.outs.items found) }
     ensures none { IfErr result (λ fault. writer.new ≡ writer.old) }
+    ensures places { writer.new.progress.places.items ≡ writer.old.progress.places.items }
     ensures cause { IfErr result (λ fault. fault ≡ UnitFault.Pool → Rose (P.faults session.old.pool) (P.faults session.new.pool)) }
 {
     let Some(text) = read_text(alloc, session, set.unit, set.device, track, slot)? else {
@@ -99,6 +100,7 @@ pub(crate) fn put_texts<P: Pool>(
     requires may { MayPutTexts ⟦<OutDd as Seen>⟧.seen set.now.device (length set.now.tracks.items) writer.old.progress writer.old.outs.items }
     ensures looks { OnlyLooks P.Pool session.old session.new }
     ensures put { PutsTexts P.Pool ⟦<OutDd as Seen>⟧.seen session.old set.now writer.old.progress writer.old.outs.items writer.new.progress writer.new.outs.items result }
+    ensures places { writer.new.progress.places.items ≡ writer.old.progress.places.items }
     ensures cause { IfErr result (λ fault. fault ≡ UnitFault.Pool → Rose (P.faults session.old.pool) (P.faults session.new.pool)) }
 {
     for track in &set.tracks {

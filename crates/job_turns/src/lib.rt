@@ -12,4 +12,4 @@ pub use job_copies;
 pub use log::{Log, say, say_all};
 pub use selecting::taken;
 pub use stating::{push_rebuilt, push_repair};
-pub use units::{UnitUse, unit_for, units_for};
+pub use units::{UnitUse, find, unit_for, units_for};

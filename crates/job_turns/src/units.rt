@@ -40,8 +40,8 @@ fn unit_of<P: Pool>(session: &Session<P>, serial: Serial) -> Option<u32>
     None
 }
 
-/// The unit of a name, or the message that nothing has it.
-fn find<P: Pool>(session: &Session<P>, named: UnitUse) -> Result<u32, Message>
+/// The unit that a statement names, or the message that nothing has its name.
+pub fn find<P: Pool>(session: &Session<P>, named: UnitUse) -> Result<u32, Message>
     ensures found { IfOk result (IsUnitOf session.now.names named.serial) }
     ensures there { IfOk result (λ unit. unit < journal_of (P.shape session.now.pool)) }
     ensures unknown { IfErr result (λ message. IsUnknown session.now.names named × (message ≡ messages.UnknownName named.serial)) }

@@ -1,7 +1,13 @@
-use Rattle.std.proofs.Common.{All}
+use Rattle.std.proofs.Common.{◌≤◌, length, All, subst}
 use Rattle.std.proofs.lemmas.Result.{IfOk-weaker, IfErr-weaker}
 use Rattle.ckd_image.specs.Device.{heads_of}
 use Rattle.volume_model.specs.Unit.{DataSet, OnlineVolume}
+use Rattle.volume_change.proofs.Names.{one_text}
+use Rattle.vtoc_core.specs.declared.volume.Row.{Row}
+use Rattle.vtoc_core.specs.declared.volume.Volume.{Volume}
+use Rattle.job_copies.specs.unit_steps.Plans.{HasRow}
+use Rattle.job_copies.proofs.step_room.SoundRows.{one_row}
+use Rattle.job_copies.proofs.unit_steps.OneChange.{same_volume}
 use Rattle.job_copies.specs.unit_change.Described.{Describes, DescribesSet}
 use Rattle.job_lines.specs.Order.{IsFirst}
 use Rattle.job_steps.specs.Units.{ForUnits}
@@ -35,3 +41,16 @@ returns-clause-refused g c =
     (λ reason. ForUnits g.P.Pool c.args.session.now (IsRefusedSoFar (request_in c.args.scene) c.args.name.now reason))
     (λ reason says told units settled volume set is. let are = described known c.volume-volume.ensures c.in-Some.ensures.found told units settled volume set is in says volume set are.0 are.1)
     c.judge.ensures.refused
+
+pub returns-clause-few : goal.returns-clause-few
+returns-clause-few g c =
+    let known = known_units g.P.Pool c.args.session.now c.stands.ensures.kept c.stands.ensures.models in
+    let loaded = c.volume-volume.result.now in
+    let unit = c.args.scene.unit in
+    IfOk-weaker c.judge.result (λ none. length c.in-Some.row.now.extents ≤ 16) _
+    (λ none few volume row at has.
+    let same = same_volume c.args.session.now.units unit volume loaded at c.volume-volume.ensures in
+    let there : HasRow loaded c.args.name.now row = subst (λ (v : Volume). HasRow v c.args.name.now row) same has in
+    subst (λ (r : Row). length r.extents ≤ 16) (one_row loaded (known.sound unit loaded c.volume-volume.ensures) c.in-Some.row.now row c.in-Some.ensures.found.there there.there
+    (one_text c.args.name.now c.in-Some.row.now.name row.name c.in-Some.ensures.found.name_is there.name_is)) few)
+    c.judge.ensures.few

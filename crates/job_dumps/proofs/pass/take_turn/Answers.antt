@@ -1,6 +1,6 @@
 use Rattle.std.proofs.Common.{◌≡◌, ◌∷◌, [], Some, None, refl, sym, subst, ◌∙◌, arith}
 use Rattle.std.specs.Prelude.{slice_get}
-use Rattle.std.proofs.lemmas.Bool.{iff_false}
+use Rattle.std.proofs.lemmas.Bool.{iff_false, false≢true}
 use Rattle.std.proofs.lemmas.List.Elements.{All-nil, All-cons}
 use Rattle.volume_model.specs.Unit.{OnlineVolume, online}
 use Rattle.job_dumps.proofs.Looks.{looks_itself}
@@ -50,8 +50,8 @@ returns-then-changes-clause-put g c =
           λ told units settled.
           let set = set_there known at.loaded at.row_is told units settled in
           let goes = c.in_default.ensures.goes told units settled in
-          let lacks : LacksRoomToChange c.args.scene.wish set.0 =
-          (sym c.changes.ensures ∙ c.if-changes.true, (c.requires.full told units settled set.0 set.2.online_is).0 c.if-scene.true) in
+          let changes = sym c.changes.ensures ∙ c.if-changes.true in
+          let lacks : LacksRoomToChange c.args.scene.wish set.0 = (changes, (c.requires.full changes told units settled set.0 set.2.online_is).0 c.if-scene.true) in
           let texts = c.in_ok-good.ensures.texts told (facts_of g.P.Pool c.args.session.now) units set.0 set.1 refl settled set.2.online_is set.2.there set.2.name_is in
           elim c.if-good.branch [
             | then-good w ↦
@@ -73,7 +73,7 @@ returns-in_err-whole-clause-left g c =
     λ told units settled volume is.
     elim c.else-scene.branch [
       | else-scene-via-then-scene+else-changes w ↦ room_unasked c.args.scene.wish w.changes.ensures w.if-changes.false volume
-      | else-scene-via-else-scene w ↦ λ lacks. iff_false (c.requires.full told units settled volume is) w.if-scene.false lacks.1
+      | else-scene-via-else-scene w ↦ λ lacks. iff_false (c.requires.full lacks.0 told units settled volume is) w.if-scene.false lacks.1
     ] in
     on_err c.from_residual-in_err-whole.result (record {
       at = left.at;
@@ -91,7 +91,7 @@ returns-then-whole-clause-put g c =
     λ told units settled volume is.
     elim c.else-scene.branch [
       | else-scene-via-then-scene+else-changes w ↦ room_unasked c.args.scene.wish w.changes.ensures w.if-changes.false volume
-      | else-scene-via-else-scene w ↦ λ lacks. iff_false (c.requires.full told units settled volume is) w.if-scene.false lacks.1
+      | else-scene-via-else-scene w ↦ λ lacks. iff_false (c.requires.full lacks.0 told units settled volume is) w.if-scene.false lacks.1
     ] in
     record {
       at = put.at;
@@ -115,7 +115,7 @@ returns-else-whole-clause-put g c =
     λ told units settled volume is.
     elim c.else-scene.branch [
       | else-scene-via-then-scene+else-changes w ↦ room_unasked c.args.scene.wish w.changes.ensures w.if-changes.false volume
-      | else-scene-via-else-scene w ↦ λ lacks. iff_false (c.requires.full told units settled volume is) w.if-scene.false lacks.1
+      | else-scene-via-else-scene w ↦ λ lacks. iff_false (c.requires.full lacks.0 told units settled volume is) w.if-scene.false lacks.1
     ] in
     record {
       at = put.at;
@@ -129,3 +129,12 @@ returns-else-whole-clause-put g c =
           (put.of_set told units settled set.0 set.1 set.2) (put.whole_is ∙ c.if-whole.false);
       put = put.put;
     }
+
+pub returns-then-whole-clause-may : goal.returns-then-whole-clause-may
+returns-then-whole-clause-may g c = λ none. record {
+  few = c.in_default.ensures.few;
+  room = λ changes. elim c.else-scene.branch [
+    | else-scene-via-then-scene+else-changes w ↦ absurd (false≢true (sym w.if-changes.false ∙ w.changes.ensures ∙ changes))
+    | else-scene-via-else-scene w ↦ w.if-scene.false
+  ];
+}

@@ -24,6 +24,7 @@ loop-track-init g c = record {
     read = λ told. tt;
     put = none_put _ c.args.set.now.device (length c.args.set.now.tracks.items) c.args.writer.now.progress c.args.writer.now.outs.items;
   };
+  places = refl;
 }
 
 pub put_next-requires-clause-may : goal.put_next-requires-clause-may
@@ -70,4 +71,5 @@ loop-track-preserved g c =
           (at_place c.args.set.now.tracks.items items index c.deref-track-items.ensures.value c.loop-track-test.true)
           (taken c.args.set.now.tracks.items items index c.deref-track-items.ensures.value c.loop-track-test.true) (put.1 ∙ c.if-not-more.false) put.2
           (looks_then g.P.Pool far.looks c.put_next.ensures.looks);
+      places = ◌∙◌ {A = List ℕ} c.put_next.ensures.places c.loop-track.invariant.places;
     }

@@ -1,0 +1,12 @@
+mod Changes
+mod ChangeEnds
+mod ChangeOrder
+mod RowsCounted
+mod OutputsKept
+mod DumpMeant
+mod DumpFollows
+mod Following
+mod Written
+mod Looked
+mod DumpGoing
+mod Tellings
