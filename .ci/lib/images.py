@@ -1,6 +1,7 @@
 """Volumes and journals byte by byte, from what they mean. A second hand beside the product's own writers: nothing here reads its code."""
 import collections
 import datetime
+import hashlib
 import math
 
 Device = collections.namedtuple("Device", "byte heads slot records")
@@ -38,15 +39,16 @@ def put_changes(text, changes):
         text[place] = byte
 
 
+def day_from_today(days):
+    """The year and its day, in UTC as the program counts."""
+    date = datetime.datetime.now(datetime.timezone.utc).date() + datetime.timedelta(days)
+    return date.year, date.timetuple().tm_yday
+
+
 def day(words):
     """A day as a format 1 has it: the year less 1900, and the day of it in two bytes."""
-    today = datetime.datetime.now(datetime.timezone.utc).date()
     days = {"yesterday": -1, "today": 0, "tomorrow": 1}
-    if words in days:
-        date = today + datetime.timedelta(days[words])
-        year, number = date.year, date.timetuple().tm_yday
-    else:
-        year, number = map(int, words.split("."))
+    year, number = day_from_today(days[words]) if words in days else map(int, words.split("."))
     return bytes([year - 1900]) + big(number, 2)
 
 
@@ -156,6 +158,15 @@ class Volume:
         found[self.four] = self.format_4(highest, self.all_records() - len(found))
         return [found.get(number, bytes(140)) for number in range(1, self.all_records() + 1)]
 
+    def dscb_of(self, name):
+        """The format 1 of a data set, with what is otherwise in it."""
+        for number, dscb in enumerate(self.dscbs(), 1):
+            if dscb[44] == 0xF1 and dscb[:44] == ebcdic(name, 44):
+                one = bytearray(dscb)
+                put_changes(one, self.dscb_changes.get(number, []))
+                return bytes(one)
+        raise ValueError(f"there is no {name}")
+
     def put_free_space(self, found, take):
         if self.free is None:
             return
@@ -223,6 +234,36 @@ class Volume:
 
     def image(self):
         return self.head() + b"".join(self.track(number) for number in range(self.tracks()))
+
+
+def track_piece(volume, number):
+    """A track of a part of a dump: all of it but its address, and of each of its records but the first all but the address."""
+    slot, records = volume.track(number), volume.records_of(number)
+    return b"\x01" + slot[:1] + slot[13:21] + big(len(records), 2) + b"".join(it[4:] for it in records)
+
+
+def part_of(volume, name, taken):
+    """The part of a data set: whole, or dropped behind so many of its tracks."""
+    it = next(it for it in volume.sets if it.name == name)
+    one = bytearray(volume.dscb_of(name))
+    put(one, 59, bytes(1))
+    put(one, 105, bytes(35))
+    tracks = [track for _, first, last in it.extents for track in range(first, last + 1)]
+    kind = 0x81 if it.extents and all(kind == 0x81 for kind, _, _ in it.extents) else 0x01
+    front = b"\x50" + bytes(one) + big(len(tracks), 4) + bytes([kind])
+    pieces = [track_piece(volume, track) for track in tracks[:taken]]
+    return front + b"".join(pieces) + (b"\x00" if taken is None else b"\xff"), len(tracks) if taken is None else None
+
+
+def dump(volume, parts):
+    """A dump of data sets of a volume, made today: each whole, or dropped behind so many of its tracks."""
+    year, number = day_from_today(0)
+    device = bytes([DEVICES[volume.device].byte])
+    text = b"ADRDUMP1L" + device + ebcdic(volume.serial, 6) + big(volume.tracks(), 4) + big(year, 2) + big(number, 2) + bytes(8)
+    texts = [part_of(volume, *it) for it in parts]
+    whole = [count for _, count in texts if count is not None]
+    text += b"".join(it for it, _ in texts) + b"\x5a" + big(len(whole), 4) + big(sum(whole), 4)
+    return text + hashlib.sha256(text).digest()
 
 
 class Journal:

@@ -17,6 +17,7 @@ class Run:
         self.sysin = self.held = None
         self.status, self.says, self.hears = 0, "", []
         self.leaves, self.commits, self.registers = None, [], None
+        self.outs, self.dumps, self.sizes = [], {}, {}
 
 
 class Row:
@@ -27,6 +28,12 @@ class Row:
         self.on, self.journal, self.room = [], "registered", 64
         self.changes, self.volumes, self.runs = [], {}, [Run()]
         self.stops, self.tells = None, []
+
+
+def part(word):
+    """A data set whose part in a dump is whole, or `A.B/2` where it is dropped behind two tracks."""
+    name, slash, taken = word.partition("/")
+    return name, int(taken) if slash else None
 
 
 def numbers(words):
@@ -241,6 +248,14 @@ class Reader:
             run.commits = [[target.split(":") for target in commit.split("+")] for commit in rest.split()]
         elif word == "registers":
             run.registers = rest.split()
+        elif word == "outs":
+            run.outs, run.dumps, run.sizes = rest.split(), {}, {}
+        elif word == "dumps":
+            output, volume, *names = rest.split()
+            run.dumps[output] = volume, [part(it) for it in names]
+        elif word == "bytes":
+            output, size = rest.split()
+            run.sizes[output] = int(size)
         else:
             raise Refused(f"a row has no {word}")
 
@@ -279,6 +294,8 @@ def read(path):
         named = [*[run.leaves for run in row.runs if run.leaves is not None], *(row.stops or [])]
         if any(len(it) != len(row.on) for it in named):
             row.refused = row.refused or f"{path}:{row.line}: leaves or stops has another number of volumes than the row is on"
+        if any(not {*run.dumps, *run.sizes} <= {*run.outs} for run in row.runs):
+            row.refused = row.refused or f"{path}:{row.line}: a dump stands on no output"
         reader.used.update(row.on, *named)
         reader.used.update(target[0] for run in row.runs for commit in run.commits for target in commit)
     return reader.rows, [f"no row has the volume {it}" for it in reader.volumes if it not in reader.used]

@@ -24,7 +24,7 @@ class Place:
             word, _, rest = line.partition(" ")
             rowfile.change_volume(self.volumes[name], word, rest)
         self.images = {name: it.image() for name, it in self.volumes.items()}
-        self.journal = self.first_journal()
+        self.journal, self.outputs = self.first_journal(), {}
 
     def serials(self):
         return [self.row.volumes[name].serial for name in self.row.on]
@@ -44,10 +44,18 @@ class Place:
         images.put_changes(journal.blocks, rowfile.numbers(rest))
         return journal
 
+    def dumps_of(self, run):
+        """What a run's outputs hold behind it: those that it makes are empty, where it dumps nothing on them."""
+        volumes = {**self.row.volumes, **self.volumes}
+        dumped = {name: images.dump(volumes[volume], parts) for name, (volume, parts) in run.dumps.items()}
+        return {**dict.fromkeys(run.outs, b""), **self.outputs, **dumped}
+
     def goes_on(self, run):
         """The files behind a run."""
+        self.outputs = self.dumps_of(run)
         if run.leaves is not None:
-            self.images = {name: self.row.volumes[it].image() for name, it in zip(self.row.on, run.leaves)}
+            self.volumes = {name: self.row.volumes[it] for name, it in zip(self.row.on, run.leaves)}
+            self.images = {name: it.image() for name, it in self.volumes.items()}
         if run.registers is not None:
             room = int(run.registers[0])
             if not isinstance(self.journal, images.Journal):
@@ -62,7 +70,7 @@ class Place:
         return self.serials().index(volume.serial), int(track), volume.track(int(track))
 
     def files(self):
-        found = dict(self.images)
+        found = {**self.images, **self.outputs}
         if self.journal is not None:
             found[JOURNAL] = self.journal.file() if isinstance(self.journal, images.Journal) else self.journal
         return found
@@ -75,12 +83,11 @@ def write_files(folder, files):
 
 
 def expanded(word):
-    """A word, or with `{0..63}` in it one for each of these numbers, as a shell makes them."""
-    found = re.fullmatch(r"(.*)\{(\d+)\.\.(\d+)\}(.*)", word)
+    """A word, or with `{0..63}` in it one for each of these numbers, which stands wherever there are such."""
+    found = re.search(r"\{(\d+)\.\.(\d+)\}", word)
     if not found:
         return [word]
-    front, first, last, back = found.groups()
-    return [f"{front}{number}{back}" for number in range(int(first), int(last) + 1)]
+    return [re.sub(r"\{\d+\.\.\d+\}", str(number), word) for number in range(int(found[1]), int(found[2]) + 1)]
 
 
 def words_of(program, row, run):
@@ -91,7 +98,8 @@ def words_of(program, row, run):
     for name in row.on:
         words += ["--unit", f"{row.volumes[name].serial}={name}"]
     words += ["--journal", JOURNAL, "--sysin", SYSIN]
-    return words + ["--held", HELD] * (run.held is not None)
+    words += ["--held", HELD] * (run.held is not None)
+    return words + [f"--out={it}={it}" for it in run.outs]
 
 
 def texts_of(run):
@@ -145,6 +153,7 @@ def play(program, folder, row):
         ran = subprocess.run(words_of(program, row, run), cwd=folder, stdout=subprocess.PIPE, stderr=subprocess.PIPE, stdin=subprocess.DEVNULL, timeout=60)
         place.goes_on(run)
         wrong = lines_wrong(ran, run) + files_wrong(folder, {**place.files(), **texts})
+        wrong += [f"{name} has {len(place.outputs[name])} bytes, and not {size}" for name, size in run.sizes.items() if len(place.outputs[name]) != size]
         said += [f"run {number}: {it}" for it in wrong]
         for name in texts:
             os.remove(os.path.join(folder, name))

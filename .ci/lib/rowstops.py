@@ -15,6 +15,7 @@ REGISTRATION, GATE, CONTROL = (slice(512 + number * images.BLOCK, 512 + (number 
 
 
 def torn(text, place, new, middle, tear):
+    text.extend(bytes(max(0, place - len(text)) * (tear != "old")))
     if tear == "new":
         images.put(text, place, new)
     elif tear == "zero":
@@ -116,6 +117,7 @@ class Stops:
         self.volumes = list(self.place.volumes.values())
         later = [*row.stops, *[self.run.leaves] * (self.run.leaves is not None)]
         self.moments = [Moment(self.volumes)] + [Moment([row.volumes[it] for it in names]) for names in later]
+        self.dumps = self.place.dumps_of(self.run)
         self.changing = set().union(*[self.moments[0].others(it.slots) for it in self.moments])
         self.seen, self.said, self.known, self.stopped = set(), [], {}, set()
         self.words = rowrun.words_of(program, row, self.run)
@@ -127,10 +129,11 @@ class Stops:
         self.listed = 12 if 1 in fills else 0
 
     def moment_of(self, files):
-        """At which of its moments the volumes are: of its free tracks those that the run writes may hold anything."""
+        """At which of its moments the volumes are: of its free tracks those that the run writes may hold anything. Behind its first step each dump is whole."""
+        is_dumped = all(files[name] == text for name, text in self.dumps.items())
         found = [slots(volume, files[name]) for name, volume in zip(self.row.on, self.volumes)]
         for number, moment in enumerate(self.moments):
-            if all(track in moment.free[volume] and (volume, track) in self.changing for volume, track in moment.others(found)):
+            if (is_dumped or not number) and all(track in moment.free[volume] and (volume, track) in self.changing for volume, track in moment.others(found)):
                 return number
         return None
 
@@ -178,7 +181,7 @@ class Stops:
         return moment
 
     def all(self):
-        files, texts = self.place.files(), rowrun.texts_of(self.run)
+        files, texts = {**self.place.files(), **dict.fromkeys(self.run.outs, b"")}, rowrun.texts_of(self.run)
         rowrun.write_files(self.folder, {**files, **texts})
         events, status = tracing.events(self.words, self.folder)
         replayed = Files(files)

@@ -1,5 +1,6 @@
 //! A run of a text.
 
+ghost use Rattle.job_outputs.specs.Kept.{KeepsUsed};
 ghost use Rattle.std.specs.Prelude.{◌≡◌, IfOk};
 ghost use Rattle.by_rules.specs.Day.{IsToday};
 ghost use Rattle.dump_fmt.specs.Outs.{files_of};
@@ -72,7 +73,7 @@ fn open_and_run<O: Sink, P: Pool>(
     ensures ends { Opens P.Pool
         (record { before = files_of ⟦<OutDd as Seen>⟧.seen ⟦<InDd as SeenIn>⟧.seen outs.items ins.old.items; after = files_of ⟦<OutDd as Seen>⟧.seen ⟦<InDd as SeenIn>⟧.seen result.outs.items ins.new.items })
         (sink_seen O.Sink out.old out.new) pool serials.now ready.now.held today (plan_of_script ready.now.script) (after_of result) }
-    ensures outs { result.outs.items ≡ outs.items }
+    ensures outs { KeepsUsed ⟦<OutDd as Seen>⟧.seen outs.items result.outs.items }
     ensures ins { ins.new.items ≡ ins.old.items }
 {
     match Session::begin(alloc, pool, serials) {
@@ -111,7 +112,7 @@ pub(crate) fn run_jobs<S: Source, H: Source, O: Sink, P: Pool>(
         (record { before = files_of ⟦<OutDd as Seen>⟧.seen ⟦<InDd as SeenIn>⟧.seen outs.items ins.old.items; after = files_of ⟦<OutDd as Seen>⟧.seen ⟦<InDd as SeenIn>⟧.seen result.outs.items ins.new.items })
         path.now (source_seen H.Source held.old held.new) (source_seen S.Source sysin.old sysin.new) (sink_seen O.Sink out.old out.new)
         pool (serials_of volumes.now) today (after_of result) }
-    ensures outs { result.outs.items ≡ outs.items }
+    ensures outs { KeepsUsed ⟦<OutDd as Seen>⟧.seen outs.items result.outs.items }
     ensures ins { ins.new.items ≡ ins.old.items }
 {
     let ready = match prepare(alloc, path, sysin, held) {

@@ -1,5 +1,6 @@
 //! A run of words.
 
+ghost use Rattle.job_outputs.specs.Kept.{KeepsUsed};
 ghost use Rattle.std.specs.Prelude.{◌≡◌, ◌≢◌, [], List, None, map};
 ghost use Rattle.by_rules.specs.Day.{IsToday};
 ghost use Rattle.dasd_pool.specs.Disk.{Image, Runs};
@@ -81,7 +82,7 @@ fn run<S: Source, H: Source, O: Sink, P: Pool>(
         (record { before = files_of ⟦<OutDd as Seen>⟧.seen ⟦<InDd as SeenIn>⟧.seen outs.items ins.old.items; after = files_of ⟦<OutDd as Seen>⟧.seen ⟦<InDd as SeenIn>⟧.seen result.outs.items ins.new.items })
         asked.now (source_seen H.Source held.old held.new) (source_seen S.Source sysin.old sysin.new) (sink_seen O.Sink out.old out.new)
         pool today (after_of result) }
-    ensures outs { result.outs.items ≡ outs.items }
+    ensures outs { KeepsUsed ⟦<OutDd as Seen>⟧.seen outs.items result.outs.items }
     ensures ins { ins.new.items ≡ ins.old.items }
 {
     match asked {
@@ -111,7 +112,7 @@ fn run_words<S: Source, H: Source, O: Sink, P: Pool>(
     ensures ends { EndsRun P.Pool (given words.now (P.shape pool).units (map (λ out. out.name) outs.items) (map (λ one. one.name) ins.old.items)
         (record { before = files_of ⟦<OutDd as Seen>⟧.seen ⟦<InDd as SeenIn>⟧.seen outs.items ins.old.items; after = files_of ⟦<OutDd as Seen>⟧.seen ⟦<InDd as SeenIn>⟧.seen result.outs.items ins.new.items })
         today (source_seen S.Source sysin.old sysin.new) (source_seen H.Source held.old held.new) (sink_seen O.Sink out.old out.new)) pool (after_of result) }
-    ensures outs { result.outs.items ≡ outs.items }
+    ensures outs { KeepsUsed ⟦<OutDd as Seen>⟧.seen outs.items result.outs.items }
     ensures ins { ins.new.items ≡ ins.old.items }
 {
     match read_words(alloc, words) {
@@ -132,7 +133,7 @@ fn run_words<S: Source, H: Source, O: Sink, P: Pool>(
 ///
 /// The work is done in this order, and the first cause that stands against it ends the run: the words, with which the pool and the lists must agree (36);
 /// the held text and then SYSIN are read (24, 40); their grammars (44); the journal is opened (20, 16); each statement runs (16, 32), and then its lines
-/// are written (28). Built are PRINT, RELEASE, CONSOLIDATE and COPY, and the making of a journal; where another command or a sample volume is asked for, nothing is done
+/// are written (28). Built are PRINT, RELEASE, CONSOLIDATE, COPY and DUMP of data sets, and the making of a journal; where another command or a sample volume is asked for, nothing is done
 /// (48).
 pub fn batch<S: Source, H: Source, O: Sink, P: Pool>(
     alloc: Global,
@@ -168,7 +169,7 @@ pub fn batch<S: Source, H: Source, O: Sink, P: Pool>(
     ensures still { P.tells → ¬ AsksForJournal words.now → result.steps.items ≡ [] → result.pending ≡ None
         → Runs (of_opening (journal_of (P.shape pool)) (P.disk pool).state.contents) (P.disk pool) (P.disk result.pool) }
 
-    ensures outs { result.outs.items ≡ outs.items }
+    ensures outs { KeepsUsed ⟦<OutDd as Seen>⟧.seen outs.items result.outs.items }
     ensures ins { result.ins.items ≡ ins.items }
 {
     let mut ins = ins;

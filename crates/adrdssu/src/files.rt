@@ -5,6 +5,7 @@ use adr_top::UnitPaths;
 use dasd_pool::FilePool;
 use std::fs::{File, OpenOptions};
 use std::io;
+use std::path::Path;
 
 /// For reading and writing.
 pub fn both() -> OpenOptions {
@@ -25,6 +26,15 @@ fn open_shared(rt: &HostRuntime, path: &str) -> io::Result<File> {
     let file = File::open(rt, path)?;
     file.try_lock_shared()?;
     Ok(file)
+}
+
+/// The folder of a file.
+pub fn folder_of(rt: &HostRuntime, path: &str) -> io::Result<File> {
+    let folder = match Path::new(path).parent() {
+        Some(folder) if !folder.as_str().is_empty() => folder,
+        _ => Path::new("."),
+    };
+    File::open(rt, folder)
 }
 
 /// Adds a volume's file as the pool's next unit: for reading and writing, or for reading alone where it may not be written.

@@ -1,6 +1,6 @@
 //! The file of a journal, which comes to be whole or not at all. No other file is removed for it.
 
-use crate::files::{both, open_alone};
+use crate::files::{both, folder_of, open_alone};
 use redo_core::journal_head;
 use std::fs::{self, File};
 use std::io::{self, Read, Write};
@@ -187,9 +187,5 @@ fn is_without_links(kind: io::ErrorKind) -> bool {
 }
 
 fn sync_folder(rt: &HostRuntime, path: &str) -> io::Result<()> {
-    let folder = match Path::new(path).parent() {
-        Some(folder) if !folder.as_str().is_empty() => folder,
-        _ => Path::new("."),
-    };
-    File::open(rt, folder)?.sync_all()
+    folder_of(rt, path)?.sync_all()
 }

@@ -5,6 +5,7 @@ mod clock;
 mod descriptors;
 mod files;
 mod journal_file;
+mod outputs;
 mod say;
 
 ghost use Rattle.by_rules.specs.Day.{IsToday};
@@ -13,10 +14,13 @@ use crate::clock::today;
 use crate::descriptors::{NULL_DEVICE, take_closed};
 use crate::files::{add, named, open_alone, open_volumes};
 use crate::journal_file::{JournalFile, journal_file, take_back};
+use crate::outputs::{OutputFile, open_outputs};
 use crate::say::{say, say_end, say_file, say_not_built, say_usage};
-use adr_top::{Day, Ended, Run, UnitPaths, WordsFault, batch, read_words};
+use adr_top::{
+    Day, DdPaths, Ended, OutDd, OutState, Run, UnitPaths, WordsFault, batch, read_words,
+};
 use ckd_image::{Bytes, Word};
-use dasd_pool::{FilePool, FileSink, FileSource, MemorySource, Source};
+use dasd_pool::{FileMedium, FilePool, FileSink, FileSource, MemorySource, Source};
 use std::alloc::Global;
 use std::fs::File;
 use std::path::Path;
@@ -54,11 +58,12 @@ struct Line<'a> {
     today: Day,
 }
 
-/// Runs words over a pool and texts. No outputs and inputs are handed in.
+/// Runs words over a pool, outputs and texts. No inputs are handed in.
 fn run<S: Source + Drop, H: Source + Drop>(
     rt: &HostRuntime,
     line: Line<'_>,
     pool: FilePool<File>,
+    outs: Vec<OutDd>,
     mut sysin: S,
     mut held: H,
 ) -> Finished
@@ -66,7 +71,7 @@ fn run<S: Source + Drop, H: Source + Drop>(
 {
     let alloc = rt.alloc();
     let mut out = FileSink::new(io::writer(rt));
-    let (outs, ins) = (Vec::new(alloc), Vec::new(alloc));
+    let ins = Vec::new(alloc);
     let Ended { pool, status, .. } = batch(
         alloc, line.words, &mut sysin, &mut held, &mut out, pool, outs, ins, line.today,
     );
@@ -82,6 +87,7 @@ fn run_without_files(rt: &HostRuntime, line: Line<'_>) -> u8
         rt,
         line,
         FilePool::new(alloc),
+        Vec::new(alloc),
         no_text(alloc),
         no_text(alloc),
     )
@@ -93,17 +99,41 @@ fn run_over<S: Source + Drop>(
     rt: &HostRuntime,
     line: Line<'_>,
     pool: FilePool<File>,
+    outs: Vec<OutDd>,
     sysin: S,
     held: &Option<Word>,
 ) -> io::Result<Finished>
     requires { IsToday line.today }
 {
     let Some(path) = held else {
-        return Ok(run(rt, line, pool, sysin, no_text(rt.alloc())));
+        return Ok(run(rt, line, pool, outs, sysin, no_text(rt.alloc())));
     };
     let path = path.as_str();
     let text = named(rt, path, File::open(rt, path))?;
-    Ok(run(rt, line, pool, sysin, FileSource::new(text)))
+    Ok(run(rt, line, pool, outs, sysin, FileSource::new(text)))
+}
+
+/// Runs it with these outputs.
+fn run_with<S: Source + Drop>(
+    rt: &HostRuntime,
+    line: Line<'_>,
+    pool: FilePool<File>,
+    files: Vec<OutputFile>,
+    sysin: S,
+    held: &Option<Word>,
+) -> io::Result<Finished>
+    requires { IsToday line.today }
+{
+    let mut outs = Vec::new(rt.alloc());
+    for OutputFile { name, file, folder } in files {
+        let medium = FileMedium::new(file, folder);
+        outs.push(OutDd {
+            name,
+            medium: Box::new(rt.alloc(), medium)?,
+            state: OutState::Unused,
+        })?;
+    }
+    run_over(rt, line, pool, outs, sysin, held)
 }
 
 /// Runs the text of a file over volumes.
@@ -112,6 +142,7 @@ fn run_jobs(
     line: Line<'_>,
     units: &UnitPaths,
     journal: &str,
+    dds: &DdPaths,
     sysin: &str,
     held: &Option<Word>,
 ) -> io::Result<u8>
@@ -120,7 +151,8 @@ fn run_jobs(
     let mut pool = open_volumes(rt, units)?;
     add(rt, &mut pool, journal, open_alone(rt, journal))?;
     let text = named(rt, sysin, File::open(rt, sysin))?;
-    let finished = run_over(rt, line, pool, FileSource::new(text), held)?;
+    let files = open_outputs(rt, dds)?;
+    let finished = run_with(rt, line, pool, files, FileSource::new(text), held)?;
     say_end(rt, &finished, units, journal);
     Ok(finished.status)
 }
@@ -166,18 +198,25 @@ fn format_in(
 {
     add(rt, &mut pool, journal, Ok(file))?;
     let alloc = rt.alloc();
-    let finished = run(rt, line, pool, no_text(alloc), no_text(alloc));
+    let finished = run(
+        rt,
+        line,
+        pool,
+        Vec::new(alloc),
+        no_text(alloc),
+        no_text(alloc),
+    );
     say_end(rt, &finished, units, journal);
     Ok(finished.status)
 }
 
-/// Does what the words ask for, over the files that they name. Dump outputs and inputs are refused, for which nothing is built yet.
+/// Does what the words ask for, over the files that they name. Inputs are refused, since no command that reads one is built yet.
 fn run_line(rt: &HostRuntime, line: Line<'_>, asked: &Run) -> io::Result<u8>
     requires { IsToday line.today }
 {
     match asked {
-        Run::Jobs { outs, ins, .. } if outs.len() > 0 || ins.len() > 0 => {
-            say(rt, "no command that reads or writes dumps is built yet");
+        Run::Jobs { ins, .. } if ins.len() > 0 => {
+            say(rt, "no command that reads dumps is built yet");
             Ok(run_without_files(rt, line))
         }
         Run::Jobs {
@@ -185,8 +224,19 @@ fn run_line(rt: &HostRuntime, line: Line<'_>, asked: &Run) -> io::Result<u8>
             journal,
             sysin,
             held,
+            outs,
             ..
-        } => run_jobs(rt, line, units, journal.as_str(), sysin.as_str(), held),
+        } => {
+            run_jobs(
+                rt,
+                line,
+                units,
+                journal.as_str(),
+                outs,
+                sysin.as_str(),
+                held,
+            )
+        }
         Run::Format {
             units,
             journal,

@@ -11,6 +11,7 @@ use std::io;
 /// The words of a run.
 const USAGE: &str = "\
 usage: adrdssu --unit SERIAL=IMAGE .. --journal JOURNAL --sysin TEXT [--held HOLDS]
+               [--out DD=DUMP ..]
        adrdssu --unit SERIAL=IMAGE .. --journal JOURNAL --format-journal ROOM
 The words stand in any order, as `--name value` or `--name=value`. From 1 to 64 units are named, each by its volume serial
 in capitals; ROOM is a number from 3 to 8191.";
@@ -81,7 +82,7 @@ fn first_unknown(words: &[Word]) -> Option<&str> {
 pub fn say_not_built(rt: &HostRuntime) {
     say(
         rt,
-        "PRINT, RELEASE, CONSOLIDATE and COPY are the commands that are built yet, and no sample volume is",
+        "PRINT, RELEASE, CONSOLIDATE, COPY and DUMP of data sets are the commands that are built yet, and no sample volume is",
     );
 }
 

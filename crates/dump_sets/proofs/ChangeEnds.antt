@@ -10,26 +10,26 @@ use Rattle.move_core.specs.declared.steps.Step.{Step}
 use Rattle.move_core.specs.declared.steps.Step.TheVariants as steps
 use Rattle.move_core.specs.Runs.{moves_of}
 use Rattle.move_core.proofs.Running.{run_steps}
-use Rattle.job_turns.proofs.job_copies.SetsOfRows.{named_set}
-use Rattle.job_turns.specs.job_copies.step_room.Room.{ChangesStateSpace}
+use Rattle.job_dumps.proofs.job_turns.job_copies.SetsOfRows.{named_set}
+use Rattle.job_dumps.specs.job_turns.job_copies.step_room.Room.{ChangesStateSpace}
 use Rattle.job_lines.specs.declared.message.Message.{Message}
 use Rattle.job_lines.specs.declared.message.Message.TheVariants as messages
-use Rattle.job_turns.specs.job_steps.unit_session.Sessions.{SessionView}
-use Rattle.job_turns.specs.job_steps.declared.cut.Cut.{Cut}
-use Rattle.job_turns.specs.job_steps.declared.cut.Cut.TheVariants as cuts
-use Rattle.job_turns.specs.job_steps.Carried.{pending_cut}
-use Rattle.job_turns.specs.job_steps.Units.{ForUnits}
-use Rattle.job_turns.specs.job_acts.declared.acts.Acts.{Acts}
-use Rattle.job_turns.specs.job_acts.declared.acts.Acted.{Acted}
-use Rattle.job_turns.specs.job_acts.declared.acts.Acted.TheVariants as variants
-use Rattle.job_turns.specs.job_acts.Making.{repair_steps}
-use Rattle.job_turns.specs.job_acts.Acting.{AllFit, EndsActs, looked_at}
-use Rattle.job_turns.proofs.job_acts.Repairing.{seen_are}
-use Rattle.job_turns.specs.Ends.{Ends}
-use Rattle.job_turns.specs.Stating.{says_unstated, is_unstated, due, repairs, rebuilt, rebuilt_of, rebuilt_in}
-use Rattle.job_turns.specs.Turns.{Action, IsCutAction}
-use Rattle.job_turns.proofs.LoadedUnits.{AreKnown}
-use Rattle.job_turns.proofs.SameSessions.{cut_leaves, ends_told}
+use Rattle.job_dumps.specs.job_turns.job_steps.unit_session.Sessions.{SessionView}
+use Rattle.job_dumps.specs.job_turns.job_steps.declared.cut.Cut.{Cut}
+use Rattle.job_dumps.specs.job_turns.job_steps.declared.cut.Cut.TheVariants as cuts
+use Rattle.job_dumps.specs.job_turns.job_steps.Carried.{pending_cut}
+use Rattle.job_dumps.specs.job_turns.job_steps.Units.{ForUnits}
+use Rattle.job_dumps.specs.job_turns.job_acts.declared.acts.Acts.{Acts}
+use Rattle.job_dumps.specs.job_turns.job_acts.declared.acts.Acted.{Acted}
+use Rattle.job_dumps.specs.job_turns.job_acts.declared.acts.Acted.TheVariants as variants
+use Rattle.job_dumps.specs.job_turns.job_acts.Making.{repair_steps}
+use Rattle.job_dumps.specs.job_turns.job_acts.Acting.{AllFit, EndsActs, looked_at}
+use Rattle.job_dumps.proofs.job_turns.job_acts.Repairing.{seen_are}
+use Rattle.job_dumps.specs.job_turns.Ends.{Ends}
+use Rattle.job_dumps.specs.job_turns.Stating.{says_unstated, is_unstated, due, repairs, rebuilt, rebuilt_of, rebuilt_in}
+use Rattle.job_dumps.specs.job_turns.Turns.{Action, IsCutAction}
+use Rattle.job_dumps.proofs.job_turns.LoadedUnits.{AreKnown}
+use Rattle.job_dumps.proofs.job_turns.SameSessions.{cut_leaves, ends_told}
 use Rattle.dump_sets.specs.declared.changing.Dumped.{Dumped}
 use Rattle.dump_sets.specs.Changing.{changing_steps, changing_lines, ChangesSet, steps_of_dumped, AreLines, HasFew, MayChangeSets, StaysForOthers}
 use Rattle.dump_sets.proofs.Changes.{stays_done}

@@ -4,7 +4,7 @@ use Rattle.std.specs.Prelude.{AllPairs}
 use Rattle.std.proofs.lemmas.List.Elements.{All-nil, All-cons, All-head, All-tail, All-weaker}
 use Rattle.dsn_filter.specs.declared.dsn.Dsn.{Dsn}
 use Rattle.unit_load.specs.declared.state.UnitState.{UnitState}
-use Rattle.job_turns.proofs.job_copies.unit_steps.Readying.{pairs_first, pairs_rest}
+use Rattle.job_dumps.proofs.job_turns.job_copies.unit_steps.Readying.{pairs_first, pairs_rest}
 use Rattle.dump_sets.specs.Changing.{HasFew, MayChangeSets, StaysForOthers}
 
 module _ {room : ℕ} {units : List UnitState} {unit : ℕ} (name : Dsn) {left : List Dsn} (later : List Dsn) (is : left ≡ name ∷ later) (may : MayChangeSets room units unit left) where

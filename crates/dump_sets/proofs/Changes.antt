@@ -14,25 +14,25 @@ use Rattle.volume_change.specs.declared.change.Change.TheVariants.{Repair, Put, 
 use Rattle.unit_load.specs.declared.state.UnitState.{UnitState}
 use Rattle.move_core.specs.declared.steps.Step.{Step}
 use Rattle.move_core.specs.declared.steps.Step.TheVariants as steps
-use Rattle.job_turns.specs.job_copies.step_room.step_plans.vtoc_render.Next.{IsNext, IsChanged, numbered_from}
-use Rattle.job_turns.specs.job_copies.step_room.Room as room
-use Rattle.job_turns.specs.job_copies.step_room.Room.{AlikeChangesHaveRoom, StatedVolumesHaveRoom, ChangesStateSpace}
-use Rattle.job_turns.specs.job_copies.unit_steps.Plans.{IsLoadedAt, HasRow, extents_in}
-use Rattle.job_turns.proofs.job_copies.job_select.OneName.{one_named}
-use Rattle.job_turns.proofs.job_copies.unit_change.ChangedRows.{is_changed}
-use Rattle.job_turns.proofs.job_copies.unit_steps.OneChange.{same_volume}
-use Rattle.job_turns.proofs.job_copies.vtoc_render.NextRows.{fields_same}
-use Rattle.job_turns.specs.job_steps.unit_session.Planned.{LacksRecordsFor}
-use Rattle.job_turns.specs.job_steps.Carried.{IsUnitAfter}
-use Rattle.job_turns.proofs.job_steps.unit_session.unit_steps.Small.{swap_no_mark, remove_no_mark}
-use Rattle.job_turns.specs.job_acts.declared.acts.Acts.{Acts}
-use Rattle.job_turns.specs.job_acts.Making.{HasSet, MayReset, MayPlan, repair_steps}
-use Rattle.job_turns.specs.job_acts.Acting.{AreSound, LacksRoom, IsDone, MayDo, AreDone, MayAct}
-use Rattle.job_turns.proofs.job_acts.Kept.{after_one, loaded_after}
-use Rattle.job_turns.proofs.job_acts.PlansMade.{repair_planned, delete_planned, reset_planned, same_loaded, one_of}
-use Rattle.job_turns.proofs.job_acts.Repairing.{full_one, may_act}
+use Rattle.job_dumps.specs.job_turns.job_copies.step_room.step_plans.vtoc_render.Next.{IsNext, IsChanged, numbered_from}
+use Rattle.job_dumps.specs.job_turns.job_copies.step_room.Room as room
+use Rattle.job_dumps.specs.job_turns.job_copies.step_room.Room.{AlikeChangesHaveRoom, StatedVolumesHaveRoom, ChangesStateSpace}
+use Rattle.job_dumps.specs.job_turns.job_copies.unit_steps.Plans.{IsLoadedAt, HasRow, extents_in}
+use Rattle.job_dumps.proofs.job_turns.job_copies.job_select.OneName.{one_named}
+use Rattle.job_dumps.proofs.job_turns.job_copies.unit_change.ChangedRows.{is_changed}
+use Rattle.job_dumps.proofs.job_turns.job_copies.unit_steps.OneChange.{same_volume}
+use Rattle.job_dumps.proofs.job_turns.job_copies.vtoc_render.NextRows.{fields_same}
+use Rattle.job_dumps.specs.job_turns.job_steps.unit_session.Planned.{LacksRecordsFor}
+use Rattle.job_dumps.specs.job_turns.job_steps.Carried.{IsUnitAfter}
+use Rattle.job_dumps.proofs.job_turns.job_steps.unit_session.unit_steps.Small.{swap_no_mark, remove_no_mark}
+use Rattle.job_dumps.specs.job_turns.job_acts.declared.acts.Acts.{Acts}
+use Rattle.job_dumps.specs.job_turns.job_acts.Making.{HasSet, MayReset, MayPlan, repair_steps}
+use Rattle.job_dumps.specs.job_turns.job_acts.Acting.{AreSound, LacksRoom, IsDone, MayDo, AreDone, MayAct}
+use Rattle.job_dumps.proofs.job_turns.job_acts.Kept.{after_one, loaded_after}
+use Rattle.job_dumps.proofs.job_turns.job_acts.PlansMade.{repair_planned, delete_planned, reset_planned, same_loaded, one_of}
+use Rattle.job_dumps.proofs.job_turns.job_acts.Repairing.{full_one, may_act}
 use Rattle.job_dumps.specs.declared.wish.DumpWish.{DumpWish}
-use Rattle.job_turns.specs.Stating.{is_unstated}
+use Rattle.job_dumps.specs.job_turns.Stating.{is_unstated}
 use Rattle.dump_sets.specs.declared.changing.Dumped.{Dumped}
 use Rattle.dump_sets.specs.Changing.{changing_steps, steps_of_dumped, HasFew, MayChangeSets, StaysForOthers}
 

@@ -6,8 +6,8 @@ use Rattle.vtoc_core.specs.declared.volume.Row.{Row}
 use Rattle.vtoc_core.specs.declared.volume.Volume.{Volume}
 use Rattle.unit_load.specs.declared.state.UnitState.{UnitState}
 use Rattle.job_lines.specs.declared.message.Reason.{Reason}
-use Rattle.job_turns.specs.job_copies.unit_steps.Plans.{IsLoadedAt}
-use Rattle.job_turns.proofs.job_copies.unit_steps.OneChange.{same_volume}
+use Rattle.job_dumps.specs.job_turns.job_copies.unit_steps.Plans.{IsLoadedAt}
+use Rattle.job_dumps.proofs.job_turns.job_copies.unit_steps.OneChange.{same_volume}
 use Rattle.job_dumps.specs.declared.pass.DumpScene.{DumpScene}
 use Rattle.job_dumps.specs.Passing.{DumpedCanBeChanged}
 use Rattle.job_dumps.specs.Putting.{HaveRows}

@@ -22,25 +22,25 @@ use Rattle.unit_load.specs.declared.state.UnitState.{UnitState}
 use Rattle.move_core.specs.declared.steps.Step.{Step}
 use Rattle.job_lines.specs.declared.message.Message.{Message}
 use Rattle.job_lines.specs.declared.message.Message.TheVariants as messages
-use Rattle.job_turns.specs.job_copies.job_select.Selection.{ArePicked, Selects}
-use Rattle.job_turns.specs.job_copies.step_plans.Plans.{IsSound}
-use Rattle.job_turns.specs.job_copies.unit_steps.Loaded.{AreModels}
-use Rattle.job_turns.specs.job_copies.unit_steps.Plans.{HasRow, IsLoadedAt}
-use Rattle.job_turns.specs.job_steps.unit_session.Sessions.{SessionView}
-use Rattle.job_turns.specs.job_steps.declared.cut.Cut.{Cut}
-use Rattle.job_turns.specs.job_steps.declared.cut.Cut.TheVariants as cuts
-use Rattle.job_turns.specs.job_steps.Units.{ForUnits}
+use Rattle.job_dumps.specs.job_turns.job_copies.job_select.Selection.{ArePicked, Selects}
+use Rattle.job_dumps.specs.job_turns.job_copies.step_plans.Plans.{IsSound}
+use Rattle.job_dumps.specs.job_turns.job_copies.unit_steps.Loaded.{AreModels}
+use Rattle.job_dumps.specs.job_turns.job_copies.unit_steps.Plans.{HasRow, IsLoadedAt}
+use Rattle.job_dumps.specs.job_turns.job_steps.unit_session.Sessions.{SessionView}
+use Rattle.job_dumps.specs.job_turns.job_steps.declared.cut.Cut.{Cut}
+use Rattle.job_dumps.specs.job_turns.job_steps.declared.cut.Cut.TheVariants as cuts
+use Rattle.job_dumps.specs.job_turns.job_steps.Units.{ForUnits}
 use Rattle.job_outputs.specs.declared.places.OutputsFault.{OutputsFault}
 use Rattle.job_outputs.specs.declared.places.OutputsFault.TheVariants as faults
 use Rattle.job_outputs.specs.Kept.{IsKeptBut, KeepsUsed}
 use Rattle.job_outputs.specs.Outputs.{ArePlacesOf, IsTold, LetsOutputs, RefusesOutputs}
 use Rattle.job_dumps.specs.declared.wish.DumpWish.{DumpWish}
 use Rattle.job_dumps.proofs.InOrder.{picked_in_order}
-use Rattle.job_turns.specs.Ends.{Ends}
-use Rattle.job_turns.specs.Refusal.{IsUnitFor, IsUnitOf, IsUnknown, Lets, Refuses, Standing, standing_in, standing_of}
-use Rattle.job_turns.specs.Setting.{setting_of}
-use Rattle.job_turns.proofs.SameSessions.{ends_as, ends_said}
-use Rattle.job_turns.proofs.Standing.{standings_are, volume_of}
+use Rattle.job_dumps.specs.job_turns.Ends.{Ends}
+use Rattle.job_dumps.specs.job_turns.Refusal.{IsUnitFor, IsUnitOf, IsUnknown, Lets, Refuses, Standing, standing_in, standing_of}
+use Rattle.job_dumps.specs.job_turns.Setting.{setting_of}
+use Rattle.job_dumps.proofs.job_turns.SameSessions.{ends_as, ends_said}
+use Rattle.job_dumps.proofs.job_turns.Standing.{standings_are, volume_of}
 use Rattle.dump_sets.specs.Dump.{Dumps, DumpsDataSets, GoesOnOutputs, IsCutDumping, IsCutIn, use_of}
 use Rattle.dump_sets.specs.Going.{AreReady, AreTaken}
 use Rattle.dump_sets.proofs.Following.{short_within}

@@ -20,20 +20,20 @@ use Rattle.move_core.specs.Runs.{IsRun}
 use Rattle.move_core.proofs.Running.{run_less}
 use Rattle.job_lines.specs.declared.message.Message.{Message}
 use Rattle.job_lines.specs.declared.message.Reason.{Reason}
-use Rattle.job_turns.specs.job_copies.unit_change.Described.{Describes}
-use Rattle.job_turns.specs.job_copies.unit_steps.Plans.{IsLoadedAt}
-use Rattle.job_turns.specs.job_steps.unit_session.Sessions.{BrokenView, IsSameSession, SessionView}
-use Rattle.job_turns.specs.job_steps.declared.cut.Cut.{Cut}
-use Rattle.job_turns.specs.job_steps.declared.cut.Cut.TheVariants as cuts
-use Rattle.job_turns.specs.job_steps.Units.{ForUnits}
-use Rattle.job_turns.proofs.job_acts.Sessions.{keeps_same}
+use Rattle.job_dumps.specs.job_turns.job_copies.unit_change.Described.{Describes}
+use Rattle.job_dumps.specs.job_turns.job_copies.unit_steps.Plans.{IsLoadedAt}
+use Rattle.job_dumps.specs.job_turns.job_steps.unit_session.Sessions.{BrokenView, IsSameSession, SessionView}
+use Rattle.job_dumps.specs.job_turns.job_steps.declared.cut.Cut.{Cut}
+use Rattle.job_dumps.specs.job_turns.job_steps.declared.cut.Cut.TheVariants as cuts
+use Rattle.job_dumps.specs.job_turns.job_steps.Units.{ForUnits}
+use Rattle.job_dumps.proofs.job_turns.job_acts.Sessions.{keeps_same}
 use Rattle.job_dumps.specs.declared.wish.DumpWish.{DumpWish}
 use Rattle.job_dumps.specs.Putting.{holding}
 use Rattle.job_dumps.specs.Texts.{OnlyLooks}
-use Rattle.job_turns.specs.Ends.{Ends}
-use Rattle.job_turns.specs.Setting.{Setting, setting_of}
-use Rattle.job_turns.proofs.LoadedUnits.{AreKnown}
-use Rattle.job_turns.proofs.SameSessions.{ends_after, ends_as}
+use Rattle.job_dumps.specs.job_turns.Ends.{Ends}
+use Rattle.job_dumps.specs.job_turns.Setting.{Setting, setting_of}
+use Rattle.job_dumps.proofs.job_turns.LoadedUnits.{AreKnown}
+use Rattle.job_dumps.proofs.job_turns.SameSessions.{ends_after, ends_as}
 use Rattle.dump_sets.specs.Dump.{Dumps, FollowsDump, IsCutBehind, IsCutIn, IsCutOnOutputs, StandsOnOutputs, head_of, request_of}
 use Rattle.dump_sets.specs.Going.{IsHeadFor}
 use Rattle.dump_sets.specs.Writing.{LeavesDump, WritesDump}

@@ -17,18 +17,18 @@ use Rattle.move_core.proofs.Running.{run_idle}
 use Rattle.job_lines.specs.declared.message.Message.{Message}
 use Rattle.job_lines.specs.declared.message.Message.TheVariants as messages
 use Rattle.job_lines.specs.declared.message.Reason.{Reason}
-use Rattle.job_turns.specs.job_steps.unit_session.Sessions.{SessionView}
-use Rattle.job_turns.specs.job_steps.declared.cut.Cut.{Cut}
-use Rattle.job_turns.specs.job_steps.declared.cut.Cut.TheVariants as cuts
-use Rattle.job_turns.specs.job_steps.Carried.{pending_cut}
-use Rattle.job_turns.specs.job_steps.Units.{facts_of}
-use Rattle.job_turns.proofs.job_acts.Sessions.{no_change}
+use Rattle.job_dumps.specs.job_turns.job_steps.unit_session.Sessions.{SessionView}
+use Rattle.job_dumps.specs.job_turns.job_steps.declared.cut.Cut.{Cut}
+use Rattle.job_dumps.specs.job_turns.job_steps.declared.cut.Cut.TheVariants as cuts
+use Rattle.job_dumps.specs.job_turns.job_steps.Carried.{pending_cut}
+use Rattle.job_dumps.specs.job_turns.job_steps.Units.{facts_of}
+use Rattle.job_dumps.proofs.job_turns.job_acts.Sessions.{no_change}
 use Rattle.job_dumps.specs.declared.wish.DumpWish.{DumpWish}
 use Rattle.job_dumps.specs.Reasons.{changes_sets}
-use Rattle.job_turns.specs.Ends.{Ends}
-use Rattle.job_turns.specs.Setting.{Setting, setting_of}
-use Rattle.job_turns.specs.Turns.{Action, AreCutTurns, Turns}
-use Rattle.job_turns.proofs.SameSessions.{ends_said}
+use Rattle.job_dumps.specs.job_turns.Ends.{Ends}
+use Rattle.job_dumps.specs.job_turns.Setting.{Setting, setting_of}
+use Rattle.job_dumps.specs.job_turns.Turns.{Action, AreCutTurns, Turns}
+use Rattle.job_dumps.proofs.job_turns.SameSessions.{ends_said}
 use Rattle.dump_sets.specs.Changing.{ChangesSet}
 use Rattle.dump_sets.specs.Dump.{ChangesTaken, FollowsDump, IsCutBehind, IsCutInChanges}
 use Rattle.dump_sets.specs.Going.{AreDumpLines}

@@ -15,25 +15,25 @@ use Rattle.move_core.specs.declared.steps.Step.TheVariants as steps
 use Rattle.move_core.specs.Facts.{shown}
 use Rattle.move_core.specs.Runs.{IsRun}
 use Rattle.job_lines.specs.declared.message.Message.{Message}
-use Rattle.job_turns.specs.job_copies.step_room.step_plans.vtoc_render.Next.{IsNext}
-use Rattle.job_turns.specs.job_copies.step_room.Room as room
-use Rattle.job_turns.specs.job_copies.step_room.Room.{FittingChangesAreNotFull, LackingChangesAreFull, IsFullFor}
-use Rattle.job_turns.specs.job_copies.unit_steps.Plans.{IsLoadedAt}
-use Rattle.job_turns.proofs.job_copies.unit_steps.OneChange.{same_volume}
-use Rattle.job_turns.specs.job_steps.unit_session.Sessions.{SessionView}
-use Rattle.job_turns.specs.job_steps.declared.cut.Cut.{Cut}
-use Rattle.job_turns.specs.job_steps.declared.cut.Cut.TheVariants as cuts
-use Rattle.job_turns.specs.job_steps.Carried.{IsCutBefore, IsShort, pending_cut, pool_cut}
-use Rattle.job_turns.specs.job_steps.Units.{ForUnits}
-use Rattle.job_turns.specs.job_acts.Acting.{AllFit, Fits, SomeLacks}
-use Rattle.job_turns.specs.job_acts.Making.{MayBeChanged}
-use Rattle.job_turns.proofs.job_acts.PlansMade.{repair_planned}
-use Rattle.job_turns.proofs.job_acts.Repairing.{full_one}
-use Rattle.job_turns.proofs.job_acts.Sessions.{keeps_same}
+use Rattle.job_dumps.specs.job_turns.job_copies.step_room.step_plans.vtoc_render.Next.{IsNext}
+use Rattle.job_dumps.specs.job_turns.job_copies.step_room.Room as room
+use Rattle.job_dumps.specs.job_turns.job_copies.step_room.Room.{FittingChangesAreNotFull, LackingChangesAreFull, IsFullFor}
+use Rattle.job_dumps.specs.job_turns.job_copies.unit_steps.Plans.{IsLoadedAt}
+use Rattle.job_dumps.proofs.job_turns.job_copies.unit_steps.OneChange.{same_volume}
+use Rattle.job_dumps.specs.job_turns.job_steps.unit_session.Sessions.{SessionView}
+use Rattle.job_dumps.specs.job_turns.job_steps.declared.cut.Cut.{Cut}
+use Rattle.job_dumps.specs.job_turns.job_steps.declared.cut.Cut.TheVariants as cuts
+use Rattle.job_dumps.specs.job_turns.job_steps.Carried.{IsCutBefore, IsShort, pending_cut, pool_cut}
+use Rattle.job_dumps.specs.job_turns.job_steps.Units.{ForUnits}
+use Rattle.job_dumps.specs.job_turns.job_acts.Acting.{AllFit, Fits, SomeLacks}
+use Rattle.job_dumps.specs.job_turns.job_acts.Making.{MayBeChanged}
+use Rattle.job_dumps.proofs.job_turns.job_acts.PlansMade.{repair_planned}
+use Rattle.job_dumps.proofs.job_turns.job_acts.Repairing.{full_one}
+use Rattle.job_dumps.proofs.job_turns.job_acts.Sessions.{keeps_same}
 use Rattle.job_dumps.specs.Passing.{SaysFull}
-use Rattle.job_turns.specs.Ends.{Ends}
-use Rattle.job_turns.specs.Turns.{Action}
-use Rattle.job_turns.proofs.LoadedUnits.{AreKnown}
+use Rattle.job_dumps.specs.job_turns.Ends.{Ends}
+use Rattle.job_dumps.specs.job_turns.Turns.{Action}
+use Rattle.job_dumps.proofs.job_turns.LoadedUnits.{AreKnown}
 use Rattle.dump_sets.specs.Going.{CanState}
 use Rattle.dump_sets.proofs.Changes.{no_mark_repair, only_one}
 

@@ -9,7 +9,7 @@ use Rattle.vtoc_core.specs.declared.volume.Row.{Row}
 use Rattle.vtoc_core.specs.declared.volume.Volume.{Volume}
 use Rattle.vtoc_core.specs.Loaded.{records_for}
 use Rattle.vtoc_load.specs.Counted.{RecordsAreCounted}
-use Rattle.job_turns.specs.job_copies.step_plans.Plans.{IsSound}
+use Rattle.job_dumps.specs.job_turns.job_copies.step_plans.Plans.{IsSound}
 
 -- a row has a record at least
 row_records : (rows : List Row) → length rows ≤ sum_by records_for rows

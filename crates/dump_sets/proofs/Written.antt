@@ -11,7 +11,7 @@ use Rattle.dump_fmt.specs.Outs.{OutSeen, AreFinished}
 use Rattle.dump_fmt.specs.Text.{dump_text, front_text}
 use Rattle.dump_fmt.specs.Writing.{IsWriting, IsWritten, MayEnd}
 use Rattle.job_lines.specs.declared.message.Reason.{Reason}
-use Rattle.job_turns.specs.job_steps.unit_session.Sessions.{SessionView}
+use Rattle.job_dumps.specs.job_turns.job_steps.unit_session.Sessions.{SessionView}
 use Rattle.job_dumps.specs.Dumped.{DumpRequest}
 use Rattle.job_dumps.specs.Passing.{LeavesAll, TakesAll}
 use Rattle.job_dumps.specs.Putting.{holding}

@@ -9,14 +9,14 @@ use Rattle.volume_change.specs.declared.change.Change.TheVariants.{Repair}
 use Rattle.unit_load.specs.declared.state.UnitState.{UnitState}
 use Rattle.move_core.specs.declared.steps.Step.{Step}
 use Rattle.move_core.specs.declared.steps.Step.TheVariants as steps
-use Rattle.job_turns.specs.job_copies.unit_steps.Plans.{HasRow}
-use Rattle.job_turns.specs.job_copies.step_room.step_plans.vtoc_render.Next.{IsNext}
-use Rattle.job_turns.specs.job_steps.Units.{IsSet}
+use Rattle.job_dumps.specs.job_turns.job_copies.unit_steps.Plans.{HasRow}
+use Rattle.job_dumps.specs.job_turns.job_copies.step_room.step_plans.vtoc_render.Next.{IsNext}
+use Rattle.job_dumps.specs.job_turns.job_steps.Units.{IsSet}
 use Rattle.job_lines.specs.declared.message.Message.{Message}
 use Rattle.job_lines.specs.declared.message.Message.TheVariants as messages
-use Rattle.job_turns.specs.job_acts.Making.{MayBeChanged, repair_steps}
+use Rattle.job_dumps.specs.job_turns.job_acts.Making.{MayBeChanged, repair_steps}
 use Rattle.job_dumps.specs.declared.wish.DumpWish.{DumpWish}
-use Rattle.job_turns.specs.Stating.{repairs, rebuilt, due, rebuilt_in}
+use Rattle.job_dumps.specs.job_turns.Stating.{repairs, rebuilt, due, rebuilt_in}
 use Rattle.dump_sets.specs.declared.changing.Dumped.{Dumped}
 
 -- ---- steps and lines

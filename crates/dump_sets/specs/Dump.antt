@@ -11,7 +11,7 @@ use Rattle.sysin_lang.specs.declared.command.Filter.{Filter}
 use Rattle.vol_label.specs.declared.serial.Serial.{Serial}
 use Rattle.volume_model.specs.Unit.{OnlineVolume, UnitModel, online}
 use Rattle.move_core.specs.declared.steps.Step.{Step}
-use Rattle.job_turns.specs.job_copies.job_select.Selection.{Selects}
+use Rattle.job_dumps.specs.job_turns.job_copies.job_select.Selection.{Selects}
 use Rattle.job_lines.specs.declared.message.Message.{Message}
 use Rattle.job_lines.specs.declared.message.Message.TheVariants as messages
 use Rattle.job_lines.specs.declared.message.Reason.{Reason}
@@ -20,10 +20,10 @@ use Rattle.job_dumps.specs.declared.wish.DumpWish.{DumpWish}
 use Rattle.job_dumps.specs.Dumped.{DumpRequest, DumpsSets, IsCutDump}
 use Rattle.job_dumps.specs.Putting.{holding}
 use Rattle.job_dumps.specs.Reasons.{changes_sets}
-use Rattle.job_turns.specs.declared.units.UnitUse.{UnitUse}
-use Rattle.job_turns.specs.Refusal.{IsUnitOf, IsUnknown, Lets, Refuses, standing_of}
-use Rattle.job_turns.specs.Setting.{Setting}
-use Rattle.job_turns.specs.Turns.{Action, AreCutTurns, Turns}
+use Rattle.job_dumps.specs.job_turns.declared.units.UnitUse.{UnitUse}
+use Rattle.job_dumps.specs.job_turns.Refusal.{IsUnitOf, IsUnknown, Lets, Refuses, standing_of}
+use Rattle.job_dumps.specs.job_turns.Setting.{Setting}
+use Rattle.job_dumps.specs.job_turns.Turns.{Action, AreCutTurns, Turns}
 use Rattle.dump_sets.specs.Changing.{ChangesSet}
 use Rattle.dump_sets.specs.Telling.{SaysSets, lost_lines, some_whole, taken_of}
 

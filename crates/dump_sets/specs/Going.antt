@@ -10,11 +10,11 @@ use Rattle.dump_fmt.specs.Outs.{AreDistinct, OutSeen}
 use Rattle.vtoc_core.specs.declared.volume.Volume.{Volume}
 use Rattle.volume_change.specs.declared.change.Change.TheVariants.{Repair}
 use Rattle.unit_load.specs.declared.state.UnitState.{UnitState}
-use Rattle.job_turns.specs.job_copies.unit_steps.Plans.{IsLoadedAt}
-use Rattle.job_turns.specs.job_copies.step_room.step_plans.vtoc_render.Next.{IsNext}
+use Rattle.job_dumps.specs.job_turns.job_copies.unit_steps.Plans.{IsLoadedAt}
+use Rattle.job_dumps.specs.job_turns.job_copies.step_room.step_plans.vtoc_render.Next.{IsNext}
 use Rattle.job_lines.specs.declared.message.Message.{Message}
 use Rattle.job_lines.specs.declared.message.Reason.{Reason}
-use Rattle.job_turns.specs.job_acts.Making.{MayBeChanged}
+use Rattle.job_dumps.specs.job_turns.job_acts.Making.{MayBeChanged}
 use Rattle.job_dumps.specs.declared.wish.DumpWish.{DumpWish}
 use Rattle.job_dumps.specs.Putting.{AreInOrder}
 use Rattle.job_dumps.specs.Reasons.{changes_sets}

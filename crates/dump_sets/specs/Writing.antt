@@ -10,10 +10,10 @@ use Rattle.dump_fmt.specs.Text.{dump_text, front_text}
 use Rattle.dump_fmt.specs.Writing.{IsWritten}
 use Rattle.vtoc_core.specs.declared.volume.Volume.{Volume}
 use Rattle.unit_load.specs.declared.state.UnitState.{UnitState}
-use Rattle.job_turns.specs.job_copies.unit_steps.Plans.{IsLoadedAt}
+use Rattle.job_dumps.specs.job_turns.job_copies.unit_steps.Plans.{IsLoadedAt}
 use Rattle.job_lines.specs.declared.message.Reason.{Reason}
-use Rattle.job_turns.specs.job_steps.unit_session.Sessions.{SessionView}
-use Rattle.job_turns.specs.job_steps.Units.{ForUnits}
+use Rattle.job_dumps.specs.job_turns.job_steps.unit_session.Sessions.{SessionView}
+use Rattle.job_dumps.specs.job_turns.job_steps.Units.{ForUnits}
 use Rattle.job_dumps.specs.Dumped.{DumpRequest, DumpsSets, IsCutDump}
 use Rattle.job_dumps.specs.Putting.{AreInOrder, holding}
 

@@ -7,4 +7,6 @@ mod telling;
 mod writing;
 
 pub use dumping::{DumpJob, dump};
-pub use job_dumps::DumpWish;
+pub use job_dumps;
+pub use job_dumps::{DumpWish, job_turns};
+pub use job_outputs;

@@ -12,7 +12,7 @@ use Rattle.volume_model.specs.Reads.{fields_of_1}
 use Rattle.vtoc_core.specs.declared.volume.Row.{Row}
 use Rattle.vtoc_core.specs.declared.volume.Volume.{Volume}
 use Rattle.vtoc_core.specs.Loaded.{HasItsName}
-use Rattle.job_copies.specs.unit_steps.Plans.{HasRow, tracks_in}
+use Rattle.job_turns.specs.job_copies.unit_steps.Plans.{HasRow, tracks_in}
 use Rattle.job_dumps.specs.Putting.{AreInOrder, HaveRows, IsBefore, IsReadyFor, holding}
 use Rattle.job_dumps.specs.Texts.{IsOfRow}
 use Rattle.job_dumps.proofs.Fronts.{front_pairs, last_pair, tracks_more}

@@ -25,12 +25,12 @@ use Rattle.vtoc_layout.specs.Layout.{AreDistinct}
 use Rattle.vtoc_layout.proofs.Apart.{all_from}
 use Rattle.vtoc_layout.proofs.Distinct.{at_first, first_or_later, in_later, in_none}
 use Rattle.ckd_image.proofs.Lists.{contains_map}
-use Rattle.job_copies.specs.step_plans.Plans.{IsSound}
-use Rattle.job_copies.specs.job_select.Selection.{ArePicked}
-use Rattle.job_copies.proofs.job_select.Counts.{rows_tracks_few}
-use Rattle.job_copies.proofs.job_select.RowNames.{differ_at}
-use Rattle.job_copies.proofs.step_plans.RowNames.{named, names_differ}
-use Rattle.job_copies.proofs.step_room.SoundRows.{one_row}
+use Rattle.job_turns.specs.job_copies.step_plans.Plans.{IsSound}
+use Rattle.job_turns.specs.job_copies.job_select.Selection.{ArePicked}
+use Rattle.job_turns.proofs.job_copies.job_select.Counts.{rows_tracks_few}
+use Rattle.job_turns.proofs.job_copies.job_select.RowNames.{differ_at}
+use Rattle.job_turns.proofs.job_copies.step_plans.RowNames.{named, names_differ}
+use Rattle.job_turns.proofs.job_copies.step_room.SoundRows.{one_row}
 use Rattle.dump_fmt.specs.Front.{largest_count}
 use Rattle.job_dumps.specs.Putting.{AreInOrder, HaveRows, IsBefore}
 

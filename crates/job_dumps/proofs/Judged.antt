@@ -18,17 +18,17 @@ use Rattle.unit_load.specs.declared.state.UnitState.TheVariants.{Online}
 use Rattle.unit_load.specs.Kept.{IsKept}
 use Rattle.move_core.specs.Facts.{Facts}
 use Rattle.move_core.specs.Stands.{IsSettled}
-use Rattle.job_copies.specs.unit_change.Described.{Describes, DescribesSet}
-use Rattle.job_copies.specs.unit_steps.Loaded.{IsModel, AreModels}
-use Rattle.job_copies.specs.unit_steps.Plans.{IsLoadedAt, HasRow}
-use Rattle.job_copies.proofs.SetsOfRows.{named_set, described_row}
-use Rattle.job_acts.specs.Acting.{AreSound}
-use Rattle.job_acts.proofs.Loaded.{are_sound}
+use Rattle.job_turns.specs.job_copies.unit_change.Described.{Describes, DescribesSet}
+use Rattle.job_turns.specs.job_copies.unit_steps.Loaded.{IsModel, AreModels}
+use Rattle.job_turns.specs.job_copies.unit_steps.Plans.{IsLoadedAt, HasRow}
+use Rattle.job_turns.proofs.job_copies.SetsOfRows.{named_set, described_row}
+use Rattle.job_turns.specs.job_acts.Acting.{AreSound}
+use Rattle.job_turns.proofs.job_acts.Loaded.{are_sound}
 use Rattle.job_lines.specs.declared.message.Reason.{Reason}
 use Rattle.job_lines.specs.declared.message.Reason.TheVariants as reasons
 use Rattle.job_lines.specs.Order.{IsFirst}
-use Rattle.job_steps.specs.unit_session.Sessions.{SessionView}
-use Rattle.job_steps.specs.Units.{facts_of, ForUnits, IsSet}
+use Rattle.job_turns.specs.job_steps.unit_session.Sessions.{SessionView}
+use Rattle.job_turns.specs.job_steps.Units.{facts_of, ForUnits, IsSet}
 use Rattle.job_dumps.specs.declared.wish.DumpWish.{DumpWish}
 use Rattle.job_dumps.specs.Reasons.{PreventsAtFirst, first_reasons}
 

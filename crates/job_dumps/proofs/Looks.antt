@@ -1,8 +1,8 @@
 -- Sessions that are only read.
 use Rattle.dasd_pool.specs.declared.pool.Pool.{Ghosts}
 use Rattle.move_core.proofs.Running.{run_idle, run_then}
-use Rattle.job_steps.specs.unit_session.Sessions.{SessionView}
-use Rattle.job_acts.proofs.Sessions.{same_itself, same_then}
+use Rattle.job_turns.specs.job_steps.unit_session.Sessions.{SessionView}
+use Rattle.job_turns.proofs.job_acts.Sessions.{same_itself, same_then}
 use Rattle.job_dumps.specs.Texts.{OnlyLooks}
 
 module _ {P : Type 0} (pools : Ghosts P) where

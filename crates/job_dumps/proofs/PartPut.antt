@@ -32,17 +32,17 @@ use Rattle.unit_load.specs.declared.state.UnitState.TheVariants.{Online}
 use Rattle.unit_load.specs.Kept.{IsFromSlots, IsKept}
 use Rattle.move_core.specs.Facts.{Facts}
 use Rattle.move_core.specs.Stands.{IsSettled}
-use Rattle.job_copies.specs.unit_change.Described.{Describes, DescribesSet, own_place}
-use Rattle.job_copies.specs.unit_steps.Loaded.{AreModels}
-use Rattle.job_copies.specs.unit_steps.Plans.{HasRow, tracks_in}
-use Rattle.job_copies.specs.step_plans.Plans.{IsSound}
-use Rattle.job_copies.proofs.SetsOfRows.{described_row}
-use Rattle.job_copies.proofs.step_plans.LoadedRows.{sound_row}
-use Rattle.job_copies.proofs.step_room.SoundRows.{one_row}
-use Rattle.job_copies.proofs.unit_steps.OneChange.{same_volume}
-use Rattle.job_steps.specs.unit_session.Sessions.{SessionView}
-use Rattle.job_steps.specs.unit_session.Texts.{AreTextsOf}
-use Rattle.job_steps.specs.Units.{ForUnits, IsSet, facts_of}
+use Rattle.job_turns.specs.job_copies.unit_change.Described.{Describes, DescribesSet, own_place}
+use Rattle.job_turns.specs.job_copies.unit_steps.Loaded.{AreModels}
+use Rattle.job_turns.specs.job_copies.unit_steps.Plans.{HasRow, tracks_in}
+use Rattle.job_turns.specs.job_copies.step_plans.Plans.{IsSound}
+use Rattle.job_turns.proofs.job_copies.SetsOfRows.{described_row}
+use Rattle.job_turns.proofs.job_copies.step_plans.LoadedRows.{sound_row}
+use Rattle.job_turns.proofs.job_copies.step_room.SoundRows.{one_row}
+use Rattle.job_turns.proofs.job_copies.unit_steps.OneChange.{same_volume}
+use Rattle.job_turns.specs.job_steps.unit_session.Sessions.{SessionView}
+use Rattle.job_turns.specs.job_steps.unit_session.Texts.{AreTextsOf}
+use Rattle.job_turns.specs.job_steps.Units.{ForUnits, IsSet, facts_of}
 use Rattle.job_dumps.specs.declared.texts.SetTracks.{SetTracks}
 use Rattle.job_dumps.specs.Parts.{IsPartOfSet}
 use Rattle.job_dumps.specs.Putting.{IsBefore, IsReadyFor, MayPutPart, holding}

@@ -22,8 +22,8 @@ use Rattle.volume_model.specs.Unit.{DataSet, OnlineVolume, Text, good, bad}
 use Rattle.vtoc_core.specs.declared.volume.Row.{Row}
 use Rattle.vtoc_core.specs.declared.volume.Volume.{Volume}
 use Rattle.move_core.specs.Steps.{IsNewKind, original_of}
-use Rattle.job_copies.specs.unit_change.Described.{DescribesSet, own_place}
-use Rattle.job_copies.specs.unit_steps.Plans.{tracks_in}
+use Rattle.job_turns.specs.job_copies.unit_change.Described.{DescribesSet, own_place}
+use Rattle.job_turns.specs.job_copies.unit_steps.Plans.{tracks_in}
 use Rattle.job_dumps.specs.Parts.{EndsHere, IsPartOfSet}
 use Rattle.job_dumps.specs.Texts.{IsFrontOfSet, IsOfRow}
 

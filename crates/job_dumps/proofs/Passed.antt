@@ -17,15 +17,15 @@ use Rattle.vtoc_core.specs.declared.volume.Row.{Row}
 use Rattle.vtoc_core.specs.declared.volume.Volume.{Volume}
 use Rattle.vtoc_core.specs.Loaded.{HasItsName}
 use Rattle.unit_load.specs.declared.state.UnitState.{UnitState}
-use Rattle.job_copies.specs.unit_steps.Plans.{HasRow, IsLoadedAt, tracks_in}
-use Rattle.job_copies.proofs.step_plans.LoadedRows.{sound_row}
-use Rattle.job_copies.proofs.step_room.SoundRows.{one_row}
-use Rattle.job_copies.proofs.unit_steps.OneChange.{same_volume}
+use Rattle.job_turns.specs.job_copies.unit_steps.Plans.{HasRow, IsLoadedAt, tracks_in}
+use Rattle.job_turns.proofs.job_copies.step_plans.LoadedRows.{sound_row}
+use Rattle.job_turns.proofs.job_copies.step_room.SoundRows.{one_row}
+use Rattle.job_turns.proofs.job_copies.unit_steps.OneChange.{same_volume}
 use Rattle.job_lines.specs.declared.message.Reason.{Reason}
-use Rattle.job_steps.specs.unit_session.Sessions.{SessionView}
-use Rattle.job_steps.specs.Units.{ForUnits}
-use Rattle.job_acts.specs.Acting.{AreSound}
-use Rattle.job_acts.proofs.Sessions.{for_old}
+use Rattle.job_turns.specs.job_steps.unit_session.Sessions.{SessionView}
+use Rattle.job_turns.specs.job_steps.Units.{ForUnits}
+use Rattle.job_turns.specs.job_acts.Acting.{AreSound}
+use Rattle.job_turns.proofs.job_acts.Sessions.{for_old}
 use Rattle.job_dumps.specs.Dumped.{DumpRequest, DumpsSet, DumpsSets, IsUnderWayFor}
 use Rattle.job_dumps.specs.Passing.{BeginsDump, HoldsParts, LeavesAll, LeavesTurn, TakesAll, TakesTurn}
 use Rattle.job_dumps.specs.Putting.{HasPut, IsReadyFor}

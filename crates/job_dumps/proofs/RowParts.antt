@@ -33,16 +33,16 @@ use Rattle.vtoc_layout.proofs.Uses.{in_set_there}
 use Rattle.unit_load.specs.declared.state.UnitState.{UnitState}
 use Rattle.unit_load.specs.Kept.{IsFromSlots, IsKept}
 use Rattle.unit_load.proofs.Runs.{said_slot}
-use Rattle.job_copies.specs.unit_steps.Plans.{IsLoadedAt, extents_in, tracks_in}
-use Rattle.job_copies.specs.step_plans.Plans.{IsSound}
-use Rattle.job_copies.specs.unit_steps.render_laws.Rendered.{WasLoaded}
-use Rattle.job_copies.proofs.job_select.Counts.{row_tracks_few}
-use Rattle.job_copies.proofs.step_plans.LoadedRows.{sound_row}
-use Rattle.job_copies.proofs.unit_change.LoadedTracks.{four}
-use Rattle.job_copies.proofs.unit_steps.Blocks.{few, from_slots, home_short}
-use Rattle.job_acts.proofs.Loaded.{are_sound}
-use Rattle.job_copies.proofs.unit_steps.render_laws.Before.{has_layout, usable_within}
-use Rattle.job_copies.proofs.vtoc_render.NextCounts.{set_of_row}
+use Rattle.job_turns.specs.job_copies.unit_steps.Plans.{IsLoadedAt, extents_in, tracks_in}
+use Rattle.job_turns.specs.job_copies.step_plans.Plans.{IsSound}
+use Rattle.job_turns.specs.job_copies.unit_steps.render_laws.Rendered.{WasLoaded}
+use Rattle.job_turns.proofs.job_copies.job_select.Counts.{row_tracks_few}
+use Rattle.job_turns.proofs.job_copies.step_plans.LoadedRows.{sound_row}
+use Rattle.job_turns.proofs.job_copies.unit_change.LoadedTracks.{four}
+use Rattle.job_turns.proofs.job_copies.unit_steps.Blocks.{few, from_slots, home_short}
+use Rattle.job_turns.proofs.job_acts.Loaded.{are_sound}
+use Rattle.job_turns.proofs.job_copies.unit_steps.render_laws.Before.{has_layout, usable_within}
+use Rattle.job_turns.proofs.job_copies.vtoc_render.NextCounts.{set_of_row}
 use Rattle.job_dumps.specs.Texts.{IsOfRow}
 
 -- ---- the bytes

@@ -21,8 +21,8 @@ use Rattle.volume_model.specs.Reads.{AreTexts}
 use Rattle.volume_model.specs.Sound.{Slots}
 use Rattle.volume_model.specs.Unit.{Text, good}
 use Rattle.unit_load.specs.declared.stop.UnitFault.{UnitFault}
-use Rattle.job_copies.specs.unit_change.Described.{own_place}
-use Rattle.job_steps.specs.unit_session.Sessions.{SessionView}
+use Rattle.job_turns.specs.job_copies.unit_change.Described.{own_place}
+use Rattle.job_turns.specs.job_steps.unit_session.Sessions.{SessionView}
 use Rattle.job_dumps.specs.declared.texts.SetTracks.{SetTracks}
 use Rattle.job_dumps.specs.Putting.{holding}
 use Rattle.job_dumps.specs.Texts.{HasPutTexts, IsPartUnderWay, IsReadAs, MayPutTexts, OnlyLooks, PutsNext, PutsTexts, StopsAt, with_texts}

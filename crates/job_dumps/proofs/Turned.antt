@@ -20,8 +20,8 @@ use Rattle.move_core.specs.Stands.{IsGood}
 use Rattle.job_lines.specs.declared.message.Reason.{Reason}
 use Rattle.job_lines.specs.declared.message.Reason.TheVariants as reasons
 use Rattle.job_lines.specs.Order.{IsFirst, IsReason, HasNoReason}
-use Rattle.job_steps.specs.unit_session.Sessions.{SessionView}
-use Rattle.job_steps.specs.Units.{ForUnits, IsSet}
+use Rattle.job_turns.specs.job_steps.unit_session.Sessions.{SessionView}
+use Rattle.job_turns.specs.job_steps.Units.{ForUnits, IsSet}
 use Rattle.job_dumps.specs.declared.wish.DumpWish.{DumpWish}
 use Rattle.job_dumps.specs.Dumped.{BeginsPart, DumpRequest, DumpsSet, IsUnderWayFor}
 use Rattle.job_dumps.specs.Parts.{EndsHere, IsFrontOf, IsPartOf, IsPartOfSet}

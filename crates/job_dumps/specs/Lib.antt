@@ -1,3 +1,4 @@
+pub use Rattle.job_turns.specs as job_turns
 pub mod Reasons
 pub mod Parts
 pub mod Putting

@@ -9,12 +9,12 @@ use Rattle.volume_model.specs.Unit.{DataSet, OnlineVolume, UnitModel, online}
 use Rattle.vtoc_core.specs.declared.volume.Row.{Row}
 use Rattle.vtoc_core.specs.declared.volume.Volume.{Volume}
 use Rattle.unit_load.specs.declared.state.UnitState.{UnitState}
-use Rattle.job_copies.specs.step_room.Room.{IsFullFor}
-use Rattle.job_copies.specs.unit_steps.Plans.{HasRow, IsLoadedAt, tracks_in}
+use Rattle.job_turns.specs.job_copies.step_room.Room.{IsFullFor}
+use Rattle.job_turns.specs.job_copies.unit_steps.Plans.{HasRow, IsLoadedAt, tracks_in}
 use Rattle.job_lines.specs.declared.message.Reason.{Reason}
-use Rattle.job_steps.specs.unit_session.Sessions.{SessionView}
+use Rattle.job_turns.specs.job_steps.unit_session.Sessions.{SessionView}
 use Rattle.job_lines.specs.Order.{IsFirst}
-use Rattle.job_steps.specs.Units.{ForUnits, IsSet}
+use Rattle.job_turns.specs.job_steps.Units.{ForUnits, IsSet}
 use Rattle.job_dumps.specs.declared.pass.DumpScene.{DumpScene}
 use Rattle.job_dumps.specs.Dumped.{DumpRequest, DumpsSet, DumpsSets, IsCutDump, IsUnderWayFor}
 use Rattle.job_dumps.specs.Putting.{AreInOrder, HasBegun, HasPut, HoldsNow}

@@ -12,7 +12,7 @@ use Rattle.dump_fmt.specs.Front.{Front, empty_front, largest_count, whole_tracks
 use Rattle.dump_fmt.specs.Writing.{IsWriting}
 use Rattle.vtoc_core.specs.declared.volume.Row.{Row}
 use Rattle.vtoc_core.specs.declared.volume.Volume.{Volume}
-use Rattle.job_copies.specs.unit_steps.Plans.{HasRow, tracks_in}
+use Rattle.job_turns.specs.job_copies.unit_steps.Plans.{HasRow, tracks_in}
 
 -- what stands of a logical dump: parts that ended, and one under way
 abbrev pub holding : List DumpPart → Option DumpPart → Front

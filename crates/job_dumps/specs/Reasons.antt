@@ -9,7 +9,7 @@ use Rattle.set_facts.specs.Facts.{IsUnexpired}
 use Rattle.volume_model.specs.Pinned.{IsPinned}
 use Rattle.volume_model.specs.Unit.{DataSet, OnlineVolume}
 use Rattle.move_core.specs.Stands.{IsGood}
-use Rattle.job_copies.specs.step_room.Room.{IsFullFor}
+use Rattle.job_turns.specs.job_copies.step_room.Room.{IsFullFor}
 use Rattle.job_lines.specs.declared.message.Reason.{Reason}
 use Rattle.job_lines.specs.declared.message.Reason.TheVariants as reasons
 use Rattle.job_dumps.specs.declared.wish.DumpWish.{DumpWish}

@@ -23,10 +23,10 @@ use Rattle.unit_load.specs.declared.state.UnitState.{UnitState}
 use Rattle.move_core.specs.Facts.{shown}
 use Rattle.move_core.specs.Runs.{IsRun}
 use Rattle.move_core.specs.Steps.{IsNewKind}
-use Rattle.job_copies.specs.unit_change.Described.{own_place}
-use Rattle.job_copies.specs.unit_steps.Plans.{HasRow, IsLoadedAt, extents_in, tracks_in}
-use Rattle.job_steps.specs.unit_session.Sessions.{IsSameSession, SessionView}
-use Rattle.job_steps.specs.Units.{ForUnits, IsSet}
+use Rattle.job_turns.specs.job_copies.unit_change.Described.{own_place}
+use Rattle.job_turns.specs.job_copies.unit_steps.Plans.{HasRow, IsLoadedAt, extents_in, tracks_in}
+use Rattle.job_turns.specs.job_steps.unit_session.Sessions.{IsSameSession, SessionView}
+use Rattle.job_turns.specs.job_steps.Units.{ForUnits, IsSet}
 use Rattle.job_dumps.specs.declared.texts.SetTracks.{SetTracks}
 use Rattle.job_dumps.specs.Parts.{IsFrontOf, IsPartOfSet}
 use Rattle.job_dumps.specs.Putting.{HasPut, MayPutPart, holding}

@@ -4,7 +4,7 @@ ghost use Rattle.std.specs.Prelude.{◌↔◌, ◌≤◌, All, length, IsTrue, I
 ghost use Rattle.ckd_image.specs.Device.{heads_of};
 ghost use Rattle.volume_model.specs.Pinned.{IsPinned};
 ghost use Rattle.volume_model.specs.Unit.{DataSet, OnlineVolume};
-ghost use Rattle.job_copies.specs.unit_change.Described.{Describes, DescribesSet};
+ghost use Rattle.job_turns.specs.job_copies.unit_change.Described.{Describes, DescribesSet};
 ghost use Rattle.job_lines.specs.Order.{IsFirst};
 ghost use Rattle.job_dumps.specs.Reasons.{IsHeldFrom, IsSparedBy, PreventsAtFirst, first_reasons};
 
@@ -12,9 +12,9 @@ use crate::wish::DumpWish;
 use by_rules::Day;
 use dsn_filter::Dsn;
 use enq_table::Held;
-use job_copies::is_name_held;
-use job_copies::job_select::is_pinned;
 use job_lines::Reason;
+use job_turns::job_copies::is_name_held;
+use job_turns::job_copies::job_select::is_pinned;
 use set_facts::is_unexpired;
 use vtoc_core::{Row, Volume};
 

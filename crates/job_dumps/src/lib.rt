@@ -8,5 +8,6 @@ mod pass;
 mod texts;
 mod wish;
 
+pub use job_turns;
 pub use pass::{DumpScene, put_parts};
 pub use wish::DumpWish;

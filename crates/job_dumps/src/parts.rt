@@ -5,7 +5,7 @@ ghost use Rattle.dasd_pool.specs.Count.{Rose};
 ghost use Rattle.dump_fmt.specs.declared.piece.Piece.TheVariants as pieces;
 ghost use Rattle.redo_core.specs.Reading.{journal_of};
 ghost use Rattle.volume_model.specs.Reads.{fields_of_1};
-ghost use Rattle.job_steps.specs.unit_session.Copies.{HasSource};
+ghost use Rattle.job_turns.specs.job_steps.unit_session.Copies.{HasSource};
 ghost use Rattle.job_dumps.specs.Texts.{IsSetToDump, LeavesPart, MayPutSet, OnlyLooks, PutsPart};
 
 use crate::texts::{SetTracks, put_texts};
@@ -14,9 +14,9 @@ use ckd_image::text::put_over;
 use dasd_pool::Pool;
 use dsn_filter::Dsn;
 use dump_fmt::{DumpWriter, OutDd, Piece, Seen};
-use job_copies::job_select::track_count;
-use job_copies::step_plans::{kind_for, row_of};
-use job_steps::unit_session::{Session, tracks_of};
+use job_turns::job_copies::job_select::track_count;
+use job_turns::job_copies::step_plans::{kind_for, row_of};
+use job_turns::job_steps::unit_session::{Session, tracks_of};
 use std::alloc::Global;
 use unit_load::UnitFault;
 

@@ -11,7 +11,7 @@ ghost use Rattle.job_dumps.specs.Texts.{IsReadAs, MayPutTexts, OnlyLooks, PutsNe
 use ckd_image::{CkdFault, Device, Track, TrackAt, parse_track};
 use dasd_pool::Pool;
 use dump_fmt::{DumpWriter, OutDd, Piece, Seen};
-use job_steps::unit_session::Session;
+use job_turns::job_steps::unit_session::Session;
 use std::alloc::Global;
 use unit_load::UnitFault;
 

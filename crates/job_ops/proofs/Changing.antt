@@ -11,29 +11,29 @@ use Rattle.move_core.proofs.Running.{run_steps}
 use Rattle.vtoc_core.specs.declared.volume.Row.{Row}
 use Rattle.vtoc_core.specs.declared.volume.Volume.{Volume}
 use Rattle.unit_load.specs.declared.state.UnitState.{UnitState}
-use Rattle.job_turns.specs.job_copies.unit_steps.Plans.{HasRow, tracks_in}
-use Rattle.job_turns.specs.job_copies.step_plans.Plans.{IsSound, IsPlaceOn}
-use Rattle.job_turns.specs.job_steps.unit_session.Sessions.{SessionView}
+use Rattle.dump_sets.specs.job_turns.job_copies.unit_steps.Plans.{HasRow, tracks_in}
+use Rattle.dump_sets.specs.job_turns.job_copies.step_plans.Plans.{IsSound, IsPlaceOn}
+use Rattle.dump_sets.specs.job_turns.job_steps.unit_session.Sessions.{SessionView}
 use Rattle.job_lines.specs.declared.message.Message.{Message}
-use Rattle.job_turns.specs.job_steps.declared.cut.Cut.{Cut}
-use Rattle.job_turns.specs.job_steps.declared.cut.Cut.TheVariants as cuts
-use Rattle.job_turns.specs.job_steps.Carried.{pending_cut}
+use Rattle.dump_sets.specs.job_turns.job_steps.declared.cut.Cut.{Cut}
+use Rattle.dump_sets.specs.job_turns.job_steps.declared.cut.Cut.TheVariants as cuts
+use Rattle.dump_sets.specs.job_turns.job_steps.Carried.{pending_cut}
 use Rattle.job_ops.specs.declared.asking.Candidate.{Candidate}
 use Rattle.job_ops.specs.declared.reshaping.Layout.{Layout}
 use Rattle.job_ops.specs.declared.reshaping.Layout.TheVariants as layouts
 use Rattle.job_ops.specs.declared.reshaping.Reshape.{Reshape}
-use Rattle.job_turns.specs.job_acts.declared.acts.Acted.{Acted}
-use Rattle.job_turns.specs.job_acts.declared.acts.Acted.TheVariants as variants
+use Rattle.dump_sets.specs.job_turns.job_acts.declared.acts.Acted.{Acted}
+use Rattle.dump_sets.specs.job_turns.job_acts.declared.acts.Acted.TheVariants as variants
 use Rattle.job_ops.specs.declared.task.Task.{Task}
-use Rattle.job_turns.specs.job_acts.Making.{MayBeChanged, HasSet, MayPlan}
+use Rattle.dump_sets.specs.job_turns.job_acts.Making.{MayBeChanged, HasSet, MayPlan}
 use Rattle.job_ops.specs.Asked.{IsCandidate, IsSeen}
-use Rattle.job_turns.specs.job_steps.Units.{ForUnits}
-use Rattle.job_turns.specs.Ends.{Ends}
+use Rattle.dump_sets.specs.job_turns.job_steps.Units.{ForUnits}
+use Rattle.dump_sets.specs.job_turns.Ends.{Ends}
 use Rattle.job_ops.specs.Reshaping.{step_to, MayReshape, NeedsRepair, StaysChangeable, EndsReshape, HasRoomToReshape, LacksRoomToReshape, IsTarget, steps_of_reshape}
-use Rattle.job_turns.specs.Turns.{Action, IsCutAction}
-use Rattle.job_turns.proofs.job_acts.Sessions.{keeps_same}
-use Rattle.job_turns.proofs.SameSessions.{cut_leaves, only_short, ends_told, told_grows}
-use Rattle.job_turns.proofs.job_steps.unit_session.unit_steps.OneChange.{same_volume}
+use Rattle.dump_sets.specs.job_turns.Turns.{Action, IsCutAction}
+use Rattle.dump_sets.proofs.job_turns.job_acts.Sessions.{keeps_same}
+use Rattle.dump_sets.proofs.job_turns.SameSessions.{cut_leaves, only_short, ends_told, told_grows}
+use Rattle.dump_sets.proofs.job_turns.job_steps.unit_session.unit_steps.OneChange.{same_volume}
 
 -- what a turn asks for
 abbrev pub reshape_of : ℕ → Dsn → Candidate → Layout → Reshape

@@ -13,24 +13,24 @@ use Rattle.vtoc_core.specs.declared.volume.Volume.{Volume}
 use Rattle.vtoc_layout.proofs.Distinct.{in_middle, or_other, among_others}
 use Rattle.volume_change.specs.declared.change.Change.{Change}
 use Rattle.volume_change.specs.declared.change.Change.TheVariants.{Repair, Put, Swap, Remove, Mark}
-use Rattle.job_turns.specs.job_copies.vtoc_render.Next.{IsNext, IsChanged}
+use Rattle.dump_sets.specs.job_turns.job_copies.vtoc_render.Next.{IsNext, IsChanged}
 use Rattle.unit_load.specs.declared.state.UnitState.{UnitState}
 use Rattle.unit_load.specs.declared.state.UnitState.TheVariants.{Online}
 use Rattle.move_core.specs.declared.steps.Step.{Step}
 use Rattle.move_core.specs.declared.steps.Step.TheVariants as steps
-use Rattle.job_turns.specs.job_copies.unit_steps.Plans.{IsLoadedAt, HasRow, putting}
-use Rattle.job_turns.proofs.job_copies.unit_steps.OneChange.{same_volume}
-use Rattle.job_turns.proofs.job_copies.job_select.OneName.{one_named}
-use Rattle.job_turns.specs.job_steps.Carried.{IsUnitAfter, AreUnitsAfter}
+use Rattle.dump_sets.specs.job_turns.job_copies.unit_steps.Plans.{IsLoadedAt, HasRow, putting}
+use Rattle.dump_sets.proofs.job_turns.job_copies.unit_steps.OneChange.{same_volume}
+use Rattle.dump_sets.proofs.job_turns.job_copies.job_select.OneName.{one_named}
+use Rattle.dump_sets.specs.job_turns.job_steps.Carried.{IsUnitAfter, AreUnitsAfter}
 use Rattle.job_ops.specs.declared.transfer.Transfer.{Transfer}
-use Rattle.job_turns.specs.job_acts.Making.{MayBeChanged}
-use Rattle.job_turns.specs.job_acts.Making.{repair_steps}
-use Rattle.job_turns.specs.job_acts.Acting.{AreDone, IsDone}
+use Rattle.dump_sets.specs.job_turns.job_acts.Making.{MayBeChanged}
+use Rattle.dump_sets.specs.job_turns.job_acts.Making.{repair_steps}
+use Rattle.dump_sets.specs.job_turns.job_acts.Acting.{AreDone, IsDone}
 use Rattle.job_ops.specs.Transfers.{is_carried, is_deleted, units_due, copying_step, last_steps, steps_of_transfer}
 use Rattle.job_ops.specs.Copying.{MayBeCopied, StaysCopyable}
-use Rattle.job_turns.proofs.job_acts.Kept.{loaded_after}
-use Rattle.job_turns.proofs.job_acts.PlansMade.{repair_planned}
-use Rattle.job_turns.proofs.job_acts.PlansMade.{delete_planned}
+use Rattle.dump_sets.proofs.job_turns.job_acts.Kept.{loaded_after}
+use Rattle.dump_sets.proofs.job_turns.job_acts.PlansMade.{repair_planned}
+use Rattle.dump_sets.proofs.job_turns.job_acts.PlansMade.{delete_planned}
 use Rattle.job_ops.proofs.Transferring.{transfer_planned}
 
 -- ---- one change

@@ -13,37 +13,37 @@ use Rattle.move_core.specs.declared.steps.Step.{Step}
 use Rattle.move_core.specs.Runs.{moves_of}
 use Rattle.move_core.specs.Stands.{IsGood, IsSettled}
 use Rattle.move_core.proofs.Running.{run_steps}
-use Rattle.job_turns.specs.job_steps.unit_session.Sessions.{SessionView}
-use Rattle.job_turns.specs.job_copies.step_room.Room.{LackingChangesAreFull, FittingChangesAreNotFull}
+use Rattle.dump_sets.specs.job_turns.job_steps.unit_session.Sessions.{SessionView}
+use Rattle.dump_sets.specs.job_turns.job_copies.step_room.Room.{LackingChangesAreFull, FittingChangesAreNotFull}
 use Rattle.job_lines.specs.declared.message.Message.{Message}
 use Rattle.job_lines.specs.declared.message.Message.TheVariants as messages
 use Rattle.job_lines.specs.declared.message.Reason.{Reason}
 use Rattle.job_lines.specs.declared.message.Reason.TheVariants as reasons
 use Rattle.job_lines.specs.declared.severity.Severity.TheVariants as severities
 use Rattle.job_lines.specs.Order.{IsReason}
-use Rattle.job_turns.specs.job_steps.declared.cut.Cut.{Cut}
-use Rattle.job_turns.specs.job_steps.declared.cut.Cut.TheVariants as cuts
-use Rattle.job_turns.specs.job_steps.Carried.{pending_cut}
-use Rattle.job_turns.specs.job_copies.Case.{Case}
-use Rattle.job_turns.specs.job_copies.Reasons.{PreventsAtFirst, first_reasons}
+use Rattle.dump_sets.specs.job_turns.job_steps.declared.cut.Cut.{Cut}
+use Rattle.dump_sets.specs.job_turns.job_steps.declared.cut.Cut.TheVariants as cuts
+use Rattle.dump_sets.specs.job_turns.job_steps.Carried.{pending_cut}
+use Rattle.dump_sets.specs.job_turns.job_copies.Case.{Case}
+use Rattle.dump_sets.specs.job_turns.job_copies.Reasons.{PreventsAtFirst, first_reasons}
 use Rattle.job_ops.specs.declared.copies.Scene.{Scene}
 use Rattle.job_ops.specs.declared.transfer.Transfer.{Transfer}
-use Rattle.job_turns.specs.job_acts.declared.acts.Acted.{Acted}
-use Rattle.job_turns.specs.job_acts.declared.acts.Acted.TheVariants as variants
-use Rattle.job_turns.specs.job_acts.Acting.{AllFit, SomeLacks}
+use Rattle.dump_sets.specs.job_turns.job_acts.declared.acts.Acted.{Acted}
+use Rattle.dump_sets.specs.job_turns.job_acts.declared.acts.Acted.TheVariants as variants
+use Rattle.dump_sets.specs.job_turns.job_acts.Acting.{AllFit, SomeLacks}
 use Rattle.job_ops.specs.Transfers.{first_steps, steps_of_transfer, MayTransfer, EndsTransfer}
-use Rattle.job_turns.proofs.LoadedUnits.{AreKnown}
+use Rattle.dump_sets.proofs.job_turns.LoadedUnits.{AreKnown}
 use Rattle.job_ops.specs.Copy.{Request, CopiesSet, PreventsCopy, IsNewName, all_repairs, all_rebuilt}
 use Rattle.job_ops.specs.Copying.{request_in, IsThere, IsCase, GoesSoFar, IsReplacedIn, ArePlacedIn, HasGoodTexts, AreLines, IsTransferOf, StaysCopyable}
-use Rattle.job_turns.specs.job_steps.Units.{facts_of, ForUnits}
-use Rattle.job_turns.specs.Ends.{Ends}
-use Rattle.job_turns.specs.Turns.{Action, IsCutAction}
+use Rattle.dump_sets.specs.job_turns.job_steps.Units.{facts_of, ForUnits}
+use Rattle.dump_sets.specs.job_turns.Ends.{Ends}
+use Rattle.dump_sets.specs.job_turns.Turns.{Action, IsCutAction}
 use Rattle.job_ops.proofs.CopyBehind.{stays_done, stays_same}
 use Rattle.job_ops.proofs.CopyRoom.{IsTransferIn, has_room, lacks_room}
 use Rattle.job_ops.proofs.CopySteps.{steps_same, lines_same}
 use Rattle.job_ops.proofs.CopyTurns.{case_of, is_case, no_reason, vtoc_full, placed_somewhere}
-use Rattle.job_turns.proofs.job_acts.Sessions.{keeps_same}
-use Rattle.job_turns.proofs.SameSessions.{cut_leaves, only_short, ends_told, told_grows}
+use Rattle.dump_sets.proofs.job_turns.job_acts.Sessions.{keeps_same}
+use Rattle.dump_sets.proofs.job_turns.SameSessions.{cut_leaves, only_short, ends_told, told_grows}
 use Rattle.job_ops.proofs.TextCounts.{texts_counted}
 
 -- ---- a data set that isn't copied

@@ -12,29 +12,29 @@ use Rattle.vtoc_core.specs.declared.volume.Row.{Row}
 use Rattle.unit_load.specs.declared.state.UnitState.{UnitState}
 use Rattle.move_core.specs.declared.steps.Step.{Step}
 use Rattle.move_core.specs.Stands.{IsGood}
-use Rattle.job_turns.specs.job_copies.unit_steps.Plans.{HasRow}
-use Rattle.job_turns.specs.job_steps.unit_session.Sessions.{SessionView, IsSameSession}
-use Rattle.job_turns.specs.job_steps.unit_session.Copies.{HasSource}
+use Rattle.dump_sets.specs.job_turns.job_copies.unit_steps.Plans.{HasRow}
+use Rattle.dump_sets.specs.job_turns.job_steps.unit_session.Sessions.{SessionView, IsSameSession}
+use Rattle.dump_sets.specs.job_turns.job_steps.unit_session.Copies.{HasSource}
 use Rattle.job_lines.specs.declared.message.Message.{Message}
 use Rattle.job_lines.specs.declared.message.Message.TheVariants as messages
 use Rattle.job_lines.specs.declared.message.Reason.{Reason}
 use Rattle.job_lines.specs.declared.message.Reason.TheVariants as reasons
 use Rattle.job_lines.specs.declared.severity.Severity.TheVariants as severities
-use Rattle.job_turns.specs.job_steps.declared.cut.Cut.{Cut}
-use Rattle.job_turns.specs.job_steps.declared.cut.Cut.TheVariants as cuts
+use Rattle.dump_sets.specs.job_turns.job_steps.declared.cut.Cut.{Cut}
+use Rattle.dump_sets.specs.job_turns.job_steps.declared.cut.Cut.TheVariants as cuts
 use Rattle.job_ops.specs.declared.copies.Judged.{Judged}
 use Rattle.job_ops.specs.declared.copies.Judged.TheVariants as judges
-use Rattle.job_turns.specs.job_acts.Acting.{AreSound}
+use Rattle.dump_sets.specs.job_turns.job_acts.Acting.{AreSound}
 use Rattle.job_ops.specs.Transfers.{MayTransfer}
 use Rattle.job_ops.specs.Copy.{Request, CopiesSet, IsNewName}
 use Rattle.job_ops.specs.Copying.{MayBeCopied, MayStand, StaysCopyable, IsThere, IsCase, GoesSoFar, IsJudged, HasGoodTexts}
-use Rattle.job_turns.specs.job_steps.Units.{ForUnits}
-use Rattle.job_turns.specs.Ends.{Ends}
-use Rattle.job_turns.specs.Turns.{Action}
+use Rattle.dump_sets.specs.job_turns.job_steps.Units.{ForUnits}
+use Rattle.dump_sets.specs.job_turns.Ends.{Ends}
+use Rattle.dump_sets.specs.job_turns.Turns.{Action}
 use Rattle.job_ops.proofs.CopyBehind.{stays_same}
 use Rattle.job_ops.proofs.CopyEnds.{tells}
 use Rattle.job_ops.proofs.CopyTurns.{case_of, is_case, reason_at_first, bad_track, no_space}
-use Rattle.job_turns.proofs.SameSessions.{ends_said, ends_short}
+use Rattle.dump_sets.proofs.job_turns.SameSessions.{ends_said, ends_short}
 
 -- ---- the data set
 
@@ -81,7 +81,7 @@ module _ {request : Request} {name new : Dsn} {units : List UnitModel} (there : 
       tells there new reason text renamed named (reason_at_first request.held request.today (case_of there new) reason (is (case_of there new) (is_case there new)))
 
   -- for a track without a text
-  pub tells_bad : GoesSoFar request name new units → ((case : Rattle.job_turns.specs.job_copies.Case.Case) → IsCase request name new units case → ¬ All IsGood case.set.texts) → (text : List ℕ) → IsNameOf name text
+  pub tells_bad : GoesSoFar request name new units → ((case : Rattle.dump_sets.specs.job_turns.job_copies.Case.Case) → IsCase request name new units case → ¬ All IsGood case.set.texts) → (text : List ℕ) → IsNameOf name text
       → CopiesSet request name units [] (messages.NotProcessed text reasons.BadTrack severities.Error ∷ [])
   tells_bad goes bad text named =
       tells there new reasons.BadTrack text renamed named

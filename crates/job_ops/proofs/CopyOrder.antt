@@ -5,8 +5,8 @@ use Rattle.std.proofs.lemmas.List.Elements.{All-nil, All-cons, All-head, All-tai
 use Rattle.dsn_filter.specs.declared.dsn.Dsn.{Dsn}
 use Rattle.vtoc_core.specs.declared.volume.Row.{Row}
 use Rattle.unit_load.specs.declared.state.UnitState.{UnitState}
-use Rattle.job_turns.specs.job_copies.unit_steps.Plans.{HasRow}
-use Rattle.job_turns.proofs.job_copies.unit_steps.Readying.{pairs_first, pairs_rest}
+use Rattle.dump_sets.specs.job_turns.job_copies.unit_steps.Plans.{HasRow}
+use Rattle.dump_sets.proofs.job_turns.job_copies.unit_steps.Readying.{pairs_first, pairs_rest}
 use Rattle.job_ops.specs.Copying.{MayBeCopied, StaysCopyable}
 
 module _ {delete : Rattle.std.proofs.Common.Bool} {room : ℕ} {units : List UnitState} {from to : ℕ} (name : Dsn) {left : List Dsn} (later : List Dsn) (is : left ≡ name ∷ later)

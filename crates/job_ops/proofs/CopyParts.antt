@@ -13,21 +13,21 @@ use Rattle.vtoc_core.specs.declared.volume.Row.{Row}
 use Rattle.vtoc_core.specs.declared.volume.Volume.{Volume}
 use Rattle.move_core.specs.Stands.{IsSettled}
 use Rattle.unit_load.specs.declared.state.UnitState.{UnitState}
-use Rattle.job_turns.specs.job_copies.unit_steps.Plans.{IsLoadedAt, HasRow}
-use Rattle.job_turns.specs.job_steps.unit_session.Sessions.{SessionView}
-use Rattle.job_turns.specs.job_copies.step_plans.Plans.{ArePlacesOn, IsClear}
-use Rattle.job_turns.specs.job_copies.declared.copying.Copying.{Copying}
-use Rattle.job_turns.specs.job_copies.Case.{Case, ReplacesSome}
-use Rattle.job_turns.specs.job_copies.Loaded.{AreCopied, MayCopy}
-use Rattle.job_turns.specs.job_copies.Places.{ArePlacesFor, HasNoPlaces}
-use Rattle.job_turns.specs.job_copies.Reasons.{PreventsAtFirst, first_reasons}
+use Rattle.dump_sets.specs.job_turns.job_copies.unit_steps.Plans.{IsLoadedAt, HasRow}
+use Rattle.dump_sets.specs.job_turns.job_steps.unit_session.Sessions.{SessionView}
+use Rattle.dump_sets.specs.job_turns.job_copies.step_plans.Plans.{ArePlacesOn, IsClear}
+use Rattle.dump_sets.specs.job_turns.job_copies.declared.copying.Copying.{Copying}
+use Rattle.dump_sets.specs.job_turns.job_copies.Case.{Case, ReplacesSome}
+use Rattle.dump_sets.specs.job_turns.job_copies.Loaded.{AreCopied, MayCopy}
+use Rattle.dump_sets.specs.job_turns.job_copies.Places.{ArePlacesFor, HasNoPlaces}
+use Rattle.dump_sets.specs.job_turns.job_copies.Reasons.{PreventsAtFirst, first_reasons}
 use Rattle.job_ops.specs.declared.copies.Judged.TheVariants as judges
 use Rattle.job_ops.specs.Copy.{Request}
 use Rattle.job_ops.specs.Copying.{MayBeCopied, IsCase, IsThere, IsJudged, MayStand}
-use Rattle.job_turns.specs.job_steps.Units.{facts_of, ForUnits}
-use Rattle.job_turns.proofs.LoadedUnits.{AreKnown}
-use Rattle.job_turns.proofs.job_copies.SetsOfRows.{named_set}
-use Rattle.job_turns.proofs.job_steps.unit_session.unit_steps.OneChange.{same_volume}
+use Rattle.dump_sets.specs.job_turns.job_steps.Units.{facts_of, ForUnits}
+use Rattle.dump_sets.proofs.job_turns.LoadedUnits.{AreKnown}
+use Rattle.dump_sets.proofs.job_turns.job_copies.SetsOfRows.{named_set}
+use Rattle.dump_sets.proofs.job_turns.job_steps.unit_session.unit_steps.OneChange.{same_volume}
 
 first_of : {A B : Type 0} → A × B → A
 first_of (a, b) = a

@@ -20,37 +20,37 @@ use Rattle.vtoc_layout.proofs.Distinct.{first_or_later, in_none, in_front, in_ba
 use Rattle.volume_change.specs.declared.change.Change.{Change}
 use Rattle.volume_change.specs.declared.change.Change.TheVariants.{Repair, Put, Swap, Remove, Mark}
 use Rattle.volume_change.proofs.Names.{one_text}
-use Rattle.job_turns.specs.job_copies.vtoc_render.Next.{IsNext, MayChange}
-use Rattle.job_turns.specs.job_copies.unit_change.Described.{Describes, DescribesSet}
-use Rattle.job_turns.specs.job_copies.unit_change.Changed.{extents_of, set_put, sets_put}
+use Rattle.dump_sets.specs.job_turns.job_copies.vtoc_render.Next.{IsNext, MayChange}
+use Rattle.dump_sets.specs.job_turns.job_copies.unit_change.Described.{Describes, DescribesSet}
+use Rattle.dump_sets.specs.job_turns.job_copies.unit_change.Changed.{extents_of, set_put, sets_put}
 use Rattle.unit_load.specs.declared.state.UnitState.{UnitState}
 use Rattle.move_core.specs.declared.steps.Step.{Step}
 use Rattle.move_core.specs.declared.steps.Step.TheVariants as steps
 use Rattle.move_core.specs.Facts.{Original}
 use Rattle.move_core.specs.Steps.{original_of, IsOriginal, IsCopy, IsNewKind, LieOnCylinders, extents_on, fields_at, tracks_for, empty_text}
-use Rattle.job_turns.specs.job_copies.unit_steps.declared.plan.Plan.{Plan}
-use Rattle.job_turns.specs.job_copies.unit_steps.Plans.{IsLoadedAt, HasRow, IsPlan, putting, extents_in}
-use Rattle.job_turns.proofs.job_copies.unit_steps.OneChange.{same_volume}
-use Rattle.job_turns.specs.job_steps.unit_session.Planned.{LacksRecordsFor}
-use Rattle.job_turns.specs.job_copies.step_plans.Plans.{IsSound}
-use Rattle.job_turns.specs.job_copies.step_room.Room.{IsFullFor, LacksRoom, AreTaken, LackingChangesAreFull, FittingChangesAreNotFull}
-use Rattle.job_turns.specs.job_steps.Carried.{HaveNext}
-use Rattle.job_turns.specs.job_copies.Case.{Case, ReplacesSome}
-use Rattle.job_turns.specs.job_copies.Places.{ArePlacesFor}
+use Rattle.dump_sets.specs.job_turns.job_copies.unit_steps.declared.plan.Plan.{Plan}
+use Rattle.dump_sets.specs.job_turns.job_copies.unit_steps.Plans.{IsLoadedAt, HasRow, IsPlan, putting, extents_in}
+use Rattle.dump_sets.proofs.job_turns.job_copies.unit_steps.OneChange.{same_volume}
+use Rattle.dump_sets.specs.job_turns.job_steps.unit_session.Planned.{LacksRecordsFor}
+use Rattle.dump_sets.specs.job_turns.job_copies.step_plans.Plans.{IsSound}
+use Rattle.dump_sets.specs.job_turns.job_copies.step_room.Room.{IsFullFor, LacksRoom, AreTaken, LackingChangesAreFull, FittingChangesAreNotFull}
+use Rattle.dump_sets.specs.job_turns.job_steps.Carried.{HaveNext}
+use Rattle.dump_sets.specs.job_turns.job_copies.Case.{Case, ReplacesSome}
+use Rattle.dump_sets.specs.job_turns.job_copies.Places.{ArePlacesFor}
 use Rattle.job_ops.specs.declared.transfer.Transfer.{Transfer}
-use Rattle.job_turns.specs.job_acts.Making.{repair_steps}
-use Rattle.job_turns.specs.job_acts.Acting as spec
-use Rattle.job_turns.specs.job_acts.Acting.{Fits, AllFit, SomeLacks}
+use Rattle.dump_sets.specs.job_turns.job_acts.Making.{repair_steps}
+use Rattle.dump_sets.specs.job_turns.job_acts.Acting as spec
+use Rattle.dump_sets.specs.job_turns.job_acts.Acting.{Fits, AllFit, SomeLacks}
 use Rattle.job_ops.specs.Transfers.{is_carried, units_due, copying_step, first_steps}
-use Rattle.job_turns.specs.Stating.{says_unstated, is_unstated, due}
+use Rattle.dump_sets.specs.job_turns.Stating.{says_unstated, is_unstated, due}
 use Rattle.job_ops.specs.Copy.{IsCarried, GoFor, LacksRoomForCopy, LacksRoomToCopy}
 use Rattle.job_ops.proofs.ReshapeTargets.{described_by}
-use Rattle.job_turns.proofs.job_acts.PlansMade.{repair_planned}
+use Rattle.dump_sets.proofs.job_turns.job_acts.PlansMade.{repair_planned}
 use Rattle.job_ops.proofs.Transferring.{PlansTransfer, transfer_planned}
-use Rattle.job_turns.proofs.job_acts.Repairing.{full_one}
-use Rattle.job_turns.proofs.job_acts.Alike.{one_kind}
+use Rattle.dump_sets.proofs.job_turns.job_acts.Repairing.{full_one}
+use Rattle.dump_sets.proofs.job_turns.job_acts.Alike.{one_kind}
 use Rattle.job_ops.proofs.NewKinds.{one_step}
-use Rattle.job_turns.proofs.job_steps.unit_session.unit_steps.Small.{putting_no_mark, remove_no_mark}
+use Rattle.dump_sets.proofs.job_turns.job_steps.unit_session.unit_steps.Small.{putting_no_mark, remove_no_mark}
 
 -- ---- marks
 

@@ -6,21 +6,21 @@ use Rattle.volume_model.specs.Pinned.{IsNameOf}
 use Rattle.volume_model.specs.Unit.{OnlineVolume}
 use Rattle.volume_change.proofs.Names.{one_text}
 use Rattle.unit_load.specs.declared.state.UnitState.{UnitState}
-use Rattle.job_turns.proofs.job_copies.unit_steps.OneChange.{same_volume}
+use Rattle.dump_sets.proofs.job_turns.job_copies.unit_steps.OneChange.{same_volume}
 use Rattle.vtoc_core.specs.declared.volume.Volume.{Volume}
 use Rattle.move_core.specs.declared.steps.Step.{Step}
 use Rattle.move_core.specs.declared.steps.Step.TheVariants as steps
 use Rattle.job_lines.specs.declared.message.Message.{Message}
 use Rattle.job_lines.specs.declared.message.Message.TheVariants as messages
-use Rattle.job_turns.specs.job_copies.Case.{Case}
+use Rattle.dump_sets.specs.job_turns.job_copies.Case.{Case}
 use Rattle.job_ops.specs.declared.transfer.Transfer.{Transfer}
 use Rattle.job_ops.specs.Transfers.{is_carried, steps_of_transfer}
-use Rattle.job_turns.specs.Stating.{is_unstated}
-use Rattle.job_turns.specs.job_acts.Making.{put_step, repair_steps}
+use Rattle.dump_sets.specs.job_turns.Stating.{is_unstated}
+use Rattle.dump_sets.specs.job_turns.job_acts.Making.{put_step, repair_steps}
 use Rattle.job_ops.specs.Copy.{copying_steps, all_repairs, all_rebuilt, IsToldName}
-use Rattle.job_turns.specs.Stating.{rebuilt_in, rebuilt_of}
+use Rattle.dump_sets.specs.job_turns.Stating.{rebuilt_in, rebuilt_of}
 use Rattle.job_ops.specs.Copying.{rebuilt_for, AreLines, IsTold}
-use Rattle.job_turns.specs.Stating.{rebuilt}
+use Rattle.dump_sets.specs.job_turns.Stating.{rebuilt}
 use Rattle.job_ops.proofs.CopyRoom.{IsTransferIn, unstated_to, unstated_from}
 
 -- ---- steps, by what they hang on

@@ -15,9 +15,9 @@ use Rattle.move_core.specs.Stands.{IsGood}
 use Rattle.job_lines.specs.declared.message.Reason.{Reason}
 use Rattle.job_lines.specs.declared.message.Reason.TheVariants as reasons
 use Rattle.job_lines.specs.Order.{IsFirst, IsReason, HasNoReason}
-use Rattle.job_turns.specs.job_copies.Case.{Case}
-use Rattle.job_turns.specs.job_copies.Places.{ArePlacesFor, HasNoPlaces}
-use Rattle.job_turns.specs.job_copies.Reasons.{PreventsAtFirst, first_reasons}
+use Rattle.dump_sets.specs.job_turns.job_copies.Case.{Case}
+use Rattle.dump_sets.specs.job_turns.job_copies.Places.{ArePlacesFor, HasNoPlaces}
+use Rattle.dump_sets.specs.job_turns.job_copies.Reasons.{PreventsAtFirst, first_reasons}
 use Rattle.job_ops.specs.Copy.{Request, PreventsCopy, LacksRoomToCopy}
 use Rattle.job_ops.specs.Copying.{IsThere, IsCase}
 use Rattle.job_ops.proofs.CopyRoom.{one_list}

@@ -1,6 +1,6 @@
 -- How a statement ends, from how what it does ends.
 use Rattle.std.proofs.Common.{◌≡◌, ◌⊎◌, inl, inr, List, [], ◌∷◌, ◌++◌, take, None, Ok, Err, refl, sym, ap, subst, ◌∙◌}
-use Rattle.std.specs.Prelude.{Result, IfOk, IfErr}
+use Rattle.std.specs.Prelude.{Result, IfOk, IfErr, map}
 use Rattle.std.proofs.lemmas.List.{append-nil, append_cancel_left}
 use Rattle.by_rules.specs.declared.day.Day.{Day}
 use Rattle.dasd_pool.specs.declared.pool.Pool.{Ghosts}
@@ -11,24 +11,26 @@ use Rattle.sysin_lang.specs.declared.command.Command.{Command}
 use Rattle.move_core.specs.declared.steps.Step.{Step}
 use Rattle.move_core.specs.Facts.{shown}
 use Rattle.move_core.specs.Runs.{IsRun}
-use Rattle.job_turns.specs.job_steps.unit_session.Sessions.{SessionView}
-use Rattle.job_turns.specs.job_steps.declared.cut.Cut.{Cut}
-use Rattle.job_turns.specs.job_steps.declared.cut.Cut.TheVariants as cuts
-use Rattle.job_turns.specs.job_steps.Carried.{IsShort}
+use Rattle.dump_sets.specs.job_turns.job_steps.unit_session.Sessions.{SessionView}
+use Rattle.dump_sets.specs.job_turns.job_steps.declared.cut.Cut.{Cut}
+use Rattle.dump_sets.specs.job_turns.job_steps.declared.cut.Cut.TheVariants as cuts
+use Rattle.dump_sets.specs.job_turns.job_steps.Carried.{IsShort}
 use Rattle.job_lines.specs.declared.message.Message.{Message}
 use Rattle.job_lines.specs.declared.message.Message.TheVariants as messages
 use Rattle.job_lines.specs.Severity.{greatest_code}
 use Rattle.job_ops.specs.declared.outcome.Outcome.{Outcome}
 use Rattle.job_ops.specs.declared.outcome.Outcome.TheVariants as outcomes
-use Rattle.job_turns.specs.job_acts.Acting.{KeepsFacts}
-use Rattle.job_turns.specs.Ends.{Ends}
-use Rattle.job_ops.specs.Ends.{EndsStatement, HasOuts, IsCutOutcome, IsDoneOutcome, LeavesSession, IsUnchanged}
-use Rattle.job_ops.specs.Meaning.{IsFramed, MeansOnVolumes, MeansWhole, IsCutOnVolumes, verb_of}
-use Rattle.job_turns.specs.Setting.{setting_of}
+use Rattle.dump_sets.specs.job_turns.job_acts.Acting.{KeepsFacts}
+use Rattle.dump_sets.specs.job_turns.Ends.{Ends}
+use Rattle.job_ops.specs.Ends.{EndsStatement, HasOuts, IsCutOutcome, IsDoneOutcome, LeavesSession, LeavesUsed, IsUnchanged}
+use Rattle.dump_sets.specs.job_outputs.Kept.{KeepsUsed}
+use Rattle.job_ops.specs.Meaning.{IsCutWithOutputs, IsFramed, MeansWhole, MeansWithOutputs, verb_of}
+use Rattle.dump_sets.specs.job_turns.Setting.{setting_of}
 
 module _ {P B : Type 0} {Own : B → Type 0} (pools : Ghosts P) (seen : OutDd B Own → OutSeen) (files : Files) (ins : List InSeen) (given : List (OutDd B Own)) (session : SessionView P) where
   module _ (next : SessionView P) (command : Command) (held : List Hold) (today : Day) (before after : List Step) (said : List Message)
-      (ends : Ends pools (MeansWhole (MeansOnVolumes (setting_of pools session held today) command) command) (IsCutOnVolumes (setting_of pools session held today) command) session before after [] said (Ok next))
+      (ends : Ends pools (MeansWhole (MeansWithOutputs (setting_of pools session held today) command files.outs (map seen given)) command)
+      (IsCutWithOutputs (setting_of pools session held today) command files.outs (map seen given)) session before after [] said (Ok next))
       (framed : IsFramed command said) where
     pub ends_done : (outcome : Outcome P B Own) → IsDoneOutcome next given after said outcome → EndsStatement pools seen files ins session command held today before outcome
     ends_done (outcomes.Done kept outs report steps) is = (
@@ -37,7 +39,10 @@ module _ {P B : Type 0} {Own : B → Type 0} (pools : Ghosts P) (seen : OutDd B 
       subst (λ (s : SessionView P). KeepsFacts pools session s) (sym is.0) ends.facts,
       subst (λ (s : SessionView P). IsRun pools.tells (shown pools session.pool) (shown pools s.pool) (Unit {0}) ends.added None) (sym is.0) ends.run,
       λ inputs told units settled. record {
-        means = subst (λ (l : List Message). MeansWhole (MeansOnVolumes (setting_of pools session held today) command) command units ends.added l) (sym (is.2 ∙ ends.messages_are)) (ends.ended told units settled);
+        means =
+            subst (λ (list : List (OutDd B Own)). MeansWhole (MeansWithOutputs (setting_of pools session held today) command files.outs (map seen list)) command units ends.added report.messages) (sym is.4)
+            (subst (λ (l : List Message). MeansWhole (MeansWithOutputs (setting_of pools session held today) command files.outs (map seen given)) command units ends.added l) (sym (is.2 ∙ ends.messages_are))
+            (ends.ended told units settled));
         code_is = is.3 ∙ ap (λ (l : List Message). greatest_code l) (sym is.2);
       },
       record { code_is = is.3 ∙ ap (λ (l : List Message). greatest_code l) (sym is.2); framed = (framed.0, is.2 ∙ framed.1) },
@@ -46,7 +51,8 @@ module _ {P B : Type 0} {Own : B → Type 0} (pools : Ghosts P) (seen : OutDd B 
     ends_done (outcomes.Short kept outs report steps) is = absurd is
 
   module _ (cut : Cut P) (command : Command) (held : List Hold) (today : Day) (before after : List Step) (said : List Message)
-      (ends : Ends pools (MeansWhole (MeansOnVolumes (setting_of pools session held today) command) command) (IsCutOnVolumes (setting_of pools session held today) command) session before after [] said (Err cut))
+      (ends : Ends pools (MeansWhole (MeansWithOutputs (setting_of pools session held today) command files.outs (map seen given)) command)
+      (IsCutWithOutputs (setting_of pools session held today) command files.outs (map seen given)) session before after [] said (Err cut))
       (begins : ((said ≡ []) × IsShort cut × (after ≡ before)) ⊎ (take 1 said ≡ messages.Started (verb_of command) ∷ [])) where
     says : (told : List Message) (added : List Step) → told ≡ take 1 said → after ≡ before ++ added → ((told ≡ []) × (added ≡ [])) ⊎ (told ≡ messages.Started (verb_of command) ∷ [])
     says told added is steps = elim begins [
@@ -61,7 +67,8 @@ module _ {P B : Type 0} {Own : B → Type 0} (pools : Ghosts P) (seen : OutDd B 
     ]
 
     EndsAs : Cut P → Type 0
-    EndsAs c = Ends pools (MeansWhole (MeansOnVolumes (setting_of pools session held today) command) command) (IsCutOnVolumes (setting_of pools session held today) command) session before after [] said (Err c)
+    EndsAs c = Ends pools (MeansWhole (MeansWithOutputs (setting_of pools session held today) command files.outs (map seen given)) command)
+        (IsCutWithOutputs (setting_of pools session held today) command files.outs (map seen given)) session before after [] said (Err c)
 
     pub ends_cut : (outcome : Outcome P B Own) → IsCutOutcome cut given after said outcome → EndsStatement pools seen files ins session command held today before outcome
     unfolding EndsAs
@@ -73,12 +80,22 @@ module _ {P B : Type 0} {Own : B → Type 0} (pools : Ghosts P) (seen : OutDd B 
           was.run.cause (λ short. short),
           is.2 ∙ starts (λ short. subst (λ (c : Cut P). IsShort c) is.0 short),
           was.run,
-          λ inputs. was.cut,
+          λ inputs tells units settled.
+              subst (λ (list : List (OutDd B Own)). IsCutWithOutputs (setting_of pools session held today) command files.outs (map seen list) units was.added broken.pending) (sym is.3)
+              (was.cut tells units settled),
           is.4,
         )
     ends_cut (outcomes.Short kept outs report steps) is =
-        let was : EndsAs (cuts.Short kept) = subst EndsAs is.0 ends in
-        (was.added, is.1 ∙ was.steps_are, was.facts, says report.messages was.added is.2 was.steps_are, was.run, λ inputs. was.cut, is.4)
+        let was : EndsAs (cuts.Short kept) = subst EndsAs is.0 ends in (
+          was.added,
+          is.1 ∙ was.steps_are,
+          was.facts,
+          says report.messages was.added is.2 was.steps_are,
+          was.run,
+          λ inputs tells units settled.
+              subst (λ (list : List (OutDd B Own)). IsCutWithOutputs (setting_of pools session held today) command files.outs (map seen list) units was.added None) (sym is.3) (was.cut tells units settled),
+          is.4,
+        )
 
 -- ---- what only reads
 
@@ -105,6 +122,19 @@ pub outs_cut : {P B : Type 0} {Own : B → Type 0} (cut : Cut P) (given : List (
 outs_cut cut given steps said (outcomes.Done kept outs report all) is = absurd is
 outs_cut cut given steps said (outcomes.Halted broken outs report all) is = is.3
 outs_cut cut given steps said (outcomes.Short kept outs report all) is = is.3
+
+-- what is so of the outputs that a statement left, is so of those that come back
+pub used_done : {P B : Type 0} {Own : B → Type 0} (seen : OutDd B Own → OutSeen) (next : SessionView P) (before given : List (OutDd B Own)) (steps : List Step) (said : List Message)
+    → KeepsUsed seen before given → (outcome : Outcome P B Own) → IsDoneOutcome next given steps said outcome → LeavesUsed seen before outcome
+used_done seen next before given steps said keeps (outcomes.Done kept outs report all) is = subst (KeepsUsed seen before) (sym is.4) keeps
+used_done seen next before given steps said keeps (outcomes.Halted broken outs report all) is = absurd is
+used_done seen next before given steps said keeps (outcomes.Short kept outs report all) is = absurd is
+
+pub used_cut : {P B : Type 0} {Own : B → Type 0} (seen : OutDd B Own → OutSeen) (cut : Cut P) (before given : List (OutDd B Own)) (steps : List Step) (said : List Message)
+    → KeepsUsed seen before given → (outcome : Outcome P B Own) → IsCutOutcome cut given steps said outcome → LeavesUsed seen before outcome
+used_cut seen cut before given steps said keeps (outcomes.Done kept outs report all) is = absurd is
+used_cut seen cut before given steps said keeps (outcomes.Halted broken outs report all) is = subst (KeepsUsed seen before) (sym is.3) keeps
+used_cut seen cut before given steps said keeps (outcomes.Short kept outs report all) is = subst (KeepsUsed seen before) (sym is.3) keeps
 
 pub short_leaves : {P : Type 0} (session : SessionView P) (cut : Cut P) → cut ≡ cuts.Short session → LeavesSession session (Err cut)
 short_leaves {P} session cut is = subst (λ (c : Cut P). LeavesSession session (Err c)) (sym is) refl

@@ -8,7 +8,7 @@ use Rattle.dscb_rec.specs.declared.field.Extent.{Extent as Field}
 use Rattle.volume_model.specs.Reads.{extent_in}
 use Rattle.volume_model.specs.Unit.{Extent}
 use Rattle.vtoc_core.specs.Loaded.{field_of}
-use Rattle.job_turns.specs.job_copies.step_plans.Plans.{extents_from}
+use Rattle.dump_sets.specs.job_turns.job_copies.step_plans.Plans.{extents_from}
 use Rattle.job_lines.specs.declared.message.Message.{Message}
 use Rattle.job_lines.specs.declared.message.Message.TheVariants as messages
 use Rattle.job_ops.specs.Listing.{extent_messages}

@@ -18,7 +18,7 @@ use Rattle.job_ops.specs.Asked.{IsSeen, IsReasonBefore, ReasonSoFar, said_of}
 use Rattle.job_ops.specs.Reasons.{LacksRoomFor}
 use Rattle.job_ops.specs.Release.{size_of, keep_of, HasUnused, ReleasesSet}
 use Rattle.job_ops.specs.Reshaping.{HasRoomToReshape, LacksRoomToReshape, steps_of_reshape}
-use Rattle.job_turns.specs.Stating.{repairs, rebuilt}
+use Rattle.dump_sets.specs.job_turns.Stating.{repairs, rebuilt}
 use Rattle.job_ops.specs.Task.{StaysFor}
 use Rattle.job_ops.proofs.Changing.{reshape_of, target_seen}
 use Rattle.job_ops.proofs.Judging.{no_reason, room_reason}

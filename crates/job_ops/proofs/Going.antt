@@ -9,21 +9,21 @@ use Rattle.sysin_lang.specs.declared.command.Filter.{Filter}
 use Rattle.vol_label.specs.declared.serial.Serial.{Serial}
 use Rattle.volume_model.specs.Unit.{OnlineVolume, online}
 use Rattle.move_core.specs.declared.steps.Step.{Step}
-use Rattle.job_turns.specs.job_copies.unit_steps.Loaded.{AreModels}
-use Rattle.job_turns.specs.job_steps.unit_session.Sessions.{SessionView}
+use Rattle.dump_sets.specs.job_turns.job_copies.unit_steps.Loaded.{AreModels}
+use Rattle.dump_sets.specs.job_turns.job_steps.unit_session.Sessions.{SessionView}
 use Rattle.job_lines.specs.declared.message.Message.{Message}
 use Rattle.job_lines.specs.declared.message.Message.TheVariants as messages
-use Rattle.job_turns.specs.job_copies.job_select.Selection.{Selects}
-use Rattle.job_turns.specs.job_steps.declared.cut.Cut.{Cut}
-use Rattle.job_turns.specs.Refusal.{IsUnitFor}
-use Rattle.job_turns.specs.job_steps.Units.{facts_of, ForUnits}
-use Rattle.job_turns.specs.Ends.{Ends}
-use Rattle.job_turns.specs.Refusal.{Standing, standing_of, standing_in, Refuses, Lets}
+use Rattle.dump_sets.specs.job_turns.job_copies.job_select.Selection.{Selects}
+use Rattle.dump_sets.specs.job_turns.job_steps.declared.cut.Cut.{Cut}
+use Rattle.dump_sets.specs.job_turns.Refusal.{IsUnitFor}
+use Rattle.dump_sets.specs.job_turns.job_steps.Units.{facts_of, ForUnits}
+use Rattle.dump_sets.specs.job_turns.Ends.{Ends}
+use Rattle.dump_sets.specs.job_turns.Refusal.{Standing, standing_of, standing_in, Refuses, Lets}
 use Rattle.job_ops.specs.Sets.{changed, GoesThrough, OverSets, IsCutOverSets}
-use Rattle.job_turns.specs.Setting.{setting_of}
-use Rattle.job_turns.specs.Turns.{Action, Turns, AreCutTurns}
-use Rattle.job_turns.proofs.SameSessions.{ends_as}
-use Rattle.job_turns.proofs.Standing.{standings_are, volume_of}
+use Rattle.dump_sets.specs.job_turns.Setting.{setting_of}
+use Rattle.dump_sets.specs.job_turns.Turns.{Action, Turns, AreCutTurns}
+use Rattle.dump_sets.proofs.job_turns.SameSessions.{ends_as}
+use Rattle.dump_sets.proofs.job_turns.Standing.{standings_are, volume_of}
 
 module _ {P : Type 0} (pools : Ghosts P) (Turn : ℕ → Dsn → Action) (session : SessionView P) (held : List Hold) (today : Day) (filter : Filter) (serial : Serial) (models : ForUnits pools session (AreModels session.units)) where
   -- what refuses it as it was loaded refuses it

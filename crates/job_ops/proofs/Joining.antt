@@ -15,12 +15,12 @@ use Rattle.job_ops.specs.declared.asking.Candidate.{Candidate}
 use Rattle.job_ops.specs.declared.reshaping.Layout.TheVariants as layouts
 use Rattle.job_ops.specs.declared.reshaping.Reshape.{Reshape}
 use Rattle.job_ops.specs.declared.task.Task.TheVariants as tasks
-use Rattle.job_turns.specs.job_steps.Units.{IsSet}
+use Rattle.dump_sets.specs.job_turns.job_steps.Units.{IsSet}
 use Rattle.job_ops.specs.Asked.{IsSeen, IsReasonBefore, ReasonSoFar, said_of}
 use Rattle.job_ops.specs.Consolidate.{HasSeveral, IsPlaceOf, LacksPlace, LacksRoomAtPlace, run_from, ConsolidatesSet}
 use Rattle.job_ops.specs.Reasons.{LacksRoomFor}
 use Rattle.job_ops.specs.Reshaping.{HasRoomToReshape, LacksRoomToReshape, steps_of_reshape}
-use Rattle.job_turns.specs.Stating.{repairs, rebuilt}
+use Rattle.dump_sets.specs.job_turns.Stating.{repairs, rebuilt}
 use Rattle.job_ops.specs.Task.{StaysFor}
 use Rattle.job_ops.proofs.Changing.{reshape_of, target_seen}
 use Rattle.job_ops.proofs.Judging.{no_reason, place_reason, room_reason}

@@ -10,7 +10,7 @@ use Rattle.job_lines.specs.declared.message.Reason.{Reason}
 use Rattle.job_lines.specs.declared.message.Reason.TheVariants as reasons
 use Rattle.job_ops.specs.declared.asking.Candidate.{Candidate}
 use Rattle.job_ops.specs.declared.task.Task.{Task}
-use Rattle.job_turns.specs.job_steps.Units.{IsSet}
+use Rattle.dump_sets.specs.job_turns.job_steps.Units.{IsSet}
 use Rattle.job_ops.specs.Asked.{IsSeen, ReasonSoFar}
 use Rattle.job_lines.specs.Order.{IsReason, HasNoReason}
 use Rattle.job_ops.specs.Reasons.{IsHeld, PreventsInPlace}

@@ -28,3 +28,4 @@ mod CopyEnds
 mod CopyGoesOn
 mod CopyOrder
 mod CopyGoing
+mod Performed

@@ -21,23 +21,23 @@ use Rattle.vtoc_core.specs.declared.volume.Volume.{Volume}
 use Rattle.vtoc_core.specs.Loaded.{field_of}
 use Rattle.move_core.specs.Facts.{Facts}
 use Rattle.move_core.specs.Stands.{IsAfterSlide, IsSettled}
-use Rattle.job_turns.specs.job_copies.unit_change.Changed.{extents_of}
-use Rattle.job_turns.specs.job_copies.unit_change.Described.{Describes, DescribesSet}
+use Rattle.dump_sets.specs.job_turns.job_copies.unit_change.Changed.{extents_of}
+use Rattle.dump_sets.specs.job_turns.job_copies.unit_change.Described.{Describes, DescribesSet}
 use Rattle.unit_load.specs.declared.state.UnitState.{UnitState}
 use Rattle.unit_load.specs.declared.state.UnitState.TheVariants as states
 use Rattle.unit_load.specs.Kept.{IsKept}
-use Rattle.job_turns.specs.job_copies.unit_steps.Loaded.{IsModel}
-use Rattle.job_turns.specs.job_copies.unit_steps.Plans.{IsLoadedAt, HasRow}
-use Rattle.job_turns.specs.job_copies.step_plans.Plans.{IsSound}
+use Rattle.dump_sets.specs.job_turns.job_copies.unit_steps.Loaded.{IsModel}
+use Rattle.dump_sets.specs.job_turns.job_copies.unit_steps.Plans.{IsLoadedAt, HasRow}
+use Rattle.dump_sets.specs.job_turns.job_copies.step_plans.Plans.{IsSound}
 use Rattle.job_ops.specs.declared.asking.Candidate.{Candidate}
 use Rattle.job_ops.specs.declared.task.Task.{Task}
 use Rattle.job_ops.specs.declared.task.Task.TheVariants as tasks
 use Rattle.job_ops.specs.Asked.{MayProcess, IsCandidate, IsSeen}
 use Rattle.job_ops.specs.Task.{StaysFor}
 use Rattle.job_ops.proofs.Judging.{volume_in}
-use Rattle.job_turns.proofs.job_copies.SetsOfRows.{named_set}
+use Rattle.dump_sets.proofs.job_turns.job_copies.SetsOfRows.{named_set}
 use Rattle.job_ops.proofs.SetsOfRows.{one_set}
-use Rattle.job_turns.proofs.job_steps.unit_session.unit_steps.OneChange.{same_volume}
+use Rattle.dump_sets.proofs.job_turns.job_steps.unit_session.unit_steps.OneChange.{same_volume}
 
 -- ---- units
 

@@ -13,29 +13,29 @@ use Rattle.move_core.specs.Runs.{IsRun}
 use Rattle.move_core.specs.Steps.{shrunk}
 use Rattle.vtoc_core.specs.declared.volume.Row.{Row}
 use Rattle.unit_load.specs.declared.state.UnitState.{UnitState}
-use Rattle.job_turns.specs.job_copies.unit_steps.Plans.{HasRow}
-use Rattle.job_turns.specs.job_steps.unit_session.Sessions.{SessionView, IsSameSession}
+use Rattle.dump_sets.specs.job_turns.job_copies.unit_steps.Plans.{HasRow}
+use Rattle.dump_sets.specs.job_turns.job_steps.unit_session.Sessions.{SessionView, IsSameSession}
 use Rattle.job_lines.specs.declared.message.Message.{Message}
 use Rattle.job_lines.specs.declared.message.Message.TheVariants as messages
 use Rattle.job_lines.specs.declared.message.Reason.{Reason}
-use Rattle.job_turns.specs.job_steps.declared.cut.Cut.{Cut}
-use Rattle.job_turns.specs.job_steps.declared.cut.Cut.TheVariants as cuts
+use Rattle.dump_sets.specs.job_turns.job_steps.declared.cut.Cut.{Cut}
+use Rattle.dump_sets.specs.job_turns.job_steps.declared.cut.Cut.TheVariants as cuts
 use Rattle.job_ops.specs.declared.asking.Candidate.{Candidate}
 use Rattle.job_ops.specs.declared.task.Task.{Task}
 use Rattle.job_ops.specs.declared.task.Task.TheVariants as tasks
 use Rattle.job_ops.specs.Asked.{MayProcess, IsSeen, IsReasonBefore}
-use Rattle.job_turns.specs.job_steps.Units.{ForUnits}
-use Rattle.job_turns.specs.Ends.{Ends}
+use Rattle.dump_sets.specs.job_turns.job_steps.Units.{ForUnits}
+use Rattle.dump_sets.specs.job_turns.Ends.{Ends}
 use Rattle.job_ops.specs.Consolidate.{HasSeveral, LacksPlace, LacksRoomAtPlace}
 use Rattle.job_ops.specs.Meaning.{TurnOf}
 use Rattle.job_ops.specs.Reasons.{LacksRoomFor}
 use Rattle.job_ops.specs.Release.{keep_of, HasUnused}
 use Rattle.job_ops.specs.Reshaping.{StaysChangeable}
 use Rattle.job_ops.specs.Task.{StaysFor, severity_for}
-use Rattle.job_turns.specs.Turns.{IsCutAction}
+use Rattle.dump_sets.specs.job_turns.Turns.{IsCutAction}
 use Rattle.job_ops.proofs.Judging.{reason_found}
-use Rattle.job_turns.proofs.job_acts.Sessions.{for_new}
-use Rattle.job_turns.proofs.SameSessions.{ends_after, ends_said}
+use Rattle.dump_sets.proofs.job_turns.job_acts.Sessions.{for_new}
+use Rattle.dump_sets.proofs.job_turns.SameSessions.{ends_after, ends_said}
 
 -- a reason is told
 pub reason_told : (task : Task) (held : List Hold) {unit : ℕ} {name : Dsn} {candidate : Candidate} {units : List UnitModel} (reason : Reason) → IsSeen task unit name candidate units

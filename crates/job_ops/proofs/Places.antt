@@ -18,19 +18,19 @@ use Rattle.vtoc_core.specs.declared.volume.Row.{Row}
 use Rattle.vtoc_core.specs.declared.volume.Volume.{Volume}
 use Rattle.vtoc_core.specs.Loaded.{field_of}
 use Rattle.volume_change.proofs.Names.{one_text}
-use Rattle.job_turns.specs.job_copies.unit_change.Described.{DescribesSet, Describes}
+use Rattle.dump_sets.specs.job_turns.job_copies.unit_change.Described.{DescribesSet, Describes}
 use Rattle.unit_load.specs.declared.state.UnitState.{UnitState}
-use Rattle.job_turns.specs.job_copies.unit_steps.Plans.{IsLoadedAt, HasRow, extents_in}
+use Rattle.dump_sets.specs.job_turns.job_copies.unit_steps.Plans.{IsLoadedAt, HasRow, extents_in}
 use Rattle.plan_core.specs.Consolidate.{IsRowOf, IsSized, IsPlaceFor, HasNoPlace}
-use Rattle.job_turns.specs.job_copies.step_plans.Plans.{IsSound, IsPlaceOn}
-use Rattle.job_turns.proofs.job_copies.step_plans.LoadedRows.{sound_row}
-use Rattle.job_turns.proofs.job_copies.step_room.SoundRows.{one_row}
-use Rattle.job_turns.proofs.job_copies.job_select.Counts.{row_tracks_few}
+use Rattle.dump_sets.specs.job_turns.job_copies.step_plans.Plans.{IsSound, IsPlaceOn}
+use Rattle.dump_sets.proofs.job_turns.job_copies.step_plans.LoadedRows.{sound_row}
+use Rattle.dump_sets.proofs.job_turns.job_copies.step_room.SoundRows.{one_row}
+use Rattle.dump_sets.proofs.job_turns.job_copies.job_select.Counts.{row_tracks_few}
 use Rattle.job_ops.proofs.ReshapeTargets.{described_by}
 use Rattle.job_ops.proofs.NewKinds.{one_step}
 use Rattle.job_ops.specs.Consolidate.{IsPlaceOf, LacksPlace}
 use Rattle.volume_model.proofs.Numbers.{numbers_long}
-use Rattle.job_turns.proofs.job_steps.unit_session.unit_steps.OneChange.{same_volume}
+use Rattle.dump_sets.proofs.job_turns.job_steps.unit_session.unit_steps.OneChange.{same_volume}
 
 -- ---- places
 

@@ -20,28 +20,28 @@ use Rattle.move_core.specs.declared.steps.Step.TheVariants as steps
 use Rattle.move_core.specs.Stands.{IsSettled}
 use Rattle.move_core.specs.Steps.{IsNewKind, extents_on, moved, shrunk}
 use Rattle.move_core.proofs.Running.{run_idle}
-use Rattle.job_turns.specs.job_copies.unit_change.Described.{DescribesSet}
-use Rattle.job_turns.specs.job_copies.unit_steps.Plans.{extents_in}
-use Rattle.job_turns.specs.job_copies.step_room.Room.{IsFullFor, LackingChangesAreFull, FittingChangesAreNotFull, AlikeChangesHaveRoom}
-use Rattle.job_turns.specs.job_steps.unit_session.Sessions.{SessionView}
-use Rattle.job_turns.specs.job_steps.declared.cut.Cut.{Cut}
-use Rattle.job_turns.specs.job_steps.declared.cut.Cut.TheVariants as cuts
-use Rattle.job_turns.specs.job_steps.Carried.{IsUnitAfter, HaveNext}
-use Rattle.job_turns.specs.job_acts.declared.acts.Acts.{Acts}
-use Rattle.job_turns.specs.job_acts.declared.acts.Acted.{Acted}
-use Rattle.job_turns.specs.job_acts.declared.acts.Acted.TheVariants as ends
-use Rattle.job_turns.specs.job_acts.Making.{MayBeChanged, MayPlan}
-use Rattle.job_turns.specs.job_acts.Acting.{AreSound, Fits, LacksRoom, IsDone, MayDo, AreDone, AllFit, SomeLacks, MayAct, EndsActs, looked_at}
-use Rattle.job_turns.proofs.job_acts.Kept.{behind_itself, behind_repair, after_one, plan_behind}
-use Rattle.job_turns.proofs.job_acts.PlansMade.{repair_planned}
-use Rattle.job_turns.proofs.job_acts.Repairing.{AfterRepairs, may_step, may_repair, may_act, seen_are}
-use Rattle.job_turns.proofs.job_acts.Sessions.{no_change}
+use Rattle.dump_sets.specs.job_turns.job_copies.unit_change.Described.{DescribesSet}
+use Rattle.dump_sets.specs.job_turns.job_copies.unit_steps.Plans.{extents_in}
+use Rattle.dump_sets.specs.job_turns.job_copies.step_room.Room.{IsFullFor, LackingChangesAreFull, FittingChangesAreNotFull, AlikeChangesHaveRoom}
+use Rattle.dump_sets.specs.job_turns.job_steps.unit_session.Sessions.{SessionView}
+use Rattle.dump_sets.specs.job_turns.job_steps.declared.cut.Cut.{Cut}
+use Rattle.dump_sets.specs.job_turns.job_steps.declared.cut.Cut.TheVariants as cuts
+use Rattle.dump_sets.specs.job_turns.job_steps.Carried.{IsUnitAfter, HaveNext}
+use Rattle.dump_sets.specs.job_turns.job_acts.declared.acts.Acts.{Acts}
+use Rattle.dump_sets.specs.job_turns.job_acts.declared.acts.Acted.{Acted}
+use Rattle.dump_sets.specs.job_turns.job_acts.declared.acts.Acted.TheVariants as ends
+use Rattle.dump_sets.specs.job_turns.job_acts.Making.{MayBeChanged, MayPlan}
+use Rattle.dump_sets.specs.job_turns.job_acts.Acting.{AreSound, Fits, LacksRoom, IsDone, MayDo, AreDone, AllFit, SomeLacks, MayAct, EndsActs, looked_at}
+use Rattle.dump_sets.proofs.job_turns.job_acts.Kept.{behind_itself, behind_repair, after_one, plan_behind}
+use Rattle.dump_sets.proofs.job_turns.job_acts.PlansMade.{repair_planned}
+use Rattle.dump_sets.proofs.job_turns.job_acts.Repairing.{AfterRepairs, may_step, may_repair, may_act, seen_are}
+use Rattle.dump_sets.proofs.job_turns.job_acts.Sessions.{no_change}
 use Rattle.job_ops.specs.declared.reshaping.Layout.{Layout}
 use Rattle.job_ops.specs.declared.reshaping.Layout.TheVariants as layouts
 use Rattle.job_ops.specs.declared.reshaping.Reshape.{Reshape}
-use Rattle.job_turns.specs.job_steps.Units.{facts_of, ForUnits}
+use Rattle.dump_sets.specs.job_turns.job_steps.Units.{facts_of, ForUnits}
 use Rattle.job_ops.specs.Reshaping.{step_of, step_to, steps_of_reshape, IsReshaped, MayReshape, NeedsRepair, IsTarget, LacksRoomToReshape, HasRoomToReshape, StaysChangeable, ReshapeAnswers, EndsReshape}
-use Rattle.job_turns.proofs.LoadedUnits.{AreKnown}
+use Rattle.dump_sets.proofs.job_turns.LoadedUnits.{AreKnown}
 use Rattle.job_ops.proofs.ReshapeRoom.{change_full, change_fits, repair_full, repair_fits}
 use Rattle.job_ops.proofs.ReshapeTargets.{PlansReshape, described_by, one_put, put, put_reshaped}
 use Rattle.job_ops.proofs.ReshapeUnits.{reshape_planned, stays_repaired, stays_changed, stays_then}
@@ -148,7 +148,7 @@ module _ {P : Type 0} (pools : Ghosts P) {session : SessionView P} (reshape : Re
             joins (inr (parts, step)) = with_kind 0x01 (inr (parts, refl))
 
   module _ {changes : List (ℕ × Change)} (plan : PlansReshape session.units reshape changes) where
-    lacks_change : (need free : ℕ) → LackingChangesAreFull → Rattle.job_turns.specs.job_steps.unit_session.Planned.LacksRecordsFor session.units changes need free → ForUnits pools session (LacksRoomToReshape reshape)
+    lacks_change : (need free : ℕ) → LackingChangesAreFull → Rattle.dump_sets.specs.job_turns.job_steps.unit_session.Planned.LacksRecordsFor session.units changes need free → ForUnits pools session (LacksRoomToReshape reshape)
     lacks_change need free law full told units settled volume set target =
         let sound = known.sound reshape.unit plan.swap.volume plan.swap.loaded in
         let is = known.described told units settled reshape.unit plan.swap.volume volume plan.swap.loaded target.online_is in (
@@ -217,7 +217,7 @@ module _ {P : Type 0} (pools : Ghosts P) {session : SessionView P} (reshape : Re
 
     -- ---- the whole
 
-    answers : (added : List Step) (result : Result (Acted P) (Cut P)) → Rattle.job_turns.specs.job_acts.Acting.ActsAnswer pools session (steps_of_reshape reshape) (steps_of_reshape reshape) added result
+    answers : (added : List Step) (result : Result (Acted P) (Cut P)) → Rattle.dump_sets.specs.job_turns.job_acts.Acting.ActsAnswer pools session (steps_of_reshape reshape) (steps_of_reshape reshape) added result
         → ReshapeAnswers pools session reshape added result
     answers added (Ok (ends.Done next)) (all, keeps, done, fit) = (all, keeps, stays_if session.room session.units reshape may reshape.repair next.units done, room_if reshape.repair refl fit)
     answers added (Ok (ends.Full next)) (none, same, lacks) = (none, same, lacks_if reshape.repair refl lacks)

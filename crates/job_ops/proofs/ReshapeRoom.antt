@@ -7,18 +7,18 @@ use Rattle.vtoc_core.specs.declared.volume.Volume.{Volume}
 use Rattle.vtoc_layout.proofs.Distinct.{first_or_later, in_none, in_middle}
 use Rattle.volume_change.specs.declared.change.Change.{Change}
 use Rattle.volume_change.specs.declared.change.Change.TheVariants.{Repair, Swap, Mark}
-use Rattle.job_turns.specs.job_copies.vtoc_render.Next.{IsNext}
-use Rattle.job_turns.specs.job_copies.unit_change.Described.{Describes}
+use Rattle.dump_sets.specs.job_turns.job_copies.vtoc_render.Next.{IsNext}
+use Rattle.dump_sets.specs.job_turns.job_copies.unit_change.Described.{Describes}
 use Rattle.unit_load.specs.declared.state.UnitState.{UnitState}
-use Rattle.job_turns.specs.job_copies.unit_steps.Plans.{IsLoadedAt, PlansRepair}
-use Rattle.job_turns.proofs.job_copies.unit_steps.OneChange.{same_volume}
-use Rattle.job_turns.specs.job_steps.unit_session.Planned.{LacksRecordsFor}
-use Rattle.job_turns.specs.job_copies.step_plans.Plans.{IsSound}
-use Rattle.job_turns.specs.job_copies.step_room.Room.{IsFullFor, LacksRoom, AreTaken, LackingChangesAreFull, FittingChangesAreNotFull}
-use Rattle.job_turns.specs.job_steps.Carried.{HaveNext}
+use Rattle.dump_sets.specs.job_turns.job_copies.unit_steps.Plans.{IsLoadedAt, PlansRepair}
+use Rattle.dump_sets.proofs.job_turns.job_copies.unit_steps.OneChange.{same_volume}
+use Rattle.dump_sets.specs.job_turns.job_steps.unit_session.Planned.{LacksRecordsFor}
+use Rattle.dump_sets.specs.job_turns.job_copies.step_plans.Plans.{IsSound}
+use Rattle.dump_sets.specs.job_turns.job_copies.step_room.Room.{IsFullFor, LacksRoom, AreTaken, LackingChangesAreFull, FittingChangesAreNotFull}
+use Rattle.dump_sets.specs.job_turns.job_steps.Carried.{HaveNext}
 use Rattle.job_ops.specs.declared.reshaping.Reshape.{Reshape}
 use Rattle.job_ops.proofs.ReshapeTargets.{PlansReshape, texts_to, put, taken, put_is}
-use Rattle.job_turns.proofs.job_steps.unit_session.unit_steps.Small.{swap_no_mark}
+use Rattle.dump_sets.proofs.job_turns.job_steps.unit_session.unit_steps.Small.{swap_no_mark}
 
 -- ---- one change
 

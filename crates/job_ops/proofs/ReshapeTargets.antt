@@ -15,19 +15,19 @@ use Rattle.vtoc_layout.proofs.Distinct.{first_or_later, at_first, in_later, in_n
 use Rattle.volume_change.specs.declared.change.Change.{Change}
 use Rattle.volume_change.specs.declared.change.Change.TheVariants.{Swap}
 use Rattle.volume_change.proofs.Names.{one_text}
-use Rattle.job_turns.specs.job_copies.unit_change.Changed.{sets_put}
-use Rattle.job_turns.specs.job_copies.unit_change.Described.{DescribesSet, DescribesSets, Describes}
+use Rattle.dump_sets.specs.job_turns.job_copies.unit_change.Changed.{sets_put}
+use Rattle.dump_sets.specs.job_turns.job_copies.unit_change.Described.{DescribesSet, DescribesSets, Describes}
 use Rattle.unit_load.specs.declared.state.UnitState.{UnitState}
 use Rattle.move_core.specs.Steps.{JoinsExtents, cut, extents_on, moved}
-use Rattle.job_turns.specs.job_copies.unit_steps.Plans.{HasRow, SwapsRow, IsRowWith, extents_in}
-use Rattle.job_turns.specs.job_copies.step_plans.Plans.{IsSound}
-use Rattle.job_turns.specs.job_copies.step_room.Room.{AreTaken}
-use Rattle.job_turns.proofs.job_copies.step_room.SoundRows.{one_row}
+use Rattle.dump_sets.specs.job_turns.job_copies.unit_steps.Plans.{HasRow, SwapsRow, IsRowWith, extents_in}
+use Rattle.dump_sets.specs.job_turns.job_copies.step_plans.Plans.{IsSound}
+use Rattle.dump_sets.specs.job_turns.job_copies.step_room.Room.{AreTaken}
+use Rattle.dump_sets.proofs.job_turns.job_copies.step_room.SoundRows.{one_row}
 use Rattle.job_ops.specs.declared.reshaping.Layout.{Layout}
 use Rattle.job_ops.specs.declared.reshaping.Layout.TheVariants as layouts
 use Rattle.job_ops.specs.declared.reshaping.Reshape.{Reshape}
 use Rattle.job_ops.specs.Reshaping.{IsReshaped}
-use Rattle.job_turns.proofs.job_acts.Alike.{one_kind}
+use Rattle.dump_sets.proofs.job_turns.job_acts.Alike.{one_kind}
 
 -- ---- rows and data sets
 

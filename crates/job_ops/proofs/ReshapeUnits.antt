@@ -8,19 +8,19 @@ use Rattle.vtoc_core.specs.declared.volume.Volume.{Volume}
 use Rattle.vtoc_layout.proofs.Distinct.{from_map}
 use Rattle.volume_change.specs.declared.change.Change.{Change}
 use Rattle.volume_change.specs.declared.change.Change.TheVariants.{Repair, Swap}
-use Rattle.job_turns.specs.job_copies.vtoc_render.Next.{IsChanged}
+use Rattle.dump_sets.specs.job_turns.job_copies.vtoc_render.Next.{IsChanged}
 use Rattle.unit_load.specs.declared.state.UnitState.{UnitState}
 use Rattle.move_core.specs.Steps.{cut}
-use Rattle.job_turns.specs.job_copies.unit_steps.declared.plan.Plan.{Plan}
-use Rattle.job_turns.specs.job_copies.unit_steps.Plans.{IsPlan, PlansMove, PlansShrink, extents_in}
-use Rattle.job_turns.proofs.job_copies.unit_steps.OneChange.{same_volume}
-use Rattle.job_turns.proofs.job_copies.step_room.step_plans.RowNames.{named}
+use Rattle.dump_sets.specs.job_turns.job_copies.unit_steps.declared.plan.Plan.{Plan}
+use Rattle.dump_sets.specs.job_turns.job_copies.unit_steps.Plans.{IsPlan, PlansMove, PlansShrink, extents_in}
+use Rattle.dump_sets.proofs.job_turns.job_copies.unit_steps.OneChange.{same_volume}
+use Rattle.dump_sets.proofs.job_turns.job_copies.step_room.step_plans.RowNames.{named}
 use Rattle.ckd_image.proofs.Lists.{contains_map}
-use Rattle.job_turns.specs.job_steps.Carried.{IsUnitAfter}
-use Rattle.job_turns.specs.job_acts.Making.{MayBeChanged, MayPlan}
-use Rattle.job_turns.proofs.job_acts.Alike.{join_extents}
-use Rattle.job_turns.proofs.job_acts.Kept.{loaded_after}
-use Rattle.job_turns.proofs.job_acts.PlansMade.{cut_planned, join_planned}
+use Rattle.dump_sets.specs.job_turns.job_steps.Carried.{IsUnitAfter}
+use Rattle.dump_sets.specs.job_turns.job_acts.Making.{MayBeChanged, MayPlan}
+use Rattle.dump_sets.proofs.job_turns.job_acts.Alike.{join_extents}
+use Rattle.dump_sets.proofs.job_turns.job_acts.Kept.{loaded_after}
+use Rattle.dump_sets.proofs.job_turns.job_acts.PlansMade.{cut_planned, join_planned}
 use Rattle.job_ops.specs.declared.reshaping.Layout.{Layout}
 use Rattle.job_ops.specs.declared.reshaping.Layout.TheVariants as layouts
 use Rattle.job_ops.specs.declared.reshaping.Reshape.{Reshape}

@@ -9,9 +9,9 @@ use Rattle.vtoc_core.specs.declared.volume.Row.{Row}
 use Rattle.vtoc_core.specs.declared.volume.Volume.{Volume}
 use Rattle.vtoc_layout.specs.Layout.{AreDistinct}
 use Rattle.vtoc_layout.proofs.Distinct.{one_of_map}
-use Rattle.job_turns.specs.job_copies.unit_change.Described.{Describes, DescribesSets}
-use Rattle.job_turns.specs.job_copies.step_plans.Plans.{IsSound}
-use Rattle.job_turns.proofs.job_copies.step_room.step_plans.RowNames.{named, names_differ}
+use Rattle.dump_sets.specs.job_turns.job_copies.unit_change.Described.{Describes, DescribesSets}
+use Rattle.dump_sets.specs.job_turns.job_copies.step_plans.Plans.{IsSound}
+use Rattle.dump_sets.proofs.job_turns.job_copies.step_room.step_plans.RowNames.{named, names_differ}
 
 module _ (heads : ℕ) where
   set_names : (rows : List Row) (sets : List DataSet) → DescribesSets heads rows sets → map named rows ≡ map (λ set. set.name) sets

@@ -8,7 +8,7 @@ use Rattle.volume_model.specs.Reads.{fields_of_1}
 use Rattle.volume_model.specs.Unit.{DataSet}
 use Rattle.volume_model.proofs.Fields.{field_behind}
 use Rattle.vtoc_core.specs.declared.volume.Row.{Row}
-use Rattle.job_turns.specs.job_copies.unit_change.Described.{DescribesSet, DescribesSets}
+use Rattle.dump_sets.specs.job_turns.job_copies.unit_change.Described.{DescribesSet, DescribesSets}
 use Rattle.job_lines.specs.declared.message.Message.{Message}
 use Rattle.job_ops.specs.Listing.{set_messages}
 

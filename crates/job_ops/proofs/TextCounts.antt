@@ -15,9 +15,9 @@ use Rattle.volume_model.specs.Unit.{Extent, DataSet, OnlineVolume, UnitModel, on
 use Rattle.vtoc_layout.proofs.Distinct.{first_or_later, in_none, in_middle, or_other, among_others}
 use Rattle.move_core.specs.Facts.{Facts}
 use Rattle.move_core.specs.Stands.{extent_from, moved_to, Slides, IsAfterSlide, IsSettled}
-use Rattle.job_turns.proofs.job_copies.unit_steps.Cutting.{texts_long}
+use Rattle.dump_sets.proofs.job_turns.job_copies.unit_steps.Cutting.{texts_long}
 use Rattle.job_ops.proofs.Judging.{volume_in}
-use Rattle.job_turns.proofs.job_copies.job_select.Counts.{tracks_long}
+use Rattle.dump_sets.proofs.job_turns.job_copies.job_select.Counts.{tracks_long}
 
 -- ---- tracks
 

@@ -16,33 +16,33 @@ use Rattle.volume_change.specs.declared.change.Change.TheVariants.{Remove}
 use Rattle.unit_load.specs.declared.state.UnitState.{UnitState}
 use Rattle.move_core.specs.declared.steps.Step.{Step}
 use Rattle.move_core.specs.declared.steps.Step.TheVariants as steps
-use Rattle.job_turns.specs.job_copies.vtoc_render.Next.{IsNext, IsChanged}
-use Rattle.job_turns.specs.job_copies.unit_steps.declared.plan.Plan.{Plan}
-use Rattle.job_turns.specs.job_copies.unit_steps.Plans.{IsLoadedAt, HasRow, PlansCopy, PlansCarry, PlansPut, PlansDelete, IsPlan, putting}
-use Rattle.job_turns.proofs.job_copies.unit_steps.OneChange.{same_volume}
-use Rattle.job_turns.proofs.job_copies.job_select.OneName.{one_named}
-use Rattle.job_turns.specs.job_copies.step_room.Room as room
-use Rattle.job_turns.specs.job_copies.step_room.Room.{AlikeChangesHaveRoom, StatedVolumesHaveRoom, ChangesStateSpace}
-use Rattle.job_turns.specs.job_copies.vtoc_render.Next.{MayChange}
-use Rattle.job_turns.proofs.job_steps.unit_session.unit_steps.Small.{putting_no_mark}
+use Rattle.dump_sets.specs.job_turns.job_copies.vtoc_render.Next.{IsNext, IsChanged}
+use Rattle.dump_sets.specs.job_turns.job_copies.unit_steps.declared.plan.Plan.{Plan}
+use Rattle.dump_sets.specs.job_turns.job_copies.unit_steps.Plans.{IsLoadedAt, HasRow, PlansCopy, PlansCarry, PlansPut, PlansDelete, IsPlan, putting}
+use Rattle.dump_sets.proofs.job_turns.job_copies.unit_steps.OneChange.{same_volume}
+use Rattle.dump_sets.proofs.job_turns.job_copies.job_select.OneName.{one_named}
+use Rattle.dump_sets.specs.job_turns.job_copies.step_room.Room as room
+use Rattle.dump_sets.specs.job_turns.job_copies.step_room.Room.{AlikeChangesHaveRoom, StatedVolumesHaveRoom, ChangesStateSpace}
+use Rattle.dump_sets.specs.job_turns.job_copies.vtoc_render.Next.{MayChange}
+use Rattle.dump_sets.proofs.job_turns.job_steps.unit_session.unit_steps.Small.{putting_no_mark}
 use Rattle.dasd_pool.specs.declared.pool.Pool.{Ghosts}
 use Rattle.move_core.proofs.Running.{run_idle}
-use Rattle.job_turns.specs.job_steps.unit_session.Sessions.{SessionView}
-use Rattle.job_turns.specs.job_steps.declared.cut.Cut.{Cut}
-use Rattle.job_turns.specs.job_steps.declared.cut.Cut.TheVariants as cuts
-use Rattle.job_turns.specs.job_steps.Carried.{IsUnitAfter}
-use Rattle.job_turns.specs.job_acts.Making.{MayBeChanged, HasSet, MayPut, MayPlan, put_step, repair_steps}
-use Rattle.job_turns.specs.job_acts.declared.acts.Acts.{Acts}
-use Rattle.job_turns.specs.job_acts.declared.acts.Acted.{Acted}
-use Rattle.job_turns.specs.job_acts.Acting.{AreSound, Fits, LacksRoom, IsDone, MayDo, AllFit, MayAct, EndsActs, looked_at}
-use Rattle.job_turns.proofs.job_acts.Kept.{IsBehind, behind_itself, put_behind, after_one, loaded_after}
-use Rattle.job_turns.proofs.job_acts.PlansMade.{put_planned, carry_planned, delete_planned}
-use Rattle.job_turns.proofs.job_acts.Repairing.{AfterRepairs, may_step, may_repairs, repairs_planned, full_one, may_act, seen_are}
-use Rattle.job_turns.proofs.job_acts.Sessions.{no_change}
+use Rattle.dump_sets.specs.job_turns.job_steps.unit_session.Sessions.{SessionView}
+use Rattle.dump_sets.specs.job_turns.job_steps.declared.cut.Cut.{Cut}
+use Rattle.dump_sets.specs.job_turns.job_steps.declared.cut.Cut.TheVariants as cuts
+use Rattle.dump_sets.specs.job_turns.job_steps.Carried.{IsUnitAfter}
+use Rattle.dump_sets.specs.job_turns.job_acts.Making.{MayBeChanged, HasSet, MayPut, MayPlan, put_step, repair_steps}
+use Rattle.dump_sets.specs.job_turns.job_acts.declared.acts.Acts.{Acts}
+use Rattle.dump_sets.specs.job_turns.job_acts.declared.acts.Acted.{Acted}
+use Rattle.dump_sets.specs.job_turns.job_acts.Acting.{AreSound, Fits, LacksRoom, IsDone, MayDo, AllFit, MayAct, EndsActs, looked_at}
+use Rattle.dump_sets.proofs.job_turns.job_acts.Kept.{IsBehind, behind_itself, put_behind, after_one, loaded_after}
+use Rattle.dump_sets.proofs.job_turns.job_acts.PlansMade.{put_planned, carry_planned, delete_planned}
+use Rattle.dump_sets.proofs.job_turns.job_acts.Repairing.{AfterRepairs, may_step, may_repairs, repairs_planned, full_one, may_act, seen_are}
+use Rattle.dump_sets.proofs.job_turns.job_acts.Sessions.{no_change}
 use Rattle.job_ops.specs.declared.transfer.Transfer.{Transfer}
 use Rattle.job_ops.specs.Copy.{lower_first}
 use Rattle.job_ops.specs.Transfers.{is_carried, is_deleted, units_due, copying_step, first_steps, last_steps, steps_of_transfer, MayTransfer, EndsTransfer}
-use Rattle.job_turns.specs.Stating.{is_unstated, due}
+use Rattle.dump_sets.specs.job_turns.Stating.{is_unstated, due}
 
 -- ---- where it goes
 

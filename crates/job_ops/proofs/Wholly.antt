@@ -1,11 +1,13 @@
 -- A whole statement, from how what it does ends.
-use Rattle.std.proofs.Common.{◌≡◌, inl, inr, ℕ, List, [], ◌∷◌, ◌++◌, None, refl, sym, ap, subst, ◌∙◌}
+use Rattle.std.proofs.Common.{◌≡◌, inl, inr, ℕ, Bool, true, false, List, [], ◌∷◌, ◌++◌, None, refl, sym, ap, subst, ◌∙◌}
 use Rattle.std.specs.Prelude.{Result, Ok, Err, IfOk, IfErr}
 use Rattle.std.proofs.lemmas.List.{append-nil}
 use Rattle.std.proofs.lemmas.Result.{IfOk-weaker, IfErr-weaker}
 use Rattle.by_rules.specs.declared.day.Day.{Day}
 use Rattle.dasd_pool.specs.declared.pool.Pool.{Ghosts}
+use Rattle.dd_names.specs.declared.dd.DdName.{DdName}
 use Rattle.dsn_filter.specs.declared.dsn.Dsn.{Dsn}
+use Rattle.dump_fmt.specs.Outs.{OutSeen}
 use Rattle.enq_table.specs.declared.hold.Hold.{Hold}
 use Rattle.sysin_lang.specs.declared.command.Command.{Command}
 use Rattle.sysin_lang.specs.declared.command.Filter.{Filter}
@@ -15,25 +17,29 @@ use Rattle.volume_model.specs.Unit.{UnitModel}
 use Rattle.move_core.specs.declared.steps.Step.{Step}
 use Rattle.move_core.specs.Facts.{Facts}
 use Rattle.move_core.proofs.Running.{run_idle}
-use Rattle.job_turns.specs.job_steps.unit_session.Sessions.{SessionView}
+use Rattle.dump_sets.specs.job_turns.job_steps.unit_session.Sessions.{SessionView}
 use Rattle.job_lines.specs.declared.message.Message.{Message}
 use Rattle.job_lines.specs.declared.message.Message.TheVariants as messages
 use Rattle.job_lines.specs.Severity.{greatest_code}
-use Rattle.job_turns.specs.job_steps.declared.cut.Cut.{Cut}
-use Rattle.job_turns.specs.job_steps.declared.cut.Cut.TheVariants as cuts
+use Rattle.dump_sets.specs.job_turns.job_steps.declared.cut.Cut.{Cut}
+use Rattle.dump_sets.specs.job_turns.job_steps.declared.cut.Cut.TheVariants as cuts
 use Rattle.job_ops.specs.Consolidate.{ConsolidatesSet}
-use Rattle.job_turns.specs.Ends.{Ends}
+use Rattle.dump_sets.specs.job_turns.Ends.{Ends}
 use Rattle.job_ops.specs.Copy.{CopiesSet, CopiesSets, IsCutCopy, request_of}
-use Rattle.job_ops.specs.Meaning.{IsFramed, MeansOnVolumes, MeansWhole, IsCutOnVolumes, verb_of, wish_of}
+use Rattle.job_ops.specs.Meaning.{IsCutOnVolumes, IsCutWithOutputs, IsFramed, MeansOnVolumes, MeansWhole, MeansWithOutputs, dump_wish_of, verb_of, wish_of}
+use Rattle.dump_sets.specs.job_dumps.declared.wish.DumpWish.{DumpWish}
+use Rattle.dump_sets.specs.job_dumps.Reasons.{changes_sets}
+use Rattle.dump_sets.specs.Dump.{ChangesTaken, DumpsDataSets, IsCutDumping, IsCutInChanges}
+use Rattle.dump_sets.specs.Telling.{some_whole, taken_of}
 use Rattle.job_ops.specs.Release.{ReleasesSet}
 use Rattle.job_ops.specs.Sets.{OverSets, IsCutOverSets}
-use Rattle.job_turns.specs.job_copies.declared.wish.Wish.{Wish}
+use Rattle.dump_sets.specs.job_turns.job_copies.declared.wish.Wish.{Wish}
 use Rattle.dsn_filter.specs.declared.rename.Rename.{Rename}
-use Rattle.job_turns.specs.Setting.{Setting, setting_of}
-use Rattle.job_turns.specs.Turns.{Action, Turns, AreCutTurns}
+use Rattle.dump_sets.specs.job_turns.Setting.{Setting, setting_of}
+use Rattle.dump_sets.specs.job_turns.Turns.{Action, Turns, AreCutTurns}
 use Rattle.job_ops.proofs.Codes.{code_started}
-use Rattle.job_turns.proofs.job_acts.Sessions.{no_change}
-use Rattle.job_turns.proofs.SameSessions.{ends_told, told_grows}
+use Rattle.dump_sets.proofs.job_turns.job_acts.Sessions.{no_change}
+use Rattle.dump_sets.proofs.job_turns.SameSessions.{ends_told, told_grows}
 
 -- ---- what may be cut
 
@@ -87,22 +93,75 @@ cut_behind setting (commands.DumpFull unit outs) units steps said means = absurd
 cut_behind setting (commands.RestoreDataset filter input to purge replace rename) units steps said means = absurd means
 cut_behind setting (commands.RestoreFull input to purge) units steps said means = absurd means
 
+-- so may a dump
+changes_cut : (setting : Setting) (dump : DumpWish) (unit : ℕ) (taken : List Dsn) (whole changes : Bool) (units : List UnitModel) (steps : List Step) (said : List Message)
+    → ChangesTaken whole changes setting dump unit taken units steps said → IsCutInChanges whole changes setting dump unit taken units steps None
+changes_cut setting dump unit taken true true units steps said done = turns_cut setting.facts _ taken units steps said done
+changes_cut setting dump unit taken true false units steps said done = (done.0, refl)
+changes_cut setting dump unit taken false changes units steps said done = (done.0, refl)
+
+dumps_cut : (setting : Setting) (filter : Filter) (serial : Serial) (names : List DdName) (dump : DumpWish) (before after : List OutSeen) (units : List UnitModel) (steps : List Step) (said : List Message)
+    → DumpsDataSets setting filter serial names dump before after units steps said → IsCutDumping setting filter serial names dump before after units steps None
+dumps_cut setting filter serial names dump before after units steps said (inl (message, refused, none, is, same)) = inl (same, none, refl)
+dumps_cut setting filter serial names dump before after units steps said (inr (unit, sets, places, goes, inl (no_sets, none, is, same))) = inl (same, none, refl)
+dumps_cut setting filter serial names dump before after units steps said (inr (unit, sets, places, goes, inr (some, (told, stands, follows)))) =
+    inr (
+      unit,
+      sets,
+      places,
+      goes,
+      inr (told, stands, changes_cut setting dump unit (taken_of sets told) (some_whole after places) (changes_sets dump) units steps follows.rest follows.changes),
+    )
+
+-- ---- with the outputs
+
+-- a command may be cut before it did anything
+cut_first : (setting : Setting) (command : Command) (outs : List OutSeen) (units : List UnitModel) → IsCutWithOutputs setting command outs outs units [] None
+cut_first setting (commands.PrintVtoc unit) outs units = cut_before setting (commands.PrintVtoc unit) units
+cut_first setting (commands.Release filter unit) outs units = cut_before setting (commands.Release filter unit) units
+cut_first setting (commands.Consolidate filter unit) outs units = cut_before setting (commands.Consolidate filter unit) units
+cut_first setting (commands.Defrag unit index limit) outs units = cut_before setting (commands.Defrag unit index limit) units
+cut_first setting (commands.Copy filter unit to delete purge replace rename tolerate) outs units =
+    cut_before setting (commands.Copy filter unit to delete purge replace rename tolerate) units
+cut_first setting (commands.DumpDataset filter unit names reset delete purge tolerate) outs units = inl (refl, refl, refl)
+cut_first setting (commands.DumpFull unit names) outs units = cut_before setting (commands.DumpFull unit names) units
+cut_first setting (commands.RestoreDataset filter input to purge replace rename) outs units = cut_before setting (commands.RestoreDataset filter input to purge replace rename) units
+cut_first setting (commands.RestoreFull input to purge) outs units = cut_before setting (commands.RestoreFull input to purge) units
+
+-- and behind its end
+cut_last : (setting : Setting) (command : Command) (before after : List OutSeen) (units : List UnitModel) (steps : List Step) (said : List Message)
+    → MeansWithOutputs setting command before after units steps said → IsCutWithOutputs setting command before after units steps None
+cut_last setting (commands.PrintVtoc unit) before after units steps said means = cut_behind setting (commands.PrintVtoc unit) units steps said means
+cut_last setting (commands.Release filter unit) before after units steps said means = cut_behind setting (commands.Release filter unit) units steps said means
+cut_last setting (commands.Consolidate filter unit) before after units steps said means = cut_behind setting (commands.Consolidate filter unit) units steps said means
+cut_last setting (commands.Defrag unit index limit) before after units steps said means = cut_behind setting (commands.Defrag unit index limit) units steps said means
+cut_last setting (commands.Copy filter unit to delete purge replace rename tolerate) before after units steps said means =
+    cut_behind setting (commands.Copy filter unit to delete purge replace rename tolerate) units steps said means
+cut_last setting (commands.DumpDataset filter unit names reset delete purge tolerate) before after units steps said means =
+    dumps_cut setting filter unit names (dump_wish_of reset delete purge tolerate) before after units steps said means
+cut_last setting (commands.DumpFull unit names) before after units steps said means = cut_behind setting (commands.DumpFull unit names) units steps said means
+cut_last setting (commands.RestoreDataset filter input to purge replace rename) before after units steps said means =
+    cut_behind setting (commands.RestoreDataset filter input to purge replace rename) units steps said means
+cut_last setting (commands.RestoreFull input to purge) before after units steps said means = cut_behind setting (commands.RestoreFull input to purge) units steps said means
+
 -- ---- the statement
 
-module _ {P : Type 0} (pools : Ghosts P) (command : Command) (held : List Hold) (today : Day) (session : SessionView P) where
+module _ {P : Type 0} (pools : Ghosts P) (command : Command) (held : List Hold) (today : Day) (session : SessionView P) (outs_before outs_after : List OutSeen) where
   -- what the command does ends so
   abbrev pub EndsWithin : SessionView P → List Step → List Step → List Message → List Message → Result (SessionView P) (Cut P) → Type 0
   EndsWithin from before after first last result =
-      Ends pools (MeansOnVolumes (setting_of pools from held today) command) (IsCutOnVolumes (setting_of pools from held today) command) from before after first last result
+      Ends pools (MeansWithOutputs (setting_of pools from held today) command outs_before outs_after) (IsCutWithOutputs (setting_of pools from held today) command outs_before outs_after) from before after
+      first last result
 
   -- the whole statement does
   abbrev pub EndsWholly : List Step → List Step → List Message → Result (SessionView P) (Cut P) → Type 0
   EndsWholly before after last result =
-      Ends pools (MeansWhole (MeansOnVolumes (setting_of pools session held today) command) command) (IsCutOnVolumes (setting_of pools session held today) command) session before after [] last result
+      Ends pools (MeansWhole (MeansWithOutputs (setting_of pools session held today) command outs_before outs_after) command)
+      (IsCutWithOutputs (setting_of pools session held today) command outs_before outs_after) session before after [] last result
 
   -- it couldn't say that it started
-  pub not_started : (steps : List Step) (last : List Message) (cut : Cut P) → cut ≡ cuts.Short session → last ≡ [] → EndsWholly steps steps last (Err cut)
-  not_started steps last cut short none =
+  pub not_started : (steps : List Step) (last : List Message) (cut : Cut P) → cut ≡ cuts.Short session → last ≡ [] → outs_after ≡ outs_before → EndsWholly steps steps last (Err cut)
+  not_started steps last cut short none same =
       subst (λ (k : Cut P). EndsWholly steps steps last (Err k)) (sym short) (record {
         added = [];
         said = [];
@@ -111,7 +170,9 @@ module _ {P : Type 0} (pools : Ghosts P) (command : Command) (held : List Hold) 
         run = run_idle (tt {0});
         facts = no_change pools session;
         ended = tt;
-        cut = λ told units settled. cut_before (setting_of pools session held today) command units;
+        cut = λ told units settled.
+            subst (λ (outs : List OutSeen). IsCutWithOutputs (setting_of pools session held today) command outs_before outs units [] None) (sym same)
+            (cut_first (setting_of pools session held today) command outs_before units);
       })
 
   -- what it does was cut
@@ -164,4 +225,4 @@ module _ {P : Type 0} (pools : Ghosts P) (command : Command) (held : List Hold) 
       (IfErr-weaker result _ _ (λ cut p. p.0) err)
       (messages.Started verb ∷ (ends.said ++ grown.0), grown.1 ∙ ap (λ (l : List Message). l ++ grown.0) between_is)
       (λ told units settled. (ends.said, ends.ended told units settled, refl))
-      (λ told units settled. cut_behind setting command units ends.added ends.said (ends.ended told units settled))
+      (λ told units settled. cut_last setting command outs_before outs_after units ends.added ends.said (ends.ended told units settled))

@@ -7,11 +7,11 @@ use Rattle.volume_model.specs.Pinned.{IsNameOf, kept_tracks}
 use Rattle.volume_model.specs.Unit.{DataSet, OnlineVolume, UnitModel}
 use Rattle.vtoc_core.specs.declared.volume.Row.{Row}
 use Rattle.vtoc_core.specs.declared.volume.Volume.{Volume}
-use Rattle.job_turns.specs.job_copies.unit_change.Described.{DescribesSet}
+use Rattle.dump_sets.specs.job_turns.job_copies.unit_change.Described.{DescribesSet}
 use Rattle.unit_load.specs.declared.state.UnitState.{UnitState}
-use Rattle.job_turns.specs.job_copies.unit_steps.Plans.{IsLoadedAt, HasRow, tracks_in}
+use Rattle.dump_sets.specs.job_turns.job_copies.unit_steps.Plans.{IsLoadedAt, HasRow, tracks_in}
 use Rattle.move_core.specs.Stands.{IsGood}
-use Rattle.job_turns.specs.job_copies.step_plans.Plans.{IsSound}
+use Rattle.dump_sets.specs.job_turns.job_copies.step_plans.Plans.{IsSound}
 use Rattle.job_ops.specs.declared.asking.Candidate.{Candidate}
 use Rattle.job_ops.specs.declared.task.Task.{Task}
 use Rattle.job_lines.specs.declared.message.Message.{Message}
@@ -21,8 +21,8 @@ use Rattle.job_lines.specs.declared.message.Reason.TheVariants as reasons
 use Rattle.job_ops.specs.Reasons.{IsHeld}
 use Rattle.job_ops.specs.Release.{size_of, keep_of}
 use Rattle.job_ops.specs.Task.{StaysFor}
-use Rattle.job_turns.specs.job_steps.Units.{IsSet}
-use Rattle.job_turns.specs.job_acts.Making.{MayBeChanged}
+use Rattle.dump_sets.specs.job_turns.job_steps.Units.{IsSet}
+use Rattle.dump_sets.specs.job_turns.job_acts.Making.{MayBeChanged}
 
 -- a unit whose volume a statement may change, and which has a data set of each of these names
 pub record MayProcess (room : ℕ) (units : List UnitState) (unit : ℕ) (names : List Dsn) : Type 0 where

@@ -17,25 +17,25 @@ use Rattle.move_core.specs.declared.steps.Step.TheVariants as steps
 use Rattle.move_core.specs.Stands.{IsGood}
 use Rattle.move_core.specs.Facts.{Original}
 use Rattle.move_core.specs.Steps.{IsOriginal, IsCopy}
-use Rattle.job_turns.specs.job_copies.step_room.Room.{IsFullFor}
+use Rattle.dump_sets.specs.job_turns.job_copies.step_room.Room.{IsFullFor}
 use Rattle.job_lines.specs.declared.message.Message.{Message}
 use Rattle.job_lines.specs.declared.message.Message.TheVariants as messages
 use Rattle.job_lines.specs.declared.message.Reason.{Reason}
 use Rattle.job_lines.specs.declared.message.Reason.TheVariants as reasons
 use Rattle.job_lines.specs.declared.severity.Severity.TheVariants as severities
 use Rattle.job_lines.specs.Order.{IsReason, HasNoReason}
-use Rattle.job_turns.specs.job_copies.job_select.Selection.{Selects}
-use Rattle.job_turns.specs.job_copies.declared.wish.Wish.{Wish}
-use Rattle.job_turns.specs.job_copies.Case.{Case, Replaces, ReplacesSome}
-use Rattle.job_turns.specs.job_copies.Places.{ArePlacesFor, HasNoPlaces}
-use Rattle.job_turns.specs.job_copies.Reasons.{PreventsAtFirst}
-use Rattle.job_turns.specs.declared.units.UnitUse.{UnitUse}
+use Rattle.dump_sets.specs.job_turns.job_copies.job_select.Selection.{Selects}
+use Rattle.dump_sets.specs.job_turns.job_copies.declared.wish.Wish.{Wish}
+use Rattle.dump_sets.specs.job_turns.job_copies.Case.{Case, Replaces, ReplacesSome}
+use Rattle.dump_sets.specs.job_turns.job_copies.Places.{ArePlacesFor, HasNoPlaces}
+use Rattle.dump_sets.specs.job_turns.job_copies.Reasons.{PreventsAtFirst}
+use Rattle.dump_sets.specs.job_turns.declared.units.UnitUse.{UnitUse}
 use Rattle.job_ops.specs.Reasons.{LacksRoomFor}
-use Rattle.job_turns.specs.Refusal.{IsUnitOf, standing_of, Refuses, Lets}
-use Rattle.job_turns.specs.Stating.{repairs, rebuilt}
-use Rattle.job_turns.specs.Setting.{Setting}
-use Rattle.job_turns.specs.Turns.{Action, Turns, AreCutTurns}
-use Rattle.job_turns.specs.job_acts.Making.{put_step}
+use Rattle.dump_sets.specs.job_turns.Refusal.{IsUnitOf, standing_of, Refuses, Lets}
+use Rattle.dump_sets.specs.job_turns.Stating.{repairs, rebuilt}
+use Rattle.dump_sets.specs.job_turns.Setting.{Setting}
+use Rattle.dump_sets.specs.job_turns.Turns.{Action, Turns, AreCutTurns}
+use Rattle.dump_sets.specs.job_turns.job_acts.Making.{put_step}
 
 -- ---- one data set
 

@@ -7,22 +7,22 @@ use Rattle.volume_model.specs.Unit.{DataSet, OnlineVolume, UnitModel, online}
 use Rattle.vtoc_core.specs.declared.volume.Row.{Row}
 use Rattle.vtoc_core.specs.declared.volume.Volume.{Volume}
 use Rattle.unit_load.specs.declared.state.UnitState.{UnitState}
-use Rattle.job_turns.specs.job_copies.unit_steps.Plans.{IsLoadedAt, HasRow}
+use Rattle.dump_sets.specs.job_turns.job_copies.unit_steps.Plans.{IsLoadedAt, HasRow}
 use Rattle.move_core.specs.Stands.{IsGood}
-use Rattle.job_turns.specs.job_copies.step_plans.Plans.{ArePlacesOn, IsClear}
+use Rattle.dump_sets.specs.job_turns.job_copies.step_plans.Plans.{ArePlacesOn, IsClear}
 use Rattle.job_lines.specs.declared.message.Message.{Message}
 use Rattle.job_lines.specs.declared.message.Message.TheVariants as messages
 use Rattle.job_lines.specs.Order.{IsFirst}
-use Rattle.job_turns.specs.job_copies.Case.{Case, ReplacesSome}
-use Rattle.job_turns.specs.job_copies.Places.{ArePlacesFor, HasNoPlaces}
-use Rattle.job_turns.specs.job_copies.Reasons.{PreventsAtFirst, first_reasons}
+use Rattle.dump_sets.specs.job_turns.job_copies.Case.{Case, ReplacesSome}
+use Rattle.dump_sets.specs.job_turns.job_copies.Places.{ArePlacesFor, HasNoPlaces}
+use Rattle.dump_sets.specs.job_turns.job_copies.Reasons.{PreventsAtFirst, first_reasons}
 use Rattle.job_ops.specs.declared.copies.Scene.{Scene}
 use Rattle.job_ops.specs.declared.copies.Judged.{Judged}
 use Rattle.job_ops.specs.declared.copies.Judged.TheVariants as judges
 use Rattle.job_ops.specs.declared.transfer.Transfer.{Transfer}
 use Rattle.job_ops.specs.Transfers.{is_carried}
-use Rattle.job_turns.specs.job_acts.Making.{MayBeChanged}
-use Rattle.job_turns.specs.Stating.{rebuilt_in}
+use Rattle.dump_sets.specs.job_turns.job_acts.Making.{MayBeChanged}
+use Rattle.dump_sets.specs.job_turns.Stating.{rebuilt_in}
 use Rattle.job_ops.specs.Copy.{Request, lower_first}
 
 abbrev pub request_in : Scene → Request

@@ -11,9 +11,9 @@ use Rattle.sysin_lang.specs.declared.command.Command.TheVariants as commands
 use Rattle.move_core.specs.declared.steps.Step.{Step}
 use Rattle.move_core.specs.Facts.{Inputs, shown}
 use Rattle.move_core.specs.Runs.{IsRun}
-use Rattle.job_turns.specs.job_steps.unit_session.Sessions.{SessionView}
-use Rattle.job_turns.specs.job_steps.declared.cut.Cut.{Cut}
-use Rattle.job_turns.specs.job_steps.declared.cut.Cut.TheVariants as cuts
+use Rattle.dump_sets.specs.job_turns.job_steps.unit_session.Sessions.{SessionView}
+use Rattle.dump_sets.specs.job_turns.job_steps.declared.cut.Cut.{Cut}
+use Rattle.dump_sets.specs.job_turns.job_steps.declared.cut.Cut.TheVariants as cuts
 use Rattle.job_lines.specs.declared.message.Message.{Message}
 use Rattle.job_lines.specs.declared.message.Message.TheVariants as messages
 use Rattle.job_lines.specs.Severity.{greatest_code}
@@ -21,9 +21,10 @@ use Rattle.job_ops.specs.declared.report.Report.{Report}
 use Rattle.job_ops.specs.declared.outcome.Outcome.{Outcome}
 use Rattle.job_ops.specs.declared.outcome.Outcome.TheVariants as outcomes
 use Rattle.job_ops.specs.Meaning.{verb_of, IsReport, MeansStatement, IsCutCommand}
-use Rattle.job_turns.specs.job_steps.Units.{ForUnits}
-use Rattle.job_turns.specs.Setting.{setting_for}
-use Rattle.job_turns.specs.job_acts.Acting.{KeepsFacts}
+use Rattle.dump_sets.specs.job_turns.job_steps.Units.{ForUnits}
+use Rattle.dump_sets.specs.job_outputs.Kept.{KeepsUsed}
+use Rattle.dump_sets.specs.job_turns.Setting.{setting_for}
+use Rattle.dump_sets.specs.job_turns.job_acts.Acting.{KeepsFacts}
 
 -- ---- what only reads
 
@@ -55,6 +56,12 @@ abbrev pub HasOuts : {P B : Type 0} {Own : B → Type 0} → List (OutDd B Own) 
 HasOuts given (outcomes.Done next outs report steps) = outs.items ≡ given
 HasOuts given (outcomes.Halted broken outs report steps) = outs.items ≡ given
 HasOuts given (outcomes.Short kept outs report steps) = outs.items ≡ given
+
+-- one that was used before is the very same among them, and so is one that is unused still
+abbrev pub LeavesUsed : {P B : Type 0} {Own : B → Type 0} → (OutDd B Own → OutSeen) → List (OutDd B Own) → Outcome P B Own → Type 0
+LeavesUsed seen given (outcomes.Done next outs report steps) = KeepsUsed seen given outs.items
+LeavesUsed seen given (outcomes.Halted broken outs report steps) = KeepsUsed seen given outs.items
+LeavesUsed seen given (outcomes.Short kept outs report steps) = KeepsUsed seen given outs.items
 
 -- the outputs and inputs that a statement found, and those that it left
 abbrev pub left_files : {B : Type 0} {Own : B → Type 0} → (OutDd B Own → OutSeen) → Files → List InSeen → List (OutDd B Own) → FilesSeen

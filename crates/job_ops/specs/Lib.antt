@@ -1,5 +1,5 @@
-pub use Rattle.job_turns.specs as job_turns
-pub use Rattle.job_turns.specs.job_steps.unit_session as unit_session
+pub use Rattle.dump_sets.specs.job_turns as job_turns
+pub use Rattle.dump_sets.specs.job_turns.job_steps.unit_session as unit_session
 pub mod Reasons
 pub mod Task
 pub mod Sets

@@ -11,9 +11,9 @@ use Rattle.job_lines.specs.declared.message.VolumeSummary.{VolumeSummary}
 use Rattle.job_lines.specs.declared.message.SetSummary.{SetSummary}
 use Rattle.job_lines.specs.declared.message.Message.{Message}
 use Rattle.job_lines.specs.declared.message.Message.TheVariants as messages
-use Rattle.job_turns.specs.declared.units.UnitUse.{UnitUse}
-use Rattle.job_turns.specs.Refusal.{IsUnitOf, standing_of, Refuses, Lets}
-use Rattle.job_turns.specs.Setting.{Setting}
+use Rattle.dump_sets.specs.job_turns.declared.units.UnitUse.{UnitUse}
+use Rattle.dump_sets.specs.job_turns.Refusal.{IsUnitOf, standing_of, Refuses, Lets}
+use Rattle.dump_sets.specs.job_turns.Setting.{Setting}
 
 -- a volume whose free tracks are these runs
 abbrev pub summary_of : OnlineVolume → List Run → VolumeSummary

@@ -1,10 +1,10 @@
 -- What a statement means.
-use Rattle.std.specs.Prelude.{◌≡◌, ℕ, Bool, List, [], ◌∷◌, ◌++◌, Option, None}
+use Rattle.std.specs.Prelude.{◌≡◌, ℕ, ◌<◌, Bool, List, [], ◌∷◌, ◌++◌, length, Option, None}
 use Rattle.sysin_words.specs.declared.lead.Verb.{Verb}
 use Rattle.sysin_lang.specs.declared.command.Command.{Command}
 use Rattle.sysin_lang.specs.declared.command.Command.TheVariants as commands
 use Rattle.sysin_forms.specs.Form.{form_of, verb_of_form}
-use Rattle.dump_fmt.specs.Outs.{FilesSeen}
+use Rattle.dump_fmt.specs.Outs.{FilesSeen, OutSeen}
 use Rattle.dsn_filter.specs.declared.dsn.Dsn.{Dsn}
 use Rattle.enq_table.specs.declared.hold.Hold.{Hold}
 use Rattle.volume_model.specs.Unit.{UnitModel}
@@ -13,28 +13,31 @@ use Rattle.job_lines.specs.declared.message.Message.{Message}
 use Rattle.job_lines.specs.declared.message.Message.TheVariants as messages
 use Rattle.job_lines.specs.Severity.{greatest_code}
 use Rattle.job_ops.specs.declared.report.Report.{Report}
-use Rattle.job_turns.specs.Setting.{Setting, without_inputs}
+use Rattle.dump_sets.specs.job_turns.Setting.{Setting, without_inputs}
 use Rattle.job_ops.specs.Listing.{Prints}
 use Rattle.job_ops.specs.declared.task.Task.{Task}
 use Rattle.job_ops.specs.declared.task.Task.TheVariants as tasks
 use Rattle.dsn_filter.specs.Rename.{IsRename}
-use Rattle.job_turns.specs.job_copies.declared.wish.Wish.{Wish}
+use Rattle.dump_sets.specs.job_turns.job_copies.declared.wish.Wish.{Wish}
 use Rattle.job_ops.specs.Consolidate.{ConsolidatesSet}
 use Rattle.job_ops.specs.Copy.{CopiesSets, IsCutCopy}
 use Rattle.job_ops.specs.Release.{ReleasesSet}
 use Rattle.job_ops.specs.Sets.{OverSets, IsCutOverSets}
-use Rattle.job_turns.specs.Turns.{Action}
+use Rattle.dump_sets.specs.job_turns.Turns.{Action}
+use Rattle.dump_sets.specs.Dump.{DumpsDataSets, IsCutDumping}
+use Rattle.dump_sets.specs.job_dumps.declared.wish.DumpWish.{DumpWish}
 
 -- what a copy says beside its filter, its volumes and the new names
 abbrev pub wish_of : Bool → Bool → Bool → Bool → Wish
 wish_of delete purge replace tolerate = record { delete = delete; purge = purge; replace = replace; tolerate = tolerate }
 
--- The commands that are built. A copy is whose new names are names, as those that a text says are.
+-- The commands that are built. A copy is whose new names are names, and a dump that names an output, as those that a text says are.
 abbrev pub IsBuilt : Command → Type 0
 IsBuilt (commands.PrintVtoc unit) = Unit {0}
 IsBuilt (commands.Release filter unit) = Unit {0}
 IsBuilt (commands.Consolidate filter unit) = Unit {0}
 IsBuilt (commands.Copy filter unit to delete purge replace rename tolerate) = IsRename rename
+IsBuilt (commands.DumpDataset filter unit outs reset delete purge tolerate) = 0 < length outs
 IsBuilt _ = ⊥
 
 -- the turn of a data set in what a statement does with each
@@ -69,12 +72,33 @@ CallsNoFile (commands.RestoreDataset filter input to purge replace rename) = ⊥
 CallsNoFile (commands.RestoreFull input to purge) = ⊥
 CallsNoFile _ = Unit {0}
 
--- What any command does and says, on the units and with the outputs and inputs. A command that dumps or restores will have a case of its own.
+-- it reads no input
+abbrev pub ReadsNoInput : Command → Type 0
+ReadsNoInput (commands.RestoreDataset filter input to purge replace rename) = ⊥
+ReadsNoInput (commands.RestoreFull input to purge) = ⊥
+ReadsNoInput _ = Unit {0}
+
+-- what a dump asks of each data set
+abbrev pub dump_wish_of : Bool → Bool → Bool → Bool → DumpWish
+dump_wish_of reset delete purge tolerate = record { reset = reset; delete = delete; purge = purge; tolerate = tolerate }
+
+-- What a command does and says that reads no input, with the outputs as it finds and leaves them.
+abbrev pub MeansWithOutputs : Setting → Command → (before after : List OutSeen) → Action
+MeansWithOutputs setting (commands.DumpDataset filter serial outs reset delete purge tolerate) before after units steps said =
+    DumpsDataSets setting filter serial outs (dump_wish_of reset delete purge tolerate) before after units steps said
+MeansWithOutputs setting command before after units steps said = MeansOnVolumes setting command units steps said
+
+abbrev pub IsCutWithOutputs : Setting → Command → (before after : List OutSeen) → List UnitModel → List Step → Option Step → Type 0
+IsCutWithOutputs setting (commands.DumpDataset filter serial outs reset delete purge tolerate) before after units steps pending =
+    IsCutDumping setting filter serial outs (dump_wish_of reset delete purge tolerate) before after units steps pending
+IsCutWithOutputs setting command before after units steps pending = IsCutOnVolumes setting command units steps pending
+
+-- What any command does and says, on the units and with the outputs and inputs. A command that restores will have a case of its own.
 abbrev pub Means : Setting → Command → FilesSeen → Action
-Means setting command files = MeansOnVolumes (without_inputs setting) command
+Means setting command files = MeansWithOutputs (without_inputs setting) command files.before.outs files.after.outs
 
 abbrev pub IsCutCommand : Setting → Command → FilesSeen → List UnitModel → List Step → Option Step → Type 0
-IsCutCommand setting command files = IsCutOnVolumes (without_inputs setting) command
+IsCutCommand setting command files = IsCutWithOutputs (without_inputs setting) command files.before.outs files.after.outs
 
 abbrev pub verb_of : Command → Verb
 verb_of command = verb_of_form (form_of command)

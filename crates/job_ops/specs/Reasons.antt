@@ -5,7 +5,7 @@ use Rattle.enq_table.specs.declared.hold.Hold.{Hold}
 use Rattle.enq_table.specs.Table.{Conflicts}
 use Rattle.volume_model.specs.Unit.{DataSet, OnlineVolume}
 use Rattle.move_core.specs.Stands.{IsGood}
-use Rattle.job_turns.specs.job_copies.step_room.Room.{IsFullFor}
+use Rattle.dump_sets.specs.job_turns.job_copies.step_room.Room.{IsFullFor}
 use Rattle.job_lines.specs.declared.message.Reason.{Reason}
 use Rattle.job_lines.specs.declared.message.Reason.TheVariants as reasons
 

@@ -14,9 +14,9 @@ use Rattle.job_lines.specs.declared.message.Reason.{Reason}
 use Rattle.job_ops.specs.declared.task.Task.TheVariants as tasks
 use Rattle.job_ops.specs.Reasons.{LacksRoomFor, PreventsInPlace}
 use Rattle.job_ops.specs.Sets.{TakesTurn}
-use Rattle.job_turns.specs.Stating.{repairs, rebuilt}
+use Rattle.dump_sets.specs.job_turns.Stating.{repairs, rebuilt}
 use Rattle.job_ops.specs.Task.{StaysFor, severity_for}
-use Rattle.job_turns.specs.Turns.{Action}
+use Rattle.dump_sets.specs.job_turns.Turns.{Action}
 
 -- the tracks of a data set
 abbrev pub size_of : DataSet → ℕ

@@ -12,18 +12,18 @@ use Rattle.move_core.specs.declared.steps.Step.TheVariants as steps
 use Rattle.move_core.specs.Facts.{shown}
 use Rattle.move_core.specs.Runs.{IsRun, moves_of}
 use Rattle.move_core.specs.Steps.{JoinsExtents, moved, shrunk}
-use Rattle.job_turns.specs.job_copies.unit_steps.Plans.{IsLoadedAt, HasRow}
-use Rattle.job_turns.specs.job_steps.unit_session.Sessions.{SessionView, IsSameSession}
-use Rattle.job_turns.specs.job_steps.declared.cut.Cut.{Cut}
-use Rattle.job_turns.specs.job_steps.Carried.{pending_cut}
-use Rattle.job_turns.specs.job_acts.declared.acts.Acted.{Acted}
-use Rattle.job_turns.specs.job_acts.declared.acts.Acted.TheVariants as ends
-use Rattle.job_turns.specs.job_acts.Making.{MayBeChanged, MayPlan}
-use Rattle.job_turns.specs.job_acts.Acting.{KeepsFacts, CutKeepsFacts, pool_acted, pending_acted, IsGoing}
+use Rattle.dump_sets.specs.job_turns.job_copies.unit_steps.Plans.{IsLoadedAt, HasRow}
+use Rattle.dump_sets.specs.job_turns.job_steps.unit_session.Sessions.{SessionView, IsSameSession}
+use Rattle.dump_sets.specs.job_turns.job_steps.declared.cut.Cut.{Cut}
+use Rattle.dump_sets.specs.job_turns.job_steps.Carried.{pending_cut}
+use Rattle.dump_sets.specs.job_turns.job_acts.declared.acts.Acted.{Acted}
+use Rattle.dump_sets.specs.job_turns.job_acts.declared.acts.Acted.TheVariants as ends
+use Rattle.dump_sets.specs.job_turns.job_acts.Making.{MayBeChanged, MayPlan}
+use Rattle.dump_sets.specs.job_turns.job_acts.Acting.{KeepsFacts, CutKeepsFacts, pool_acted, pending_acted, IsGoing}
 use Rattle.job_ops.specs.declared.reshaping.Layout.{Layout}
 use Rattle.job_ops.specs.declared.reshaping.Layout.TheVariants as layouts
 use Rattle.job_ops.specs.declared.reshaping.Reshape.{Reshape}
-use Rattle.job_turns.specs.job_steps.Units.{ForUnits}
+use Rattle.dump_sets.specs.job_turns.job_steps.Units.{ForUnits}
 use Rattle.job_ops.specs.Reasons.{LacksRoomFor}
 
 -- ---- what a data set becomes

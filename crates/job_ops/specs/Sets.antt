@@ -10,12 +10,12 @@ use Rattle.job_lines.specs.declared.message.Message.{Message}
 use Rattle.job_lines.specs.declared.message.Message.TheVariants as messages
 use Rattle.job_lines.specs.declared.message.Reason.{Reason}
 use Rattle.job_lines.specs.declared.severity.Severity.{Severity}
-use Rattle.job_turns.specs.job_copies.job_select.Selection.{Selects}
-use Rattle.job_turns.specs.declared.units.UnitUse.{UnitUse}
+use Rattle.dump_sets.specs.job_turns.job_copies.job_select.Selection.{Selects}
+use Rattle.dump_sets.specs.job_turns.declared.units.UnitUse.{UnitUse}
 use Rattle.job_lines.specs.Order.{IsReason, HasNoReason}
-use Rattle.job_turns.specs.Refusal.{IsUnitOf, standing_of, Refuses, Lets}
-use Rattle.job_turns.specs.Setting.{Setting}
-use Rattle.job_turns.specs.Turns.{Action, Turns, AreCutTurns}
+use Rattle.dump_sets.specs.job_turns.Refusal.{IsUnitOf, standing_of, Refuses, Lets}
+use Rattle.dump_sets.specs.job_turns.Setting.{Setting}
+use Rattle.dump_sets.specs.job_turns.Turns.{Action, Turns, AreCutTurns}
 
 -- ---- one data set
 

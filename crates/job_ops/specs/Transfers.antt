@@ -4,13 +4,13 @@ use Rattle.dasd_pool.specs.declared.pool.Pool.{Ghosts}
 use Rattle.unit_load.specs.declared.state.UnitState.{UnitState}
 use Rattle.move_core.specs.declared.steps.Step.{Step}
 use Rattle.move_core.specs.declared.steps.Step.TheVariants as steps
-use Rattle.job_turns.specs.job_steps.unit_session.Sessions.{SessionView}
-use Rattle.job_turns.specs.job_steps.declared.cut.Cut.{Cut}
-use Rattle.job_turns.specs.job_acts.declared.acts.Acted.{Acted}
-use Rattle.job_turns.specs.job_acts.Making.{MayBeChanged, MayPut, put_step, repair_steps}
-use Rattle.job_turns.specs.job_acts.Acting.{EndsActs}
+use Rattle.dump_sets.specs.job_turns.job_steps.unit_session.Sessions.{SessionView}
+use Rattle.dump_sets.specs.job_turns.job_steps.declared.cut.Cut.{Cut}
+use Rattle.dump_sets.specs.job_turns.job_acts.declared.acts.Acted.{Acted}
+use Rattle.dump_sets.specs.job_turns.job_acts.Making.{MayBeChanged, MayPut, put_step, repair_steps}
+use Rattle.dump_sets.specs.job_turns.job_acts.Acting.{EndsActs}
 use Rattle.job_ops.specs.declared.transfer.Transfer.{Transfer}
-use Rattle.job_turns.specs.Stating.{due}
+use Rattle.dump_sets.specs.job_turns.Stating.{due}
 use Rattle.job_ops.specs.Copy.{lower_first}
 
 -- ---- its steps

@@ -6,22 +6,22 @@ ghost use Rattle.dasd_pool.specs.Count.{Rose};
 ghost use Rattle.move_core.specs.Facts.{shown};
 ghost use Rattle.move_core.specs.Runs.{IsRun};
 ghost use Rattle.volume_model.specs.Unit.{DataSet};
-ghost use Rattle.job_turns.specs.job_copies.unit_change.Described.{DescribesSet};
-ghost use Rattle.job_turns.specs.job_steps.unit_session.Sessions.{IsSameSession};
+ghost use Rattle.dump_sets.specs.job_turns.job_copies.unit_change.Described.{DescribesSet};
+ghost use Rattle.dump_sets.specs.job_turns.job_steps.unit_session.Sessions.{IsSameSession};
 ghost use Rattle.job_ops.specs.Asked.{MayProcess, IsCandidate, IsSeen, IsReasonBefore};
-ghost use Rattle.job_turns.specs.job_steps.Units.{ForUnits};
+ghost use Rattle.dump_sets.specs.job_turns.job_steps.Units.{ForUnits};
 ghost use Rattle.job_ops.specs.Reasons.{IsHeld};
 ghost use Rattle.job_ops.specs.Task.{StaysFor};
 
 use crate::task::Task;
 use dasd_pool::Pool;
 use dsn_filter::Dsn;
-use enq_table::Held;
-use job_lines::Reason;
-use job_turns::job_copies::job_select::{
+use dump_sets::job_turns::job_copies::job_select::{
     is_pinned, is_sequential_or_partitioned, kept_tracks, track_count,
 };
-use job_turns::job_steps::unit_session::Session;
+use dump_sets::job_turns::job_steps::unit_session::Session;
+use enq_table::Held;
+use job_lines::Reason;
 use unit_load::UnitFault;
 use vol_label::Serial;
 use volume_change::find;

@@ -4,15 +4,15 @@ ghost use Rattle.std.specs.Prelude.{◌<◌, ◌∷◌, [], IsTrue, IfOk, IfSome
 ghost use Rattle.volume_model.specs.Unit.{DataSet, OnlineVolume};
 ghost use Rattle.vtoc_core.specs.declared.volume.Row.{Row as RowOf};
 ghost use Rattle.vtoc_core.specs.declared.volume.Volume.{Volume as VolumeOf};
-ghost use Rattle.job_turns.specs.job_copies.unit_steps.Plans.{IsLoadedAt, HasRow};
-ghost use Rattle.job_turns.specs.job_copies.step_plans.Plans.{IsPlaceOn};
+ghost use Rattle.dump_sets.specs.job_turns.job_copies.unit_steps.Plans.{IsLoadedAt, HasRow};
+ghost use Rattle.dump_sets.specs.job_turns.job_copies.step_plans.Plans.{IsPlaceOn};
 ghost use Rattle.job_ops.specs.declared.task.Task.TheVariants as tasks;
 ghost use Rattle.job_ops.specs.Asked.{MayProcess, IsCandidate, IsSeen, IsReasonBefore};
 ghost use Rattle.job_ops.specs.Consolidate.{ConsolidatesSet, IsPlaceOf, LacksPlace};
-ghost use Rattle.job_turns.specs.job_steps.Units.{ForUnits, IsSet};
-ghost use Rattle.job_turns.specs.Ends.{Ends};
+ghost use Rattle.dump_sets.specs.job_turns.job_steps.Units.{ForUnits, IsSet};
+ghost use Rattle.dump_sets.specs.job_turns.Ends.{Ends};
 ghost use Rattle.job_ops.specs.Reshaping.{StaysChangeable};
-ghost use Rattle.job_turns.specs.Turns.{IsCutAction};
+ghost use Rattle.dump_sets.specs.job_turns.Turns.{IsCutAction};
 
 use crate::asking::{Candidate, Scene};
 use crate::log::{refuse, say_done};
@@ -20,12 +20,12 @@ use crate::reshaping::{Layout, Reshape};
 use crate::task::Task;
 use dasd_pool::Pool;
 use dsn_filter::Dsn;
+use dump_sets::job_turns::Log;
+use dump_sets::job_turns::job_acts::Acted;
+use dump_sets::job_turns::job_steps::Cut;
+use dump_sets::job_turns::job_steps::unit_session::Session;
 use free_map::Run;
 use job_lines::{Message, Reason};
-use job_turns::Log;
-use job_turns::job_acts::Acted;
-use job_turns::job_steps::Cut;
-use job_turns::job_steps::unit_session::Session;
 use plan_core::next_consolidate;
 use std::alloc::Global;
 

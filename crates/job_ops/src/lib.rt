@@ -15,8 +15,8 @@ mod statement;
 mod task;
 mod transfer;
 
+pub use dump_sets::job_turns;
 pub use job_lines::{Message, Reason, Severity, line_of};
-pub use job_turns;
 pub use job_turns::UnitUse;
 pub use job_turns::job_copies::job_select::select;
 pub use job_turns::job_steps::unit_session;

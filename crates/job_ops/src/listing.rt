@@ -5,20 +5,20 @@ ghost use Rattle.ckd_image.specs.Device.{heads_of};
 ghost use Rattle.volume_model.specs.Pinned.{last_track_in, last_record_in};
 ghost use Rattle.volume_model.specs.Reads.{fields_of_1};
 ghost use Rattle.volume_model.specs.Unit.{DataSet, OnlineVolume};
-ghost use Rattle.job_turns.specs.job_copies.unit_change.Described.{DescribesSet, Describes};
-ghost use Rattle.job_turns.specs.job_copies.step_plans.Plans.{IsSound, extents_from};
+ghost use Rattle.dump_sets.specs.job_turns.job_copies.unit_change.Described.{DescribesSet, Describes};
+ghost use Rattle.dump_sets.specs.job_turns.job_copies.step_plans.Plans.{IsSound, extents_from};
 ghost use Rattle.job_ops.specs.Listing.{extent_messages as messages_of_extents, set_messages, IsListing, Prints};
 ghost use Rattle.job_lines.specs.declared.message.Message.{Message as MessageOf};
-ghost use Rattle.job_turns.specs.job_steps.Units.{facts_of, ForUnits};
-ghost use Rattle.job_turns.specs.Setting.{Setting};
+ghost use Rattle.dump_sets.specs.job_turns.job_steps.Units.{facts_of, ForUnits};
+ghost use Rattle.dump_sets.specs.job_turns.Setting.{Setting};
 
 use ckd_image::{Device, NoMemory};
 use dasd_pool::Pool;
 use dscb_rec::Extent;
+use dump_sets::job_turns::job_copies::job_select::{organization_of, track_count};
+use dump_sets::job_turns::job_steps::unit_session::Session;
+use dump_sets::job_turns::{UnitUse, unit_for};
 use job_lines::{ExtentSummary, Message, SetSummary, VolumeSummary};
-use job_turns::job_copies::job_select::{organization_of, track_count};
-use job_turns::job_steps::unit_session::Session;
-use job_turns::{UnitUse, unit_for};
 use vol_label::Serial;
 use vtoc_core::{Row, Volume, run_of};
 

@@ -2,17 +2,17 @@
 
 ghost use Rattle.std.specs.Prelude.{◌≡◌, ◌∷◌, ◌++◌, [], List, IfOk, IfErr};
 ghost use Rattle.job_lines.specs.declared.message.Message.{Message as MessageOf};
-ghost use Rattle.job_turns.specs.job_steps.declared.cut.Cut.TheVariants as cuts;
+ghost use Rattle.dump_sets.specs.job_turns.job_steps.declared.cut.Cut.TheVariants as cuts;
 ghost use Rattle.job_ops.specs.Asked.{said_of};
 ghost use Rattle.job_ops.specs.Task.{severity_for};
 
 use crate::asking::Candidate;
 use crate::task::Task;
 use dasd_pool::Pool;
+use dump_sets::job_turns::job_steps::Cut;
+use dump_sets::job_turns::job_steps::unit_session::Session;
+use dump_sets::job_turns::{Log, say};
 use job_lines::{Message, Reason};
-use job_turns::job_steps::Cut;
-use job_turns::job_steps::unit_session::Session;
-use job_turns::{Log, say};
 
 /// Says that a data set isn't processed.
 pub(crate) fn refuse<P: Pool>(

@@ -3,7 +3,7 @@
 use crate::report::Report;
 use dasd_pool::Pool;
 use dump_fmt::OutDd;
-use job_turns::job_steps::unit_session::{Broken, Session};
+use dump_sets::job_turns::job_steps::unit_session::{Broken, Session};
 use move_core::Step;
 
 /// How a statement ended: it was done, its pool failed, or memory ran out. The outputs come back. The steps are those of the run before it, and behind them those

@@ -3,11 +3,11 @@
 ghost use Rattle.std.specs.Prelude.{◌∷◌, [], IsTrue, IfOk, None};
 ghost use Rattle.job_ops.specs.declared.task.Task.TheVariants as tasks;
 ghost use Rattle.job_ops.specs.Asked.{MayProcess, IsCandidate, IsSeen, IsReasonBefore};
-ghost use Rattle.job_turns.specs.job_steps.Units.{ForUnits};
-ghost use Rattle.job_turns.specs.Ends.{Ends};
+ghost use Rattle.dump_sets.specs.job_turns.job_steps.Units.{ForUnits};
+ghost use Rattle.dump_sets.specs.job_turns.Ends.{Ends};
 ghost use Rattle.job_ops.specs.Release.{ReleasesSet};
 ghost use Rattle.job_ops.specs.Reshaping.{StaysChangeable};
-ghost use Rattle.job_turns.specs.Turns.{IsCutAction};
+ghost use Rattle.dump_sets.specs.job_turns.Turns.{IsCutAction};
 
 use crate::asking::{Candidate, Scene};
 use crate::log::{refuse, say_done};
@@ -15,11 +15,11 @@ use crate::reshaping::{Layout, Reshape};
 use crate::task::Task;
 use dasd_pool::Pool;
 use dsn_filter::Dsn;
+use dump_sets::job_turns::job_acts::Acted;
+use dump_sets::job_turns::job_steps::Cut;
+use dump_sets::job_turns::job_steps::unit_session::Session;
+use dump_sets::job_turns::{Log, say};
 use job_lines::{Message, Reason};
-use job_turns::job_acts::Acted;
-use job_turns::job_steps::Cut;
-use job_turns::job_steps::unit_session::Session;
-use job_turns::{Log, say};
 use std::alloc::Global;
 
 /// Gives back the unused tracks of a data set that nothing prevents but the room in the VTOC.

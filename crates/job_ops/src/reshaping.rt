@@ -6,11 +6,11 @@ ghost use Rattle.job_ops.specs.Reshaping.{step_of, steps_of_reshape, MayReshape,
 use ckd_image::{Listed, NoMemory};
 use dasd_pool::Pool;
 use dsn_filter::Dsn;
+use dump_sets::job_turns::job_acts::{Acted, Acts};
+use dump_sets::job_turns::job_copies::step_room::room_laws;
+use dump_sets::job_turns::job_steps::Cut;
+use dump_sets::job_turns::job_steps::unit_session::Session;
 use free_map::{Run, Runs};
-use job_turns::job_acts::{Acted, Acts};
-use job_turns::job_copies::step_room::room_laws;
-use job_turns::job_steps::Cut;
-use job_turns::job_steps::unit_session::Session;
 use move_core::Step;
 use std::alloc::Global;
 

@@ -3,12 +3,13 @@
 ghost use Rattle.std.specs.Prelude.{◌≡◌, ◌↔◌, ◌⊎◌, ◌∷◌, [], map, take, IsTrue, IfOk, IfErr};
 ghost use Rattle.by_rules.specs.Day.{IsToday};
 ghost use Rattle.job_lines.specs.Severity.{greatest_code as greatest_code_of};
-ghost use Rattle.job_turns.specs.job_steps.Carried.{IsShort};
+ghost use Rattle.dump_sets.specs.job_turns.job_steps.Carried.{IsShort};
 ghost use Rattle.dump_fmt.specs.Outs.{files_of};
-ghost use Rattle.job_turns.specs.Ends.{Ends};
-ghost use Rattle.job_ops.specs.Ends.{EndsStatement, HasOuts, IsCutOutcome, IsDoneOutcome, LeavesSession, IsUnchanged, OnlyReads};
-ghost use Rattle.job_ops.specs.Meaning.{CallsNoFile, IsBuilt, IsFramed, MeansOnVolumes, MeansWhole, IsCutOnVolumes, verb_of as verb_in};
-ghost use Rattle.job_turns.specs.Setting.{setting_of};
+ghost use Rattle.dump_sets.specs.job_turns.Ends.{Ends};
+ghost use Rattle.job_ops.specs.Ends.{EndsStatement, HasOuts, IsCutOutcome, IsDoneOutcome, LeavesSession, LeavesUsed, IsUnchanged, OnlyReads};
+ghost use Rattle.job_ops.specs.Meaning.{CallsNoFile, IsBuilt, IsCutWithOutputs, IsFramed, MeansWhole, MeansWithOutputs, ReadsNoInput, verb_of as verb_in};
+ghost use Rattle.dump_sets.specs.job_outputs.Kept.{KeepsUsed};
+ghost use Rattle.dump_sets.specs.job_turns.Setting.{setting_of};
 
 use crate::copies::{CopyJob, copy};
 use crate::listing::print;
@@ -20,12 +21,13 @@ use by_rules::Day;
 use ckd_image::Listed;
 use dasd_pool::Pool;
 use dump_fmt::{InDd, OutDd, Seen, SeenIn};
+use dump_sets::job_turns::job_copies::{Wish, is_rename};
+use dump_sets::job_turns::job_steps::Cut;
+use dump_sets::job_turns::job_steps::unit_session::Session;
+use dump_sets::job_turns::{Log, say};
+use dump_sets::{DumpJob, DumpWish, dump};
 use enq_table::Held;
 use job_lines::Message;
-use job_turns::job_copies::{Wish, is_rename};
-use job_turns::job_steps::Cut;
-use job_turns::job_steps::unit_session::Session;
-use job_turns::{Log, say};
 use move_core::Step;
 use std::alloc::Global;
 use sysin_lang::{Command, Statement};
@@ -53,6 +55,7 @@ pub fn is_built(command: &Command) -> bool
     match command {
         Command::PrintVtoc { .. } | Command::Release { .. } | Command::Consolidate { .. } => true,
         Command::Copy { rename, .. } => is_rename(rename),
+        Command::DumpDataset { outs, .. } => outs.len() > 0,
         _ => false,
     }
 }
@@ -75,12 +78,16 @@ fn perform<P: Pool>(
     command: &Command,
     held: &Held,
     today: Day,
+    outs: &mut Vec<OutDd>,
     log: &mut Log,
 ) -> Result<Session<P>, Cut<P>>
     requires built { IsBuilt command.now }
     requires today { IsToday today }
-    ensures ends { Ends P.Pool (MeansOnVolumes (setting_of P.Pool session held.now today) command.now) (IsCutOnVolumes (setting_of P.Pool session held.now today) command.now) session
+    ensures ends { Ends P.Pool (MeansWithOutputs (setting_of P.Pool session held.now today) command.now (map ⟦<OutDd as Seen>⟧.seen outs.old.items) (map ⟦<OutDd as Seen>⟧.seen outs.new.items))
+        (IsCutWithOutputs (setting_of P.Pool session held.now today) command.now (map ⟦<OutDd as Seen>⟧.seen outs.old.items) (map ⟦<OutDd as Seen>⟧.seen outs.new.items)) session
         log.old.steps.items log.new.steps.items log.old.messages.items log.new.messages.items result }
+    ensures outs { KeepsUsed ⟦<OutDd as Seen>⟧.seen outs.old.items outs.new.items }
+    ensures same { CallsNoFile command.now → outs.new.items ≡ outs.old.items }
     ensures reads { OnlyReads command.now → LeavesSession session result }
 {
     match command {
@@ -146,6 +153,35 @@ fn perform<P: Pool>(
                 log,
             )
         }
+        Command::DumpDataset {
+            filter,
+            unit,
+            outs: names,
+            reset,
+            delete,
+            purge,
+            tolerate,
+        } => {
+            dump(
+                alloc,
+                session,
+                DumpJob {
+                    filter,
+                    serial: *unit,
+                    outs: names.as_slice(),
+                    wish: DumpWish {
+                        reset: *reset,
+                        delete: *delete,
+                        purge: *purge,
+                        tolerate: *tolerate,
+                    },
+                    held,
+                    today,
+                },
+                outs,
+                log,
+            )
+        }
         _ => unreachable!(),
     }
 }
@@ -192,20 +228,24 @@ fn whole<P: Pool>(
     command: &Command,
     held: &Held,
     today: Day,
+    outs: &mut Vec<OutDd>,
     log: &mut Log,
 ) -> Result<Session<P>, Cut<P>>
     requires built { IsBuilt command.now }
     requires today { IsToday today }
     requires start { log.old.messages.items ≡ [] }
-    ensures ends { Ends P.Pool (MeansWhole (MeansOnVolumes (setting_of P.Pool session held.now today) command.now) command.now) (IsCutOnVolumes (setting_of P.Pool session held.now today) command.now) session
+    ensures ends { Ends P.Pool (MeansWhole (MeansWithOutputs (setting_of P.Pool session held.now today) command.now (map ⟦<OutDd as Seen>⟧.seen outs.old.items) (map ⟦<OutDd as Seen>⟧.seen outs.new.items)) command.now)
+        (IsCutWithOutputs (setting_of P.Pool session held.now today) command.now (map ⟦<OutDd as Seen>⟧.seen outs.old.items) (map ⟦<OutDd as Seen>⟧.seen outs.new.items)) session
         log.old.steps.items log.new.steps.items [] log.new.messages.items result }
     ensures begins { IfErr result (λ cut. ((log.new.messages.items ≡ []) × IsShort cut × (log.new.steps.items ≡ log.old.steps.items)) ⊎ (take 1 log.new.messages.items ≡ Message.Started (verb_in command.now) ∷ [])) }
     ensures reads { OnlyReads command.now → LeavesSession session result }
+    ensures outs { KeepsUsed ⟦<OutDd as Seen>⟧.seen outs.old.items outs.new.items }
+    ensures same { CallsNoFile command.now → outs.new.items ≡ outs.old.items }
     ensures framed { IfOk result (λ next. IsFramed command.now log.new.messages.items) }
 {
     let verb = verb_of(command);
     let session = say(session, &mut log.messages, Message::Started(verb))?;
-    let session = perform(alloc, session, command, held, today, log)?;
+    let session = perform(alloc, session, command, held, today, outs, log)?;
     let code = greatest_code(&log.messages);
     say(session, &mut log.messages, Message::Ended(verb, code))
 }
@@ -245,7 +285,10 @@ pub fn run_statement<P: Pool>(
 
     // Outputs and inputs of which a command has no need are the very same behind it.
     ensures outs { CallsNoFile statement.now.command → HasOuts outs.items result }
-    ensures ins { CallsNoFile statement.now.command → ins.new.items ≡ ins.old.items }
+    ensures ins { ReadsNoInput statement.now.command → ins.new.items ≡ ins.old.items }
+
+    // An output that was used before, or is unused still, is the very same.
+    ensures used { LeavesUsed ⟦<OutDd as Seen>⟧.seen outs.items result }
 
     // A command that changes nothing leaves the session as it was.
     ensures reads { OnlyReads statement.now.command → IsUnchanged session result }
@@ -254,7 +297,16 @@ pub fn run_statement<P: Pool>(
         steps,
         messages: Vec::new(alloc),
     };
-    match whole(alloc, session, &statement.command, held, today, &mut log) {
+    let mut outs = outs;
+    match whole(
+        alloc,
+        session,
+        &statement.command,
+        held,
+        today,
+        &mut outs,
+        &mut log,
+    ) {
         Ok(session) => done(session, outs, log),
         Err(cut) => cut_short(cut, outs, log),
     }

@@ -4,18 +4,18 @@ ghost use Rattle.std.specs.Prelude.{◌≡◌, ◌<◌, ◌++◌, length, IfOk, 
 ghost use Rattle.redo_core.specs.Reading.{journal_of};
 ghost use Rattle.job_ops.specs.Transfers as spec;
 ghost use Rattle.job_ops.specs.Transfers.{copying_step, units_due, first_steps, steps_of_transfer, MayTransfer, EndsTransfer};
-ghost use Rattle.job_turns.specs.Stating.{due};
-ghost use Rattle.job_turns.specs.job_acts.Making.{repair_steps};
+ghost use Rattle.dump_sets.specs.job_turns.Stating.{due};
+ghost use Rattle.dump_sets.specs.job_turns.job_acts.Making.{repair_steps};
 
 use ckd_image::NoMemory;
 use dasd_pool::Pool;
+use dump_sets::job_turns::job_acts::{Acted, Acts, same_runs};
+use dump_sets::job_turns::job_copies::step_plans::SetAt;
+use dump_sets::job_turns::job_copies::step_room::room_laws;
+use dump_sets::job_turns::job_steps::Cut;
+use dump_sets::job_turns::job_steps::unit_session::Session;
+use dump_sets::job_turns::push_repair;
 use free_map::Runs;
-use job_turns::job_acts::{Acted, Acts, same_runs};
-use job_turns::job_copies::step_plans::SetAt;
-use job_turns::job_copies::step_room::room_laws;
-use job_turns::job_steps::Cut;
-use job_turns::job_steps::unit_session::Session;
-use job_turns::push_repair;
 use move_core::{Origin, Step};
 use std::alloc::Global;
 use unit_load::UnitState;

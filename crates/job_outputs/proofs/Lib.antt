@@ -1,2 +1,3 @@
 mod Naming
 mod Placed
+pub mod Keeping

@@ -30,6 +30,7 @@ use Rattle.job_ops.specs.job_turns.Setting.{setting_for}
 use Rattle.job_script.specs.declared.left.Left.{Left}
 use Rattle.job_script.specs.declared.run.Between.{Between}
 use Rattle.job_script.specs.Ends.{After, after_of, SinkSeen, Prints, LeavesAfter}
+use Rattle.job_outputs.specs.Kept.{KeepsUsed}
 use Rattle.job_script.specs.One.{EndsReport, EndsOne, KeepsOuts, seen_files}
 use Rattle.job_script.proofs.Earlier.{took_none}
 use Rattle.job_script.specs.Runs.{Ran, IsReported, IsListing, KeepsFiles, steps_of, started_line, lines_in, lines_of, printed_text, RunOn}
@@ -242,10 +243,10 @@ module _ {P B : Type 0} {Own : B → Type 0} (pools : Ghosts P) (seen : OutDd B 
     }
     reported (Err left) told = by_stop left told.6 told.0 told.1 told.2 told.3 told.4 told.5
 
-    pub reported_outs : (result : Result (Between P B Own) (Left P B Own)) → outs ≡ before.outs.items
-        → EndsReport taken_before taken_after faults_before faults_after statement said session outs steps result → KeepsOuts before.outs.items result
-    reported_outs (Ok next) same told = told.5 ∙ same
-    reported_outs (Err left) same told = told.6 ∙ same
+    pub reported_outs : (result : Result (Between P B Own) (Left P B Own)) → KeepsUsed seen before.outs.items outs
+        → EndsReport taken_before taken_after faults_before faults_after statement said session outs steps result → KeepsOuts seen before.outs.items result
+    reported_outs (Ok next) keeps told = subst (KeepsUsed seen before.outs.items) (sym told.5) keeps
+    reported_outs (Err left) keeps told = subst (KeepsUsed seen before.outs.items) (sym told.6) keeps
 
   -- ---- it was cut
 

@@ -18,6 +18,7 @@ use Rattle.job_ops.specs.job_turns.job_steps.Units.{ForUnits}
 use Rattle.job_ops.specs.Ends.{OnlyReads}
 use Rattle.job_ops.specs.Meaning.{IsReport, MeansStatement}
 use Rattle.job_ops.specs.job_turns.Setting.{setting_for}
+use Rattle.job_outputs.specs.Kept.{KeepsUsed}
 use Rattle.run_lines.specs.declared.ending.RunEnd.{RunEnd}
 use Rattle.run_lines.specs.declared.ending.RunEnd.TheVariants as ends
 use Rattle.run_lines.specs.Texts.{AppendsLess}
@@ -79,7 +80,8 @@ EndsOne pools seen ins_before ins_after before statement held today taken_before
     (record { before = seen_files seen before.outs.items ins_before; after = seen_files seen left.outs.items ins_after })
     (record { before = taken_before; after = taken_after; faults_before = faults_before; faults_after = faults_after }) ran under wanted (after_of left)
 
--- the outputs of a run between two statements, or of one that was stopped, are these
-abbrev pub KeepsOuts : {P B : Type 0} {Own : B → Type 0} → List (OutDd B Own) → Result (Between P B Own) (Left P B Own) → Type 0
-KeepsOuts outs (Ok next) = next.outs.items ≡ outs
-KeepsOuts outs (Err left) = left.outs.items ≡ outs
+-- The outputs of a run between two statements, or of one that was stopped, have their names; one that was used before is the very same, and so is one that is unused
+-- still.
+abbrev pub KeepsOuts : {P B : Type 0} {Own : B → Type 0} → (OutDd B Own → OutSeen) → List (OutDd B Own) → Result (Between P B Own) (Left P B Own) → Type 0
+KeepsOuts seen outs (Ok next) = KeepsUsed seen outs next.outs.items
+KeepsOuts seen outs (Err left) = KeepsUsed seen outs left.outs.items

@@ -9,6 +9,7 @@ ghost use Rattle.run_lines.specs.Texts.{Tells};
 ghost use Rattle.job_script.specs.Built.{AreBuilt};
 ghost use Rattle.job_script.specs.Ends.{EndsScript, after_of};
 ghost use Rattle.dump_fmt.specs.Outs.{files_of};
+ghost use Rattle.job_outputs.specs.Kept.{KeepsUsed};
 ghost use Rattle.job_script.specs.One.{EndsOne, EndsReport, KeepsOuts};
 
 use crate::left::Left;
@@ -116,7 +117,7 @@ fn run_one<O: Sink, P: Pool>(
     requires today { IsToday today }
     ensures ends { EndsOne P.Pool ⟦<OutDd as Seen>⟧.seen (map ⟦<InDd as SeenIn>⟧.seen ins.old.items) (map ⟦<InDd as SeenIn>⟧.seen ins.new.items) before statement.now held.now today
         (O.taken out.old) (O.taken out.new) (O.faults out.old) (O.faults out.new) result }
-    ensures outs { KeepsOuts before.outs.items result }
+    ensures outs { KeepsOuts ⟦<OutDd as Seen>⟧.seen before.outs.items result }
     ensures ins { ins.new.items ≡ ins.old.items }
 {
     let Between {
@@ -174,8 +175,8 @@ pub fn run_script<O: Sink, P: Pool>(
         (record { before = files_of ⟦<OutDd as Seen>⟧.seen ⟦<InDd as SeenIn>⟧.seen outs.items ins.old.items; after = files_of ⟦<OutDd as Seen>⟧.seen ⟦<InDd as SeenIn>⟧.seen result.outs.items ins.new.items })
         (record { before = O.taken out.old; after = O.taken out.new; faults_before = O.faults out.old; faults_after = O.faults out.new }) (after_of result) }
 
-    // The commands that are built call no output or input.
-    ensures outs { result.outs.items ≡ outs.items }
+    // An output that was used before, or is unused still, is the very same. The commands that are built read no input.
+    ensures outs { KeepsUsed ⟦<OutDd as Seen>⟧.seen outs.items result.outs.items }
     ensures ins { ins.new.items ≡ ins.old.items }
 {
     let mut flow = Flow::new();

@@ -2,7 +2,7 @@
 
 ghost use Rattle.std.specs.Prelude.{◌<◌};
 
-use adr_top::{Day, Step, batch};
+use adr_top::{Day, OutDd, Step, batch};
 use ckd_image::{Bytes, Word};
 use dasd_pool::{MemoryPool, MemorySink, MemorySource, Pool, Tear, UnitText};
 use rows_bytes::{Given, RowsFault, volume};
@@ -39,6 +39,7 @@ pub struct Ran {
     pub lines: String,
     pub steps: Vec<Step>,
     pub pending: Option<Step>,
+    pub outs: Vec<OutDd>,
     pub machine: Machine,
 }
 
@@ -89,13 +90,25 @@ impl Machine {
         Ok(Machine { pool })
     }
 
-    /// Runs words and a text, without holds. Of its texts and lines these calls fail.
+    /// Runs words and a text, without holds and outputs. Of its texts and lines these calls fail.
     pub fn run(
         self,
         alloc: Global,
         words: &[&str],
         text: &[u8],
         failing: &[Failing],
+    ) -> Result<Ran, RowsFault> {
+        self.run_on(alloc, words, text, failing, Vec::new(alloc))
+    }
+
+    /// Runs them with outputs.
+    pub fn run_on(
+        self,
+        alloc: Global,
+        words: &[&str],
+        text: &[u8],
+        failing: &[Failing],
+        outs: Vec<OutDd>,
     ) -> Result<Ran, RowsFault> {
         let words = words_of(alloc, words)?;
         let reads = numbers_of(alloc, failing, Outside::Sysin)?;
@@ -104,7 +117,7 @@ impl Machine {
         let mut sysin = MemorySource::new(Bytes::from_slice(alloc, text)?, reads);
         let mut held = MemorySource::new(Bytes::new(alloc), held_reads);
         let mut out = MemorySink::new(alloc, ROOM_FOR_LINES, writes)?;
-        let (outs, ins) = (Vec::new(alloc), Vec::new(alloc));
+        let ins = Vec::new(alloc);
         let today = Day { year: 2024, day: 1 };
         let ended = batch(
             alloc, &words, &mut sysin, &mut held, &mut out, self.pool, outs, ins, today,
@@ -114,6 +127,7 @@ impl Machine {
             lines: lines_of(alloc, &out)?,
             steps: ended.steps,
             pending: ended.pending,
+            outs: ended.outs,
             machine: Machine { pool: ended.pool },
         })
     }

@@ -4,7 +4,11 @@
 #[cfg(test)]
 mod copies;
 #[cfg(test)]
+mod dumps;
+#[cfg(test)]
 mod making;
+#[cfg(test)]
+mod outputs;
 #[cfg(test)]
 mod releases;
 #[cfg(test)]

@@ -14,7 +14,7 @@ pub const WORDS_OF_TWO: [&str; 4] = [
 ];
 
 /// A step as a letter, its unit, and a number: R states free space anew, S shrinks A.B to so many tracks, A adds a copy, P puts one in the
-/// place of another, D deletes, C carries.
+/// place of another, D deletes, C carries, F lets one count as dumped.
 pub type Told = (char, u32, u32);
 
 /// The steps of a run, and the one that was under way.
@@ -42,6 +42,7 @@ fn told(step: &Step) -> Told {
         Step::Replace { unit, .. } => ('P', *unit, 0),
         Step::Delete { unit, .. } => ('D', *unit, 0),
         Step::Carry { unit, .. } => ('C', *unit, 0),
+        Step::ResetFlag { unit, .. } => ('F', *unit, 0),
         _ => ('-', 0, 0),
     }
 }

@@ -2,8 +2,8 @@ use Rattle.std.proofs.Common.{Vec, Global, Ok, Err, [], inl, refl, sym, ap, subs
 use Rattle.std.proofs.lemmas.List.Elements.{All-head}
 use Rattle.std.proofs.lemmas.Result.{err_from_is_err_and}
 use Rattle.move_core.specs.declared.steps.Step.{Step}
-use Rattle.job_turns.proofs.LoadedUnits.{known_units}
-use Rattle.job_turns.proofs.SameSessions.{ends_short}
+use Rattle.job_dumps.proofs.job_turns.LoadedUnits.{known_units}
+use Rattle.job_dumps.proofs.job_turns.SameSessions.{ends_short}
 use Rattle.dump_sets.specs.Changing.{AreLines, HasFew}
 use Rattle.dump_sets.proofs.Changes.{dumped_acts}
 use Rattle.dump_sets.proofs.ChangeEnds.{change_ends, cut_change, done_change, done_stays}

@@ -4,8 +4,8 @@ use Rattle.std.proofs.lemmas.Result.{err_from_is_err_and}
 use Rattle.dasd_pool.specs.Disk.{Shape}
 use Rattle.dsn_filter.specs.declared.dsn.Dsn.{Dsn}
 use Rattle.redo_core.specs.Reading.{journal_of}
-use Rattle.job_turns.proofs.Names.{first_left}
-use Rattle.job_turns.proofs.Turning.{leads_begin, leads_more, leads_cut, leads_end}
+use Rattle.job_dumps.proofs.job_turns.Names.{first_left}
+use Rattle.job_dumps.proofs.job_turns.Turning.{leads_begin, leads_more, leads_cut, leads_end}
 use Rattle.dump_sets.specs.Changing.{ChangesSet, MayChangeSets}
 use Rattle.dump_sets.proofs.ChangeOrder.{may_first, may_others, apart_others}
 use Rattle.dump_sets.proofs.changing.change_all.Goals as goal

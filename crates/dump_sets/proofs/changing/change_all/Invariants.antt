@@ -1,6 +1,6 @@
 use Rattle.std.proofs.Common.{◌≢◌, drop}
 use Rattle.std.specs.Prelude.{AllPairs}
-use Rattle.job_turns.proofs.Turning.{LeadsTo}
+use Rattle.job_dumps.proofs.job_turns.Turning.{LeadsTo}
 use Rattle.dump_sets.specs.Changing.{ChangesSet, MayChangeSets}
 use Rattle.dump_sets.proofs.changing.change_all.Given as goal
 

@@ -3,10 +3,10 @@ use Rattle.dsn_filter.specs.declared.dsn.Dsn.{Dsn}
 use Rattle.redo_core.specs.Reading.{journal_of}
 use Rattle.job_lines.specs.declared.message.Message.TheVariants as messages
 use Rattle.job_outputs.specs.Outputs.{ArePlacesOf, IsTold, LetsOutputs, RefusesOutputs}
-use Rattle.job_turns.specs.Refusal.{IsUnitFor, Lets, Refuses, standing_in}
-use Rattle.job_turns.proofs.LoadedUnits.{known_units}
-use Rattle.job_turns.proofs.Names.{no_names, some_names}
-use Rattle.job_turns.proofs.SameSessions.{ends_said, ends_short}
+use Rattle.job_dumps.specs.job_turns.Refusal.{IsUnitFor, Lets, Refuses, standing_in}
+use Rattle.job_dumps.proofs.job_turns.LoadedUnits.{known_units}
+use Rattle.job_dumps.proofs.job_turns.Names.{no_names, some_names}
+use Rattle.job_dumps.proofs.job_turns.SameSessions.{ends_said, ends_short}
 use Rattle.dump_sets.specs.Going.{AreTaken}
 use Rattle.dump_sets.proofs.DumpGoing.{all_dumped, are_ready, are_taken, fault_said, kept_used, none_selected, told_of, unit_refuses, unknown}
 use Rattle.dump_sets.proofs.dumping.dump.Goals as goal

@@ -3,9 +3,9 @@ use Rattle.std.specs.Prelude.{AllPairs}
 use Rattle.std.proofs.lemmas.Result.{err_from_is_err_and}
 use Rattle.dsn_filter.specs.declared.dsn.Dsn.{Dsn}
 use Rattle.job_lines.specs.declared.message.Message.{Message}
-use Rattle.job_turns.specs.Setting.{setting_of}
-use Rattle.job_turns.proofs.Names.{no_names}
-use Rattle.job_turns.proofs.SameSessions.{ends_short}
+use Rattle.job_dumps.specs.job_turns.Setting.{setting_of}
+use Rattle.job_dumps.proofs.job_turns.Names.{no_names}
+use Rattle.job_dumps.proofs.job_turns.SameSessions.{ends_short}
 use Rattle.dump_sets.specs.Telling.{taken_of}
 use Rattle.dump_sets.proofs.Following.{all_changed, cut_nothing, none_changed, none_left, none_taken, none_whole, short_within, taken_apart}
 use Rattle.dump_sets.proofs.dumping.follow.Goals as goal

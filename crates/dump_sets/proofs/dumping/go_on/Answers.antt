@@ -2,8 +2,8 @@ use Rattle.std.proofs.Common.{List, Option, inl, refl, subst, sym}
 use Rattle.job_lines.specs.declared.message.Reason.{Reason}
 use Rattle.job_dumps.specs.declared.pass.DumpScene.{DumpScene}
 use Rattle.job_dumps.specs.Passing.{DumpedCanBeChanged}
-use Rattle.job_turns.proofs.LoadedUnits.{known_units}
-use Rattle.job_turns.proofs.SameSessions.{ends_short}
+use Rattle.job_dumps.proofs.job_turns.LoadedUnits.{known_units}
+use Rattle.job_dumps.proofs.job_turns.SameSessions.{ends_short}
 use Rattle.dump_sets.proofs.DumpFollows.{may_follow}
 use Rattle.dump_sets.proofs.DumpMeant.{dumped, dump_halted, dump_short}
 use Rattle.dump_sets.proofs.OutputsKept.{kept_all}

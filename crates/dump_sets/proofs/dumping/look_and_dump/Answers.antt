@@ -2,10 +2,10 @@ use Rattle.std.proofs.Common.{ℕ, List, [], ◌∷◌, Ok, inl, refl, sym, subs
 use Rattle.std.proofs.lemmas.Result.{err_from_is_err_and}
 use Rattle.unit_load.specs.declared.state.UnitState.{UnitState}
 use Rattle.move_core.specs.declared.steps.Step.TheVariants as steps
-use Rattle.job_turns.specs.job_acts.declared.acts.Looked.{Looked}
-use Rattle.job_turns.specs.job_acts.Acting.{EndsLook}
-use Rattle.job_turns.proofs.job_acts.Sessions.{for_new}
-use Rattle.job_turns.proofs.LoadedUnits.{known_units}
+use Rattle.job_dumps.specs.job_turns.job_acts.declared.acts.Looked.{Looked}
+use Rattle.job_dumps.specs.job_turns.job_acts.Acting.{EndsLook}
+use Rattle.job_dumps.proofs.job_turns.job_acts.Sessions.{for_new}
+use Rattle.job_dumps.proofs.job_turns.LoadedUnits.{known_units}
 use Rattle.dump_sets.specs.Going.{CanState}
 use Rattle.dump_sets.proofs.DumpMeant.{looked_ends}
 use Rattle.dump_sets.proofs.Looked.{can_state, look_cut, says_full, says_room}

@@ -2,7 +2,7 @@ use Rattle.std.proofs.Common.{List, refl, subst}
 use Rattle.dscb_rec.specs.declared.field.Extent.{Extent}
 use Rattle.dump_fmt.specs.Front.{begun}
 use Rattle.move_core.specs.Steps.{IsNewKind}
-use Rattle.job_copies.specs.step_plans.Plans.{extents_from}
+use Rattle.job_turns.specs.job_copies.step_plans.Plans.{extents_from}
 use Rattle.job_dumps.proofs.RowParts.{sound_of}
 use Rattle.job_dumps.proofs.parts.set_to_dump.Goals as goal
 

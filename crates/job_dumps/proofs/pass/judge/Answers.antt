@@ -5,12 +5,12 @@ use Rattle.volume_model.specs.Unit.{DataSet, OnlineVolume}
 use Rattle.volume_change.proofs.Names.{one_text}
 use Rattle.vtoc_core.specs.declared.volume.Row.{Row}
 use Rattle.vtoc_core.specs.declared.volume.Volume.{Volume}
-use Rattle.job_copies.specs.unit_steps.Plans.{HasRow}
-use Rattle.job_copies.proofs.step_room.SoundRows.{one_row}
-use Rattle.job_copies.proofs.unit_steps.OneChange.{same_volume}
-use Rattle.job_copies.specs.unit_change.Described.{Describes, DescribesSet}
+use Rattle.job_turns.specs.job_copies.unit_steps.Plans.{HasRow}
+use Rattle.job_turns.proofs.job_copies.step_room.SoundRows.{one_row}
+use Rattle.job_turns.proofs.job_copies.unit_steps.OneChange.{same_volume}
+use Rattle.job_turns.specs.job_copies.unit_change.Described.{Describes, DescribesSet}
 use Rattle.job_lines.specs.Order.{IsFirst}
-use Rattle.job_steps.specs.Units.{ForUnits}
+use Rattle.job_turns.specs.job_steps.Units.{ForUnits}
 use Rattle.job_dumps.specs.Passing.{GoesSoFar, IsRefusedSoFar, request_in}
 use Rattle.job_dumps.specs.Reasons.{PreventsAtFirst, first_reasons}
 use Rattle.job_dumps.proofs.Judged.{known_units, described}

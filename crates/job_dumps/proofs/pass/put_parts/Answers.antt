@@ -3,8 +3,8 @@ use Rattle.std.proofs.lemmas.List.{take_all, take_more}
 use Rattle.std.proofs.lemmas.Result.{err_from_is_err_and}
 use Rattle.dasd_pool.proofs.Streams.{rose_since}
 use Rattle.dsn_filter.specs.declared.dsn.Dsn.{Dsn}
-use Rattle.job_acts.proofs.Loaded.{are_sound}
-use Rattle.job_acts.proofs.Sessions.{for_new}
+use Rattle.job_turns.proofs.job_acts.Loaded.{are_sound}
+use Rattle.job_turns.proofs.job_acts.Sessions.{for_new}
 use Rattle.unit_load.specs.declared.state.UnitState.{UnitState}
 use Rattle.job_dumps.specs.Passing.{CanBeChanged, DumpedCanBeChanged, request_in}
 use Rattle.job_dumps.proofs.Changeable.{one_more_changeable}

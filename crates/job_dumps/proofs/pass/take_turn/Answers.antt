@@ -5,7 +5,7 @@ use Rattle.std.proofs.lemmas.List.Elements.{All-nil, All-cons}
 use Rattle.volume_model.specs.Unit.{OnlineVolume, online}
 use Rattle.job_dumps.proofs.Looks.{looks_itself}
 use Rattle.job_lines.specs.declared.message.Reason.{Reason}
-use Rattle.job_steps.specs.Units.{facts_of, ForUnits}
+use Rattle.job_turns.specs.job_steps.Units.{facts_of, ForUnits}
 use Rattle.job_dumps.specs.Dumped.{DumpsSet}
 use Rattle.job_dumps.specs.Passing.{request_in}
 use Rattle.job_dumps.specs.Reasons.{LacksRoomToChange}

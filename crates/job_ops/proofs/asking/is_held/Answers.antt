@@ -2,7 +2,7 @@ use Rattle.enq_table.specs.Table.{Conflicts}
 use Rattle.std.proofs.Common.{true, IsTrue, Bool, ◌↔◌, sym, subst}
 use Rattle.job_ops.specs.Reasons.{IsHeld}
 use Rattle.job_ops.proofs.asking.is_held.Goals as goal
-use Rattle.job_turns.proofs.job_copies.Holds.{held_first}
+use Rattle.dump_sets.proofs.job_turns.job_copies.Holds.{held_first}
 
 pub returns : goal.returns
 returns c =

@@ -3,8 +3,8 @@ use Rattle.std.proofs.lemmas.List.Elements.{All-contains}
 use Rattle.ckd_image.specs.Device.{heads_of}
 use Rattle.volume_model.specs.Pinned.{IsNameOf}
 use Rattle.job_ops.proofs.Looking.{few_extents, seen, loaded_there, found_row, stays_pinned}
-use Rattle.job_turns.proofs.LoadedUnits.{known_units}
-use Rattle.job_turns.proofs.job_copies.step_plans.LoadedRows.{sound_named}
+use Rattle.dump_sets.proofs.job_turns.LoadedUnits.{known_units}
+use Rattle.dump_sets.proofs.job_turns.job_copies.step_plans.LoadedRows.{sound_named}
 use Rattle.job_ops.proofs.asking.look_up.Goals as goal
 
 pub find-requires-clause-name : goal.find-requires-clause-name

@@ -5,7 +5,7 @@ use Rattle.ckd_image.specs.Device.{heads_of}
 use Rattle.move_core.proofs.Running.{run_idle}
 use Rattle.job_lines.specs.declared.message.Reason.TheVariants as reasons
 use Rattle.job_ops.specs.Asked.{ReasonSoFar}
-use Rattle.job_turns.specs.job_steps.Units.{facts_of}
+use Rattle.dump_sets.specs.job_turns.job_steps.Units.{facts_of}
 use Rattle.job_ops.specs.Task.{StaysFor}
 use Rattle.job_ops.proofs.Judging.{at_seen}
 use Rattle.job_ops.proofs.asking.reason_before.Goals as goal

@@ -11,7 +11,7 @@ use Rattle.job_ops.specs.Asked.{said_of}
 use Rattle.job_ops.proofs.Changing.{cut_reshape, full_reshape, done_reshape, full_stays, done_stays, may_reshape, needs_repair, stays_same}
 use Rattle.job_ops.proofs.Joining.{joined_from, join_of, nothing_joined, no_place, too_full, brought_together}
 use Rattle.job_ops.proofs.Places.{is_sized}
-use Rattle.job_turns.proofs.SameSessions.{ends_said}
+use Rattle.dump_sets.proofs.job_turns.SameSessions.{ends_said}
 use Rattle.job_ops.proofs.consolidate.join.Goals as goal
 
 pub returns-then-candidate-le1-clause-ends : goal.returns-then-candidate-le1-clause-ends

@@ -2,11 +2,11 @@ use Rattle.std.proofs.Common.{◌<◌, length, Option, Some, None, ap, arith}
 use Rattle.std.specs.Prelude.{IfNone}
 use Rattle.std.proofs.lemmas.Option.{IfSome_then}
 use Rattle.vtoc_core.specs.declared.volume.Row.{Row}
-use Rattle.job_turns.proofs.job_copies.step_plans.LoadedRows.{sound_named}
-use Rattle.job_turns.proofs.LoadedUnits.{known_units}
+use Rattle.dump_sets.proofs.job_turns.job_copies.step_plans.LoadedRows.{sound_named}
+use Rattle.dump_sets.proofs.job_turns.LoadedUnits.{known_units}
 use Rattle.job_ops.proofs.Places.{is_sized, one_here, place_here, place_seen, none_seen}
 use Rattle.job_ops.proofs.consolidate.place_of.Goals as goal
-use Rattle.job_turns.proofs.job_copies.FreePlaces.{free_heads}
+use Rattle.dump_sets.proofs.job_turns.job_copies.FreePlaces.{free_heads}
 
 pub next_consolidate-requires-clause-rows : goal.next_consolidate-requires-clause-rows
 next_consolidate-requires-clause-rows g c = sound_named c.volume.result.now ((known_units g.P.Pool c.args.session.now c.stands.ensures.kept c.stands.ensures.models).sound c.args.unit c.volume.result.now c.volume.ensures)

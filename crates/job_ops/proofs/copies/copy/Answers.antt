@@ -3,8 +3,8 @@ use Rattle.dsn_filter.specs.declared.dsn.Dsn.{Dsn}
 use Rattle.job_lines.specs.declared.message.Message.TheVariants as messages
 use Rattle.job_ops.specs.Copying.{MayBeCopied}
 use Rattle.job_ops.proofs.CopyGoing.{refuses, unlike, none_selected, all_turns, may_be_copied}
-use Rattle.job_turns.proofs.Names.{no_names, some_names}
-use Rattle.job_turns.proofs.SameSessions.{ends_said, ends_short}
+use Rattle.dump_sets.proofs.job_turns.Names.{no_names, some_names}
+use Rattle.dump_sets.proofs.job_turns.SameSessions.{ends_said, ends_short}
 use Rattle.job_ops.proofs.copies.copy.Goals as goal
 
 pub returns-in-Err : goal.returns-in-Err

@@ -3,7 +3,7 @@ use Rattle.move_core.specs.declared.steps.Step.{Step}
 use Rattle.job_lines.specs.declared.message.Reason.TheVariants as reasons
 use Rattle.job_ops.specs.declared.copies.Judged.{Judged}
 use Rattle.job_ops.specs.Copying.{request_in, IsJudged, MayStandAs}
-use Rattle.job_turns.proofs.LoadedUnits.{known_units}
+use Rattle.dump_sets.proofs.job_turns.LoadedUnits.{known_units}
 use Rattle.job_ops.proofs.CopyGoesOn.{is_name, may_transfer, tells_first, tells_no_space, ends_not}
 use Rattle.job_ops.proofs.copies.go_on.Goals as goal
 

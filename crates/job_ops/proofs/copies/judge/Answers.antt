@@ -1,7 +1,7 @@
 use Rattle.std.proofs.Common.{refl, sym, subst}
 use Rattle.job_ops.specs.declared.copies.Judged.{Judged}
 use Rattle.job_ops.specs.Copying.{request_in, IsJudged, MayStandAs}
-use Rattle.job_turns.proofs.LoadedUnits.{known_units}
+use Rattle.dump_sets.proofs.job_turns.LoadedUnits.{known_units}
 use Rattle.job_ops.proofs.CopyParts.{copying_in, may_copy, copied_case, judged_placed, judged_none, stands_so, at_some, at_none}
 use Rattle.job_ops.proofs.copies.judge.Goals.{in-Some, in-None}
 use Rattle.job_ops.proofs.copies.judge.Goals as goal

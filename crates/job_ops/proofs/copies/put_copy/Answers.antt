@@ -2,9 +2,9 @@ use Rattle.std.proofs.Common.{Vec, Global, inl, refl, sym, ap, subst}
 use Rattle.std.proofs.lemmas.Result.{err_from_is_err_and}
 use Rattle.move_core.specs.declared.steps.Step.{Step}
 use Rattle.job_ops.specs.Copying.{AreLines}
-use Rattle.job_turns.proofs.LoadedUnits.{known_units}
+use Rattle.dump_sets.proofs.job_turns.LoadedUnits.{known_units}
 use Rattle.job_ops.proofs.CopyEnds.{cut_copy, done_copy, full_told, done_stays, full_left}
-use Rattle.job_turns.proofs.SameSessions.{ends_short}
+use Rattle.dump_sets.proofs.job_turns.SameSessions.{ends_short}
 use Rattle.job_ops.proofs.copies.put_copy.Goals as goal
 
 pub returns-in_default-clause-ends : goal.returns-in_default-clause-ends

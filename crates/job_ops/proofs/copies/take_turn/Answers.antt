@@ -6,8 +6,8 @@ use Rattle.job_lines.specs.declared.message.Reason.TheVariants as reasons
 use Rattle.job_ops.proofs.CopyEnds.{tells_long}
 use Rattle.job_ops.proofs.CopyGoesOn.{is_name, ends_not}
 use Rattle.job_ops.proofs.CopyParts.{is_there}
-use Rattle.job_turns.proofs.LoadedUnits.{known_units}
-use Rattle.job_turns.proofs.SameSessions.{ends_short}
+use Rattle.dump_sets.proofs.job_turns.LoadedUnits.{known_units}
+use Rattle.dump_sets.proofs.job_turns.SameSessions.{ends_short}
 use Rattle.job_ops.proofs.copies.take_turn.Goals as goal
 
 pub apply-requires-clause-name : goal.apply-requires-clause-name

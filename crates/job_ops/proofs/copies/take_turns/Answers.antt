@@ -7,8 +7,8 @@ use Rattle.redo_core.specs.Reading.{journal_of}
 use Rattle.job_ops.specs.Copy.{CopiesSet}
 use Rattle.job_ops.specs.Copying.{request_in, MayBeCopied}
 use Rattle.job_ops.proofs.CopyOrder.{may_first, may_others, apart_others}
-use Rattle.job_turns.proofs.Names.{first_left}
-use Rattle.job_turns.proofs.Turning.{leads_begin, leads_more, leads_cut, leads_end}
+use Rattle.dump_sets.proofs.job_turns.Names.{first_left}
+use Rattle.dump_sets.proofs.job_turns.Turning.{leads_begin, leads_more, leads_cut, leads_end}
 use Rattle.job_ops.proofs.copies.take_turns.Goals as goal
 
 abbrev no_name : Dsn

@@ -2,7 +2,7 @@ use Rattle.std.proofs.Common.{◌≢◌, drop}
 use Rattle.std.specs.Prelude.{AllPairs}
 use Rattle.job_ops.specs.Copy.{CopiesSet}
 use Rattle.job_ops.specs.Copying.{request_in, MayBeCopied}
-use Rattle.job_turns.proofs.Turning.{LeadsTo}
+use Rattle.dump_sets.proofs.job_turns.Turning.{LeadsTo}
 use Rattle.job_ops.proofs.copies.take_turns.Given as goal
 
 -- what is left of the names leads to all

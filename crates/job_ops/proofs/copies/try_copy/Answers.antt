@@ -7,11 +7,11 @@ use Rattle.move_core.specs.declared.steps.Step.{Step}
 use Rattle.job_lines.specs.declared.message.Reason.TheVariants as reasons
 use Rattle.job_ops.specs.declared.copies.Judged.{Judged}
 use Rattle.job_ops.specs.Copying.{request_in, IsJudged, MayStandAs}
-use Rattle.job_turns.specs.job_steps.Units.{facts_of}
+use Rattle.dump_sets.specs.job_turns.job_steps.Units.{facts_of}
 use Rattle.job_ops.proofs.CopyGoesOn.{is_name, has_source, tells_first, tells_bad, goes_on, ends_not, not_stays, copied_as, stays_from}
-use Rattle.job_turns.proofs.SameSessions.{halted, short}
-use Rattle.job_turns.proofs.job_acts.Sessions.{for_new}
-use Rattle.job_turns.proofs.SameSessions.{ends_after}
+use Rattle.dump_sets.proofs.job_turns.SameSessions.{halted, short}
+use Rattle.dump_sets.proofs.job_turns.job_acts.Sessions.{for_new}
+use Rattle.dump_sets.proofs.job_turns.SameSessions.{ends_after}
 use Rattle.job_ops.proofs.copies.try_copy.Goals as goal
 
 pub not_copied-requires : goal.not_copied-requires

@@ -4,10 +4,10 @@ use Rattle.std.proofs.lemmas.List.{append_cancel_left}
 use Rattle.std.proofs.lemmas.Result.{on_ok_weaker}
 use Rattle.job_lines.specs.declared.message.Message.{Message}
 use Rattle.move_core.specs.Facts.{Facts}
-use Rattle.job_turns.specs.Refusal.{Standing, standing_of, IsUnitOf, Refuses, Lets}
+use Rattle.dump_sets.specs.job_turns.Refusal.{Standing, standing_of, IsUnitOf, Refuses, Lets}
 use Rattle.job_ops.specs.Listing.{listed, IsListing}
-use Rattle.job_turns.proofs.LoadedUnits.{known_units}
-use Rattle.job_turns.proofs.Standing.{standings_are, volume_of}
+use Rattle.dump_sets.proofs.job_turns.LoadedUnits.{known_units}
+use Rattle.dump_sets.proofs.job_turns.Standing.{standings_are, volume_of}
 use Rattle.job_ops.proofs.listing.print.Goals as goal
 
 pub returns-in-Err-clause-listed : goal.returns-in-Err-clause-listed

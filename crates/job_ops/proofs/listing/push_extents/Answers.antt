@@ -2,7 +2,7 @@ use Rattle.std.proofs.Common.{◌++◌, List, take, sym, ap, ◌∙◌, arith}
 use Rattle.std.proofs.lemmas.List.{append-nil, take_all}
 use Rattle.dscb_rec.specs.declared.field.Extent.{Extent as Field}
 use Rattle.job_lines.specs.declared.message.Message.{Message}
-use Rattle.job_turns.specs.job_copies.step_plans.Plans.{extents_from}
+use Rattle.dump_sets.specs.job_turns.job_copies.step_plans.Plans.{extents_from}
 use Rattle.job_ops.specs.Listing.{extent_messages}
 use Rattle.job_ops.proofs.Extents.{extents_next, pushed_next}
 use Rattle.job_ops.proofs.listing.push_extents.Goals as goal

@@ -1,5 +1,5 @@
 use Rattle.std.proofs.Common.{◌≡◌, ◌++◌, take}
-use Rattle.job_turns.specs.job_copies.step_plans.Plans.{extents_from}
+use Rattle.dump_sets.specs.job_turns.job_copies.step_plans.Plans.{extents_from}
 use Rattle.job_ops.specs.Listing.{extent_messages}
 use Rattle.job_ops.proofs.listing.push_extents.Given as goal
 

@@ -4,7 +4,7 @@ use Rattle.std.proofs.lemmas.List.{append-nil, take_all, take_more}
 use Rattle.ckd_image.specs.Device.{heads_of}
 use Rattle.free_map.specs.Free.{count_of, index_of}
 use Rattle.vtoc_core.specs.declared.volume.Row.{Row}
-use Rattle.job_turns.specs.job_copies.unit_change.Described.{DescribesSets}
+use Rattle.dump_sets.specs.job_turns.job_copies.unit_change.Described.{DescribesSets}
 use Rattle.job_lines.specs.declared.message.Message.{Message}
 use Rattle.job_lines.specs.declared.message.Message.TheVariants as messages
 use Rattle.job_ops.specs.Listing.{set_messages, listing}

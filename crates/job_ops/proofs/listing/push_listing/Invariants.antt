@@ -4,7 +4,7 @@ use Rattle.ckd_image.specs.Device.{heads_of}
 use Rattle.free_map.specs.Free.{count_of, index_of}
 use Rattle.std.specs.Prelude.{length}
 use Rattle.volume_model.specs.Unit.{DataSet}
-use Rattle.job_turns.specs.job_copies.unit_change.Described.{DescribesSets}
+use Rattle.dump_sets.specs.job_turns.job_copies.unit_change.Described.{DescribesSets}
 use Rattle.job_lines.specs.declared.message.Message.{Message}
 use Rattle.job_lines.specs.declared.message.Message.TheVariants as messages
 use Rattle.job_ops.specs.Listing.{set_messages}

@@ -3,7 +3,7 @@ use Rattle.std.proofs.lemmas.List.{append-nil}
 use Rattle.std.proofs.lemmas.Result.{on_ok_weaker}
 use Rattle.dscb_rec.specs.declared.field.Extent.{Extent as Field}
 use Rattle.job_lines.specs.declared.message.Message.TheVariants as messages
-use Rattle.job_turns.specs.job_copies.step_plans.Plans.{extents_from}
+use Rattle.dump_sets.specs.job_turns.job_copies.step_plans.Plans.{extents_from}
 use Rattle.job_ops.specs.Listing.{extent_messages}
 use Rattle.job_ops.proofs.Extents.{pushed_next}
 use Rattle.job_ops.proofs.listing.push_set.Goals as goal

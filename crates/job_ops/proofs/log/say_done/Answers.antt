@@ -4,9 +4,9 @@ use Rattle.std.proofs.lemmas.List.{append-nil}
 use Rattle.std.proofs.lemmas.Result.{IfOk-weaker}
 use Rattle.job_lines.specs.declared.message.Message.{Message}
 use Rattle.job_lines.specs.declared.message.Message.TheVariants as messages
-use Rattle.job_turns.specs.job_steps.declared.cut.Cut.TheVariants as cuts
-use Rattle.job_turns.specs.declared.log.Log.{Log}
-use Rattle.job_turns.proofs.SameSessions.{told_grows}
+use Rattle.dump_sets.specs.job_turns.job_steps.declared.cut.Cut.TheVariants as cuts
+use Rattle.dump_sets.specs.job_turns.declared.log.Log.{Log}
+use Rattle.dump_sets.proofs.job_turns.SameSessions.{told_grows}
 use Rattle.job_ops.proofs.log.say_done.Goals.{then-candidate+in_ok-session, else-candidate}
 use Rattle.job_ops.proofs.log.say_done.Goals as goal
 

@@ -6,7 +6,7 @@ use Rattle.job_lines.specs.declared.message.Reason.TheVariants as reasons
 use Rattle.job_lines.specs.declared.severity.Severity.TheVariants as severities
 use Rattle.job_ops.specs.declared.reshaping.Layout.TheVariants as layouts
 use Rattle.job_ops.specs.Asked.{said_of}
-use Rattle.job_turns.proofs.SameSessions.{ends_said}
+use Rattle.dump_sets.proofs.job_turns.SameSessions.{ends_said}
 use Rattle.job_ops.proofs.Changing.{cut_reshape, full_reshape, done_reshape, full_stays, done_stays, may_reshape, needs_repair, stays_same}
 use Rattle.job_ops.proofs.GivingBack.{cut_of, nothing_given, too_full, given_back}
 use Rattle.job_ops.proofs.release.give_back.Goals as goal

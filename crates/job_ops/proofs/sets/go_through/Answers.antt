@@ -3,9 +3,9 @@ use Rattle.dsn_filter.specs.declared.dsn.Dsn.{Dsn}
 use Rattle.job_lines.specs.declared.message.Message.TheVariants as messages
 use Rattle.job_ops.specs.Asked.{MayProcess}
 use Rattle.job_ops.specs.Meaning.{TurnOf}
-use Rattle.job_turns.proofs.SameSessions.{ends_said, ends_short}
+use Rattle.dump_sets.proofs.job_turns.SameSessions.{ends_said, ends_short}
 use Rattle.job_ops.proofs.Going.{refuses, none_selected, all_turns}
-use Rattle.job_turns.proofs.Names.{no_names, some_names}
+use Rattle.dump_sets.proofs.job_turns.Names.{no_names, some_names}
 use Rattle.job_ops.proofs.sets.go_through.Goals as goal
 
 pub returns-in-Err : goal.returns-in-Err

@@ -4,15 +4,15 @@ use Rattle.job_lines.specs.declared.message.Message.TheVariants as messages
 use Rattle.job_lines.specs.declared.message.Reason.{Reason}
 use Rattle.job_ops.specs.declared.task.Task.{Task}
 use Rattle.job_ops.specs.Asked.{IsSeen, IsReasonBefore}
-use Rattle.job_turns.specs.job_steps.Units.{ForUnits}
-use Rattle.job_turns.specs.Ends.{Ends}
+use Rattle.dump_sets.specs.job_turns.job_steps.Units.{ForUnits}
+use Rattle.dump_sets.specs.job_turns.Ends.{Ends}
 use Rattle.job_ops.specs.Meaning.{TurnOf}
 use Rattle.job_ops.specs.Task.{severity_for}
-use Rattle.job_turns.specs.Turns.{IsCutAction}
-use Rattle.job_turns.proofs.job_acts.Sessions.{for_new}
-use Rattle.job_turns.proofs.SameSessions.{ends_after}
+use Rattle.dump_sets.specs.job_turns.Turns.{IsCutAction}
+use Rattle.dump_sets.proofs.job_turns.job_acts.Sessions.{for_new}
+use Rattle.dump_sets.proofs.job_turns.SameSessions.{ends_after}
 use Rattle.job_ops.proofs.OneTurn.{refused, refused_stays, stays_after}
-use Rattle.job_turns.proofs.SameSessions.{halted, short}
+use Rattle.dump_sets.proofs.job_turns.SameSessions.{halted, short}
 use Rattle.job_ops.proofs.sets.take_turn.Goals as goal
 
 pub give_back-requires-clause-seen : goal.give_back-requires-clause-seen

@@ -4,8 +4,8 @@ use Rattle.std.proofs.lemmas.Result.{err_from_is_err_and}
 use Rattle.dsn_filter.specs.declared.dsn.Dsn.{Dsn}
 use Rattle.job_ops.specs.Meaning.{TurnOf}
 use Rattle.job_ops.proofs.OneTurn.{may_one, may_later}
-use Rattle.job_turns.proofs.Names.{first_left}
-use Rattle.job_turns.proofs.Turning.{leads_begin, leads_more, leads_cut, leads_end}
+use Rattle.dump_sets.proofs.job_turns.Names.{first_left}
+use Rattle.dump_sets.proofs.job_turns.Turning.{leads_begin, leads_more, leads_cut, leads_end}
 use Rattle.job_ops.proofs.sets.take_turns.Goals as goal
 
 abbrev no_name : Dsn

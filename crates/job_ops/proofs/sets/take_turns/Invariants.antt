@@ -1,7 +1,7 @@
 use Rattle.std.proofs.Common.{drop}
 use Rattle.job_ops.specs.Asked.{MayProcess}
 use Rattle.job_ops.specs.Meaning.{TurnOf}
-use Rattle.job_turns.proofs.Turning.{LeadsTo}
+use Rattle.dump_sets.proofs.job_turns.Turning.{LeadsTo}
 use Rattle.job_ops.proofs.sets.take_turns.Given as goal
 
 -- what is left of the names leads to all

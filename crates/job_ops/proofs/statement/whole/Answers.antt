@@ -1,4 +1,4 @@
-use Rattle.std.proofs.Common.{Err, [], ◌∷◌, ◌++◌, List, ap, ◌∙◌}
+use Rattle.std.proofs.Common.{Err, refl, [], ◌∷◌, ◌++◌, List, ap, ◌∙◌}
 use Rattle.std.proofs.lemmas.Result.{IfOk-weaker, IfErr-weaker, err_from_is_err_and}
 use Rattle.job_lines.specs.declared.message.Message.{Message}
 use Rattle.job_lines.specs.declared.message.Message.TheVariants as messages
@@ -13,15 +13,15 @@ pub returns-in_err-session-clause-ends : goal.returns-in_err-session-clause-ends
 returns-in_err-session-clause-ends g c =
     let p = err_from_is_err_and c.from_residual.result c.from_residual.ensures.1 in
     rw (p.1, p.2)
-    (not_started g.P.Pool c.args.command.now c.args.held.now c.args.today c.args.session c.args.log.now.steps.items c.say.new.messages.items c.in_err-session.field-0.0
-    c.in_err-session.ensures.short.0 (c.in_err-session.ensures.short.1 ∙ c.requires.start))
+    (not_started g.P.Pool c.args.command.now c.args.held.now c.args.today c.args.session _ _ c.args.log.now.steps.items c.say.new.messages.items c.in_err-session.field-0.0
+    c.in_err-session.ensures.short.0 (c.in_err-session.ensures.short.1 ∙ c.requires.start) refl)
 
 -- src/statement.rt:129:19
 pub returns-in_err-session-2-clause-ends : goal.returns-in_err-session-2-clause-ends
 returns-in_err-session-2-clause-ends g c =
     let p = err_from_is_err_and c.from_residual-in_err-session-2.result c.from_residual-in_err-session-2.ensures.1 in
     rw (p.1, p.2)
-    (cut_within g.P.Pool c.args.command.now c.args.held.now c.args.today c.args.session c.in_ok-session.session c.args.log.now.steps.items c.perform.new.log.steps.items
+    (cut_within g.P.Pool c.args.command.now c.args.held.now c.args.today c.args.session _ _ c.in_ok-session.session c.args.log.now.steps.items c.perform.new.log.steps.items
     c.say.new.messages.items c.perform.new.log.messages.items c.in_err-session-2.field-0.0 c.in_ok-session.ensures.said.0
     (c.in_ok-session.ensures.said.1 ∙ ap (λ (l : List Message). l ++ (messages.Started c.verb_of-verb.result ∷ [])) c.requires.start
     ∙ ap (λ (v : Verb). messages.Started v ∷ []) c.verb_of-verb.ensures)
@@ -31,7 +31,7 @@ returns-in_err-session-2-clause-ends g c =
 pub returns-clause-ends : goal.returns-clause-ends
 returns-clause-ends g c =
     let between = c.perform.new.log.messages.items in
-    ended_wholly g.P.Pool c.args.command.now c.args.held.now c.args.today c.args.session c.in_ok-session.session c.in_ok-session-2.session c.args.log.now.steps.items
+    ended_wholly g.P.Pool c.args.command.now c.args.held.now c.args.today c.args.session _ _ c.in_ok-session.session c.in_ok-session-2.session c.args.log.now.steps.items
     c.perform.new.log.steps.items c.say.new.messages.items between c.say-2.new.messages.items c.greatest_code-code.result c.say-2.result c.in_ok-session.ensures.said.0
     (c.in_ok-session.ensures.said.1 ∙ ap (λ (l : List Message). l ++ (messages.Started c.verb_of-verb.result ∷ [])) c.requires.start
     ∙ ap (λ (v : Verb). messages.Started v ∷ []) c.verb_of-verb.ensures)
@@ -62,7 +62,7 @@ returns-clause-reads g c = λ reads.
 pub returns-clause-framed : goal.returns-clause-framed
 returns-clause-framed g c =
     let between = c.perform.new.log.messages.items in
-    ended_framed g.P.Pool c.args.command.now c.args.held.now c.args.today c.args.session c.in_ok-session.session c.in_ok-session-2.session c.args.log.now.steps.items
+    ended_framed g.P.Pool c.args.command.now c.args.held.now c.args.today c.args.session _ _ c.in_ok-session.session c.in_ok-session-2.session c.args.log.now.steps.items
     c.perform.new.log.steps.items c.say.new.messages.items between c.say-2.new.messages.items c.greatest_code-code.result c.say-2.result
     (c.in_ok-session.ensures.said.1 ∙ ap (λ (l : List Message). l ++ (messages.Started c.verb_of-verb.result ∷ [])) c.requires.start
     ∙ ap (λ (v : Verb). messages.Started v ∷ []) c.verb_of-verb.ensures)

@@ -1,6 +1,7 @@
 use Rattle.std.proofs.Common.{refl, ap, ◌∙◌, arith}
 use Rattle.sysin_lang.specs.Flow.{Plan}
 use Rattle.sysin_lang.specs.Script.{left_of, codes_of}
+use Rattle.job_outputs.proofs.Keeping.{keeps_same, keeps_then}
 use Rattle.job_script.proofs.Plans.{most, gives_some, gives_none, shorter_then, built_then}
 use Rattle.job_script.proofs.Fronts.{ran_none, ran_as, ran_more, ends_stopped, ends_whole}
 use Rattle.job_script.proofs.run.run_script.Goals as goal
@@ -8,7 +9,7 @@ use Rattle.job_script.proofs.run.run_script.Goals as goal
 pub statements-init : goal.statements-init
 statements-init g c = record {
   so_far = ran_none g.P.Pool c.args.session c.args.held.now c.args.today _ _ _ _ _ _ _ c.requires.built (c.new-flow.ensures.left c.args.script.now) c.new-flow.ensures.codes c.new.ensures.items;
-  outs = refl;
+  outs = keeps_same _ refl;
   ins = refl;
 }
 
@@ -23,7 +24,7 @@ returns-in-Err-clause-ends g c =
     c.in-Err.ensures.ends
 
 pub returns-in-Err-clause-outs : goal.returns-in-Err-clause-outs
-returns-in-Err-clause-outs g c = c.in-Err.ensures.outs ∙ c.statements.invariant.outs
+returns-in-Err-clause-outs g c = keeps_then _ c.statements.invariant.outs c.in-Err.ensures.outs
 
 pub returns-in-Err-clause-ins : goal.returns-in-Err-clause-ins
 returns-in-Err-clause-ins g c = c.in-Err.ensures.ins ∙ c.statements.invariant.ins
@@ -38,7 +39,7 @@ pub statements-preserved : goal.statements-preserved
 statements-preserved g c = record {
   so_far = ran_as c.after.ensures.left c.after.ensures.codes
       (ran_more g.P.Pool _ _ c.args.held.now c.args.today c.statements.between c.statements.invariant.so_far (gives_some _ c.in-Some.statement _ _ c.in-Some.ensures) c.in-Ok.ensures.ends);
-  outs = c.in-Ok.ensures.outs ∙ c.statements.invariant.outs;
+  outs = keeps_then _ c.statements.invariant.outs c.in-Ok.ensures.outs;
   ins = c.in-Ok.ensures.ins ∙ c.statements.invariant.ins;
 }
 
@@ -49,7 +50,7 @@ returns-clause-ends g c =
     c.close-end.result c.close-end.ensures.ended c.close-end.ensures.later c.stopped.result told.pool told.outs told.steps told.pending told.end
 
 pub returns-clause-outs : goal.returns-clause-outs
-returns-clause-outs g c = c.stopped.ensures.outs ∙ c.statements.invariant.outs
+returns-clause-outs g c = keeps_then _ c.statements.invariant.outs (keeps_same _ c.stopped.ensures.outs)
 
 pub returns-clause-ins : goal.returns-clause-ins
 returns-clause-ins g c = c.statements.invariant.ins

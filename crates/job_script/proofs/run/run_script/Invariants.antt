@@ -1,6 +1,7 @@
 use Rattle.std.proofs.Common.{◌≡◌}
 use Rattle.dump_fmt.specs.Outs.{files_of}
 use Rattle.sysin_lang.specs.Script.{plan_of_script, left_of, codes_of}
+use Rattle.job_outputs.specs.Kept.{KeepsUsed}
 use Rattle.job_script.proofs.Fronts.{RanSoFar}
 use Rattle.job_script.proofs.Plans.{most}
 use Rattle.job_script.proofs.run.run_script.Given as goal
@@ -39,7 +40,16 @@ invariant-statements g l = record {
       })
       l.between.outs.items l.ins.items)
       (g.O.Sink.taken l.fn.out) (g.O.Sink.taken l.out) (g.O.Sink.faults l.fn.out) (g.O.Sink.faults l.out);
-  outs : l.between.outs.items ≡ l.fn.outs.items;
+  outs : KeepsUsed
+      (λ out. record {
+        name = out.name;
+        state = out.state;
+        held = (goal.Medium-dyn g (out.medium.vtable, out.medium.value)).held out.medium.value;
+        faults = (goal.Medium-dyn g (out.medium.vtable, out.medium.value)).faults out.medium.value;
+        puts = (goal.Medium-dyn g (out.medium.vtable, out.medium.value)).puts out.medium.value;
+        finished = (goal.Medium-dyn g (out.medium.vtable, out.medium.value)).finished out.medium.value;
+      })
+      l.fn.outs.items l.between.outs.items;
   ins : l.ins.items ≡ l.fn.ins.items;
 }
 

@@ -2,7 +2,7 @@ use Rattle.std.proofs.Common.{ℕ, sym, ap, subst}
 use Rattle.std.proofs.lemmas.Bool.{iff_false}
 use Rattle.ckd_image.specs.Device.{heads_of}
 use Rattle.volume_model.specs.Pinned.{IsPinned}
-use Rattle.job_copies.proofs.Rows.{few_extents}
+use Rattle.job_turns.proofs.job_copies.Rows.{few_extents}
 use Rattle.job_dumps.proofs.Judged.{pinned_first, held_first, spared_first, none_first, moves}
 use Rattle.job_dumps.proofs.judging.Dumping.judge.Goals as goal
 

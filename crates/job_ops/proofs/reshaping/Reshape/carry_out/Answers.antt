@@ -1,4 +1,4 @@
-use Rattle.job_turns.proofs.LoadedUnits.{known_units}
+use Rattle.dump_sets.proofs.job_turns.LoadedUnits.{known_units}
 use Rattle.job_ops.proofs.ReshapeEnds.{reshape_acts, reshape_ends, reshape_short}
 use Rattle.job_ops.proofs.reshaping.Reshape.carry_out.Goals as goal
 

@@ -1,4 +1,4 @@
-use Rattle.job_turns.proofs.LoadedUnits.{known_units}
+use Rattle.dump_sets.proofs.job_turns.LoadedUnits.{known_units}
 use Rattle.job_ops.proofs.Transferring.{transfer_acts, transfer_ends, transfer_short}
 use Rattle.job_ops.proofs.transfer.Transfer.carry_out.Goals as goal
 
