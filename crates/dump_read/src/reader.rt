@@ -9,7 +9,7 @@ ghost use Rattle.dasd_pool.specs.Stream.{Takes, EndsOnly};
 ghost use Rattle.dump_read.specs.Faults.{why_of, IsHeadFault, IsFaultBehind, IsDumpFault};
 ghost use Rattle.dump_read.specs.Feed.{largest_offset};
 ghost use Rattle.dump_read.specs.Reader.{IsAhead, IsReading, IsMarked, Gives, GivesNext, IsWhole, IsLabelled, IsLabelFault, HasItsCause, TakesPiece, to_come};
-ghost use Rattle.dump_read.specs.Shape.{IsGoing};
+ghost use Rattle.dump_read.specs.Shape.{IsGoing, MayClose};
 ghost use Rattle.dump_read.specs.Standing.{StandsAt};
 ghost use Rattle.dump_read.specs.Reading.{HeldSuch};
 ghost use Rattle.dump_read.specs.Tape.{TapeSeen};
@@ -310,6 +310,8 @@ impl DumpReader {
         // Nothing is skipped, and nothing read twice.
         ensures taken { IfOk result (λ found. (front : Front) → IsReading (R.seen reel.old) self.old front
             → TakesPiece (to_come (R.seen reel.old) self.old) (to_come (R.seen reel.new) self.new) self.old.head front found) }
+        // It has ended only where no part is under way, and where a full one has each track.
+        ensures closes { IfOk result (λ found. IfNone found ((front : Front) → IsReading (R.seen reel.old) self.old front → MayClose self.old.head front)) }
         ensures refused { IfErr result (λ fault. (front : Front) → IsReading (R.seen reel.old) self.old front → IsFaultBehind self.old.head front (R.seen reel.new).held fault) }
         ensures head { self.new.head ≡ self.old.head }
         ensures same { (R.seen reel.new).held ≡ (R.seen reel.old).held }

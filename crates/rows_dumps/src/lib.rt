@@ -10,6 +10,8 @@ mod full;
 #[cfg(test)]
 mod outputs;
 #[cfg(test)]
+mod parts;
+#[cfg(test)]
 mod reads;
 #[cfg(test)]
 mod texts;

@@ -50,6 +50,41 @@ static DROPPED: [u8; 32] = [
     0xcc, 0x80, 0xa8, 0x73, 0xd5, 0x32, 0x92, 0x88, 0x33, 0x56, 0xc7, 0x0b, 0x6f, 0x2e, 0x87, 0x62,
 ];
 
+/// The digest of the dump of A.B, whole, and A.C, dropped.
+static TWO_PARTS: [u8; 32] = [
+    0x46, 0xb3, 0xb6, 0x38, 0xdd, 0xa0, 0x25, 0x80, 0x59, 0x4c, 0x30, 0xba, 0x60, 0x51, 0x85, 0x6c,
+    0xa2, 0x93, 0xc2, 0x89, 0xd9, 0xf4, 0x85, 0x32, 0xa1, 0xf5, 0xa8, 0x86, 0x41, 0x9c, 0xe5, 0xee,
+];
+
+/// A part of one track with a name of three characters.
+fn named_part(name: [u8; 3]) -> [u8; 146] {
+    let mut part = [0x40; 146];
+    part[0] = 0x50;
+    part[1..4].copy_from_slice(&name);
+    part[45] = 0xf1;
+    part[46..].fill(0);
+    part[144] = 1;
+    part[145] = 0x01;
+    part
+}
+
+/// A track with one record of 80 bytes.
+static TRACK: [u8; 16] = [0x01, 0, 0, 0, 0, 0, 0, 0, 0, 0, 0, 1, 1, 0, 0, 80];
+
+/// A dump of A.B, whole, and of A.C, dropped before its track; 463 bytes.
+pub fn two_parts_text(alloc: Global) -> Result<Vec<u8>, NoMemory> {
+    let mut text = Vec::new(alloc);
+    text.extend_from_slice(&EMPTY[..32])?;
+    text.extend_from_slice(&named_part([0xc1, 0x4b, 0xc2]))?;
+    text.extend_from_slice(&TRACK)?;
+    text.extend_from_slice(&[0xd6; 80])?;
+    text.push(0x00)?;
+    text.extend_from_slice(&named_part([0xc1, 0x4b, 0xc3]))?;
+    text.extend_from_slice(&[0xff, 0x5a, 0, 0, 0, 1, 0, 0, 0, 1])?;
+    text.extend_from_slice(&TWO_PARTS)?;
+    Ok(text)
+}
+
 /// Header and part: a format 1 without a name, and one track.
 fn begun(alloc: Global) -> Result<Vec<u8>, NoMemory> {
     let mut text = Vec::new(alloc);
@@ -66,7 +101,7 @@ fn begun(alloc: Global) -> Result<Vec<u8>, NoMemory> {
 /// A dump of one part of one track with one record of 80 bytes, 316 bytes: the part from byte 32 on, the track from 178 on, its end at 274, and the trailer.
 pub fn one_part_text(alloc: Global) -> Result<Vec<u8>, NoMemory> {
     let mut text = begun(alloc)?;
-    text.extend_from_slice(&[0x01, 0, 0, 0, 0, 0, 0, 0, 0, 0, 0, 1, 1, 0, 0, 80])?;
+    text.extend_from_slice(&TRACK)?;
     text.extend_from_slice(&[0xd6; 80])?;
     text.extend_from_slice(&[0x00, 0x5a, 0, 0, 0, 1, 0, 0, 0, 1])?;
     text.extend_from_slice(&ONE_PART)?;

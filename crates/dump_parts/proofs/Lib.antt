@@ -1,0 +1,5 @@
+mod Fronts
+pub mod Within
+mod Passing
+pub mod Ended
+mod Surveyed
