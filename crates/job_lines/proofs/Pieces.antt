@@ -28,10 +28,10 @@ vtoc_together text words track place rule is words-is =
     regroup : (V t s r b w : List ℕ) → V ++ (t ++ (s ++ (r ++ (b ++ w)))) ≡ V ++ t ++ s ++ r ++ b ++ w
     regroup V t s r b w = simp append_assoc
 
-pub offline_together : (text name why shown cause : List ℕ) → text ≡ codes "UNIT " ++ (name ++ (codes " OFFLINE: " ++ why)) → name ≡ shown → why ≡ cause
-    → text ≡ codes "UNIT " ++ shown ++ codes " OFFLINE: " ++ cause
-offline_together text name why shown cause is name-is why-is =
-    is ∙ (λ i. codes "UNIT " ++ (name-is i ++ (codes " OFFLINE: " ++ why-is i))) ∙ regroup (codes "UNIT ") shown (codes " OFFLINE: ") cause
+-- words before a name, and behind it
+pub led_pieces : (lead words text name why shown cause : List ℕ) → text ≡ lead ++ (name ++ (words ++ why)) → name ≡ shown → why ≡ cause → text ≡ lead ++ shown ++ words ++ cause
+led_pieces lead words text name why shown cause is name-is why-is =
+    is ∙ (λ i. lead ++ (name-is i ++ (words ++ why-is i))) ∙ regroup lead shown words cause
   where
     regroup : (U n O w : List ℕ) → U ++ (n ++ (O ++ w)) ≡ U ++ n ++ O ++ w
     regroup U n O w = simp append_assoc
@@ -82,19 +82,18 @@ volume_together text serial device volume is serial-is device-is =
         → V ++ (n ++ (s ++ (d ++ (U ++ (u ++ (F ++ (f ++ (I ++ (r ++ (R ++ x)))))))))) ≡ V ++ n ++ s ++ d ++ U ++ u ++ F ++ f ++ I ++ r ++ R ++ x
     regroup V n s d U u F f I r R x = simp append_assoc
 
--- a copy, without and with another name
-pub copied_together : (text name shown serial volume : List ℕ) → text ≡ name ++ (codes " COPIED TO " ++ serial) → name ≡ shown → serial ≡ volume
-    → text ≡ shown ++ codes " COPIED TO " ++ volume ++ []
-copied_together text name shown serial volume is name-is serial-is =
-    is ∙ (λ i. name-is i ++ (codes " COPIED TO " ++ serial-is i)) ∙ regroup shown (codes " COPIED TO ") volume
+-- what is said of a data set that stands on a volume, without and with another name there
+pub stands_together : (words text name shown serial volume : List ℕ) → text ≡ name ++ (words ++ serial) → name ≡ shown → serial ≡ volume → text ≡ shown ++ words ++ volume ++ []
+stands_together words text name shown serial volume is name-is serial-is =
+    is ∙ (λ i. name-is i ++ (words ++ serial-is i)) ∙ regroup shown words volume
   where
     regroup : (n c v : List ℕ) → n ++ (c ++ v) ≡ n ++ c ++ v ++ []
     regroup n c v = sym (append_assoc n c v) ∙ sym (append-nil (n ++ c ++ v))
 
-pub renamed_together : (text name shown serial volume copy new : List ℕ) → text ≡ name ++ (codes " COPIED TO " ++ (serial ++ (codes " AS " ++ copy))) → name ≡ shown → serial ≡ volume → copy ≡ new
-    → text ≡ shown ++ codes " COPIED TO " ++ volume ++ (codes " AS " ++ new)
-renamed_together text name shown serial volume copy new is name-is serial-is copy-is =
-    is ∙ (λ i. name-is i ++ (codes " COPIED TO " ++ (serial-is i ++ (codes " AS " ++ copy-is i)))) ∙ regroup shown (codes " COPIED TO ") volume (codes " AS ") new
+pub renamed_together : (words text name shown serial volume copy new : List ℕ) → text ≡ name ++ (words ++ (serial ++ (codes " AS " ++ copy))) → name ≡ shown → serial ≡ volume → copy ≡ new
+    → text ≡ shown ++ words ++ volume ++ (codes " AS " ++ new)
+renamed_together words text name shown serial volume copy new is name-is serial-is copy-is =
+    is ∙ (λ i. name-is i ++ (words ++ (serial-is i ++ (codes " AS " ++ copy-is i)))) ∙ regroup shown words volume (codes " AS ") new
   where
     regroup : (n c v a w : List ℕ) → n ++ (c ++ (v ++ (a ++ w))) ≡ n ++ c ++ v ++ (a ++ w)
     regroup n c v a w = simp append_assoc

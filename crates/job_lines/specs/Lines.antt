@@ -14,6 +14,8 @@ use Rattle.job_lines.specs.declared.message.Reason.TheVariants as reasons
 use Rattle.job_lines.specs.declared.message.VolumeSummary.{VolumeSummary}
 use Rattle.job_lines.specs.declared.message.SetSummary.{SetSummary}
 use Rattle.job_lines.specs.declared.message.ExtentSummary.{ExtentSummary}
+use Rattle.job_lines.specs.declared.message.InputFlaw.{InputFlaw}
+use Rattle.job_lines.specs.declared.message.InputFlaw.TheVariants as flaws
 use Rattle.job_lines.specs.declared.message.Message.{Message}
 use Rattle.job_lines.specs.declared.message.Message.TheVariants as messages
 use Rattle.job_lines.specs.Names.{dd_text, printed}
@@ -86,6 +88,13 @@ reason_words reasons.NotExpired = codes "NOT EXPIRED"
 reason_words reasons.BlockTooLong = codes "BLOCK TOO LONG"
 reason_words reasons.NewNameTooLong = codes "NEW NAME TOO LONG"
 
+-- what is wrong with an input: a number, or that what it holds is a dump of another kind
+abbrev pub flaw_words : InputFlaw → List ℕ
+flaw_words flaws.BadField = codes "60"
+flaw_words flaws.Truncated = codes "61"
+flaw_words flaws.DigestDiffers = codes "62"
+flaw_words flaws.OtherKind = codes "KIND"
+
 -- the words of a rule of the VTOC by its number, and none where no rule has it
 abbrev pub rule_words : ℕ → List ℕ
 rule_words number = option_map_or words_of (rule_of number) []
@@ -128,6 +137,7 @@ number_of (messages.Released name tracks) = 120
 number_of (messages.Consolidated name extents first) = 127
 number_of (messages.Copied name serial copy) = 121
 number_of (messages.Deleted name) = 124
+number_of (messages.Restored name serial new) = 123
 number_of (messages.Dumped name) = 122
 number_of (messages.Reset name) = 125
 number_of messages.NothingSelected = 201
@@ -139,8 +149,11 @@ number_of (messages.Offline serial why) = 401
 number_of (messages.Indexed serial) = 402
 number_of (messages.VtocTooLong serial) = 403
 number_of (messages.UnknownName serial) = 408
-number_of (messages.UnknownOutput name) = 408
+number_of (messages.UnknownFile name) = 408
 number_of (messages.OutputUsed name) = 409
+number_of (messages.InputIsOutput name) = 410
+number_of (messages.InputFailed name) = 405
+number_of (messages.BadDump name flaw) = 404
 number_of messages.UnlikeDevices = 411
 
 abbrev pub text_in : Message → List ℕ
@@ -153,6 +166,7 @@ text_in (messages.Released name tracks) = printed name ++ codes " RELEASED " ++ 
 text_in (messages.Consolidated name extents first) = printed name ++ codes " CONSOLIDATED FROM " ++ decimal extents ++ codes " EXTENTS TO " ++ decimal first
 text_in (messages.Copied name serial copy) = printed name ++ codes " COPIED TO " ++ printed serial.text ++ renamed copy
 text_in (messages.Deleted name) = printed name ++ codes " DELETED"
+text_in (messages.Restored name serial new) = printed name ++ codes " RESTORED TO " ++ printed serial.text ++ renamed new
 text_in (messages.Dumped name) = printed name ++ codes " DUMPED"
 text_in (messages.Reset name) = printed name ++ codes " RESET"
 text_in messages.NothingSelected = codes "NOTHING SELECTED"
@@ -164,8 +178,11 @@ text_in (messages.Offline serial why) = codes "UNIT " ++ printed serial.text ++ 
 text_in (messages.Indexed serial) = codes "VOLUME " ++ printed serial.text ++ codes " INDEXED"
 text_in (messages.VtocTooLong serial) = codes "VOLUME " ++ printed serial.text ++ codes " VTOC TOO LONG"
 text_in (messages.UnknownName serial) = codes "UNKNOWN NAME " ++ printed serial.text
-text_in (messages.UnknownOutput name) = codes "UNKNOWN NAME " ++ dd_text name
+text_in (messages.UnknownFile name) = codes "UNKNOWN NAME " ++ dd_text name
 text_in (messages.OutputUsed name) = codes "OUTPUT " ++ dd_text name ++ codes " USED BEFORE"
+text_in (messages.InputIsOutput name) = codes "INPUT " ++ dd_text name ++ codes " IS AN OUTPUT"
+text_in (messages.InputFailed name) = codes "INPUT " ++ dd_text name ++ codes " FAILED"
+text_in (messages.BadDump name flaw) = codes "INPUT " ++ dd_text name ++ codes " BAD DUMP " ++ flaw_words flaw
 text_in messages.UnlikeDevices = codes "UNLIKE DEVICES"
 
 -- a line: the message's number and letter, the number of its statement in brackets, and its text

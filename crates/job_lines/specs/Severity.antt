@@ -29,8 +29,11 @@ severity_in (messages.Offline serial why) = severities.Ending
 severity_in (messages.Indexed serial) = severities.Ending
 severity_in (messages.VtocTooLong serial) = severities.Ending
 severity_in (messages.UnknownName serial) = severities.Ending
-severity_in (messages.UnknownOutput name) = severities.Ending
+severity_in (messages.UnknownFile name) = severities.Ending
 severity_in (messages.OutputUsed name) = severities.Ending
+severity_in (messages.InputIsOutput name) = severities.Ending
+severity_in (messages.InputFailed name) = severities.Ending
+severity_in (messages.BadDump name flaw) = severities.Ending
 severity_in messages.UnlikeDevices = severities.Ending
 severity_in _ = severities.Information
 

@@ -9,6 +9,6 @@ mod texts;
 mod words;
 
 pub use line::line_of;
-pub use message::{ExtentSummary, Message, Reason, SetSummary, VolumeSummary};
+pub use message::{ExtentSummary, InputFlaw, Message, Reason, SetSummary, VolumeSummary};
 pub use names::{printed_byte, trimmed};
 pub use severity::Severity;

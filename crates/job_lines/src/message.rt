@@ -57,6 +57,19 @@ pub struct ExtentSummary {
     pub tracks: u32,
 }
 
+/// What is wrong with what an input holds.
+#[derive(Clone, Copy, Debug, PartialEq, Eq)]
+pub enum InputFlaw {
+    /// A field with which no dump goes on.
+    BadField,
+    /// It ends within a dump.
+    Truncated,
+    /// Its digest isn't that of its bytes.
+    DigestDiffers,
+    /// It is a dump of a whole volume where one of data sets is asked for, or the other way round.
+    OtherKind,
+}
+
 /// A message of a statement.
 #[derive(Clone, Copy, Debug, PartialEq, Eq)]
 pub enum Message {
@@ -73,6 +86,8 @@ pub enum Message {
     /// A data set, the volume to which it was copied, and the name of the copy where it is another.
     Copied([u8; 44], Serial, Option<[u8; 44]>),
     Deleted([u8; 44]),
+    /// A data set that was dumped, the volume on which it was restored, and its name there where it is another.
+    Restored([u8; 44], Serial, Option<[u8; 44]>),
     /// A data set that stands whole in a dump.
     Dumped([u8; 44]),
     /// A data set that counts as dumped since.
@@ -92,10 +107,16 @@ pub enum Message {
     VtocTooLong(Serial),
     /// No unit is registered under this serial.
     UnknownName(Serial),
-    /// The run has no output of this name.
-    UnknownOutput(DdName),
+    /// The run has no output, or no input, of this name.
+    UnknownFile(DdName),
     /// An output on which a dump was begun before, or that is named twice.
     OutputUsed(DdName),
+    /// An input that is an output of the run as well.
+    InputIsOutput(DdName),
+    /// A call on an input failed.
+    InputFailed(DdName),
+    /// An input that holds no dump, or not one of the kind that is asked for.
+    BadDump(DdName, InputFlaw),
     /// A data set can't be copied to a volume of another device.
     UnlikeDevices,
 }
@@ -113,8 +134,11 @@ impl Message {
             | Message::Indexed(_)
             | Message::VtocTooLong(_)
             | Message::UnknownName(_)
-            | Message::UnknownOutput(_)
+            | Message::UnknownFile(_)
             | Message::OutputUsed(_)
+            | Message::InputIsOutput(_)
+            | Message::InputFailed(_)
+            | Message::BadDump(..)
             | Message::UnlikeDevices => Severity::Ending,
             _ => Severity::Information,
         }

@@ -5,9 +5,11 @@ ghost use Rattle.std.specs.Fmt.{decimal};
 ghost use Rattle.job_lines.specs.Names.{dd_text, printed};
 ghost use Rattle.job_lines.specs.Lines as spec;
 
-use crate::message::{ExtentSummary, Message, Reason, SetSummary, VolumeSummary};
+use crate::message::{ExtentSummary, InputFlaw, Message, Reason, SetSummary, VolumeSummary};
 use crate::names::{printed_dd, printed_name};
-use crate::words::{base_organization, command_name, device_name, reason_words, rule_words};
+use crate::words::{
+    base_organization, command_name, device_name, flaw_words, reason_words, rule_words,
+};
 use dd_names::DdName;
 use std::alloc::{AllocError, Global};
 use sysin_words::Verb;
@@ -33,6 +35,7 @@ pub(crate) fn text_in(alloc: Global, message: &Message) -> Result<String, AllocE
         }
         Message::Copied(name, serial, copy) => copied_text(alloc, name, *serial, *copy),
         Message::Deleted(name) => deleted_text(alloc, name),
+        Message::Restored(name, serial, new) => restored_text(alloc, name, *serial, *new),
         Message::Dumped(name) => dumped_text(alloc, name),
         Message::Reset(name) => reset_text(alloc, name),
         Message::NothingSelected => String::from_str(alloc, "NOTHING SELECTED"),
@@ -44,8 +47,11 @@ pub(crate) fn text_in(alloc: Global, message: &Message) -> Result<String, AllocE
         Message::Indexed(serial) => indexed_text(alloc, *serial),
         Message::VtocTooLong(serial) => too_long_text(alloc, *serial),
         Message::UnknownName(serial) => unknown_text(alloc, *serial),
-        Message::UnknownOutput(name) => unknown_output_text(alloc, *name),
+        Message::UnknownFile(name) => unknown_file_text(alloc, *name),
         Message::OutputUsed(name) => used_text(alloc, *name),
+        Message::InputIsOutput(name) => is_output_text(alloc, *name),
+        Message::InputFailed(name) => failed_text(alloc, *name),
+        Message::BadDump(name, flaw) => bad_dump_text(alloc, *name, *flaw),
         Message::UnlikeDevices => String::from_str(alloc, "UNLIKE DEVICES"),
     }
 }
@@ -173,6 +179,26 @@ fn deleted_text(alloc: Global, name: &[u8; 44]) -> Result<String, AllocError>
     format!(in alloc; "{name} DELETED")
 }
 
+/// With its name on the volume where it is another than that of the data set that was dumped.
+fn restored_text(
+    alloc: Global,
+    name: &[u8; 44],
+    serial: Serial,
+    new: Option<[u8; 44]>,
+) -> Result<String, AllocError>
+    ensures { IfOk result (λ text. string_bytes text ≡ printed name.now ++ codes " RESTORED TO " ++ printed serial.text ++ spec.renamed new) }
+{
+    let name = printed_name(alloc, name)?;
+    let serial = printed_name(alloc, &serial.text)?;
+    match new {
+        None => format!(in alloc; "{name} RESTORED TO {serial}"),
+        Some(new) => {
+            let new = printed_name(alloc, &new)?;
+            format!(in alloc; "{name} RESTORED TO {serial} AS {new}")
+        }
+    }
+}
+
 fn dumped_text(alloc: Global, name: &[u8; 44]) -> Result<String, AllocError>
     ensures { IfOk result (λ text. string_bytes text ≡ printed name.now ++ codes " DUMPED") }
 {
@@ -253,7 +279,7 @@ fn unknown_text(alloc: Global, serial: Serial) -> Result<String, AllocError>
     format!(in alloc; "UNKNOWN NAME {serial}")
 }
 
-fn unknown_output_text(alloc: Global, name: DdName) -> Result<String, AllocError>
+fn unknown_file_text(alloc: Global, name: DdName) -> Result<String, AllocError>
     ensures { IfOk result (λ text. string_bytes text ≡ codes "UNKNOWN NAME " ++ dd_text name) }
 {
     let name = printed_dd(alloc, name)?;
@@ -265,4 +291,26 @@ fn used_text(alloc: Global, name: DdName) -> Result<String, AllocError>
 {
     let name = printed_dd(alloc, name)?;
     format!(in alloc; "OUTPUT {name} USED BEFORE")
+}
+
+fn is_output_text(alloc: Global, name: DdName) -> Result<String, AllocError>
+    ensures { IfOk result (λ text. string_bytes text ≡ codes "INPUT " ++ dd_text name ++ codes " IS AN OUTPUT") }
+{
+    let name = printed_dd(alloc, name)?;
+    format!(in alloc; "INPUT {name} IS AN OUTPUT")
+}
+
+fn failed_text(alloc: Global, name: DdName) -> Result<String, AllocError>
+    ensures { IfOk result (λ text. string_bytes text ≡ codes "INPUT " ++ dd_text name ++ codes " FAILED") }
+{
+    let name = printed_dd(alloc, name)?;
+    format!(in alloc; "INPUT {name} FAILED")
+}
+
+fn bad_dump_text(alloc: Global, name: DdName, flaw: InputFlaw) -> Result<String, AllocError>
+    ensures { IfOk result (λ text. string_bytes text ≡ codes "INPUT " ++ dd_text name ++ codes " BAD DUMP " ++ spec.flaw_words flaw) }
+{
+    let name = printed_dd(alloc, name)?;
+    let words = flaw_words(flaw);
+    format!(in alloc; "INPUT {name} BAD DUMP {words}")
 }

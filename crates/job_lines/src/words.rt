@@ -4,7 +4,7 @@ ghost use Rattle.std.specs.Prelude.{◌≡◌, ◌∷◌, []};
 ghost use Rattle.job_lines.specs.Lines as spec;
 ghost use Rattle.job_lines.specs.Severity.{letter_of as letter_code};
 
-use crate::message::{Message, Reason};
+use crate::message::{InputFlaw, Message, Reason};
 use crate::severity::Severity;
 use ckd_image::Device;
 use sysin_words::Verb;
@@ -36,6 +36,7 @@ pub(crate) fn number_of(message: &Message) -> u16
         Message::Consolidated(..) => 127,
         Message::Copied(..) => 121,
         Message::Deleted(_) => 124,
+        Message::Restored(..) => 123,
         Message::Dumped(_) => 122,
         Message::Reset(_) => 125,
         Message::NothingSelected => 201,
@@ -47,9 +48,24 @@ pub(crate) fn number_of(message: &Message) -> u16
         Message::Indexed(_) => 402,
         Message::VtocTooLong(_) => 403,
         Message::UnknownName(_) => 408,
-        Message::UnknownOutput(_) => 408,
+        Message::UnknownFile(_) => 408,
         Message::OutputUsed(_) => 409,
+        Message::InputIsOutput(_) => 410,
+        Message::InputFailed(_) => 405,
+        Message::BadDump(..) => 404,
         Message::UnlikeDevices => 411,
+    }
+}
+
+/// The number of what is wrong with an input; words where it holds a dump.
+pub(crate) fn flaw_words(flaw: InputFlaw) -> &'static str
+    ensures { result.now ≡ spec.flaw_words flaw }
+{
+    match flaw {
+        InputFlaw::BadField => "60",
+        InputFlaw::Truncated => "61",
+        InputFlaw::DigestDiffers => "62",
+        InputFlaw::OtherKind => "KIND",
     }
 }
 

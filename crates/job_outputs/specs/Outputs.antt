@@ -47,7 +47,7 @@ AreKnown outs names = All (λ name. ¬ IsMissing outs name) names
 
 -- What refuses a statement that names these outputs: an unknown name, and else one that was used before; of several the first.
 abbrev pub RefusesOutputs : List OutSeen → List DdName → Message → Type 0
-RefusesOutputs outs names (messages.UnknownOutput name) = IsFirst (IsMissing outs) names name
+RefusesOutputs outs names (messages.UnknownFile name) = IsFirst (IsMissing outs) names name
 RefusesOutputs outs names (messages.OutputUsed name) = AreKnown outs names × IsFirst (IsUsedBefore outs names) names name
 RefusesOutputs outs names _ = ⊥
 

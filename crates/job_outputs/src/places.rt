@@ -47,12 +47,12 @@ fn place_of(outs: &[OutDd], name: &DdName) -> Option<usize>
 /// The place of the output of each name. A place that 32 bits don't count is told as want of memory.
 fn known_places(alloc: Global, outs: &[OutDd], names: &[DdName]) -> Result<Vec<u32>, OutputsFault>
     ensures places { IfOk result (λ places. ArePlacesOf (map ⟦<OutDd as Seen>⟧.seen outs.now) names.now places.items) }
-    ensures refused { IfErr result (IsTold (λ message. (name : _) × (message ≡ messages.UnknownOutput name) × IsFirst (IsMissing (map ⟦<OutDd as Seen>⟧.seen outs.now)) names.now name)) }
+    ensures refused { IfErr result (IsTold (λ message. (name : _) × (message ≡ messages.UnknownFile name) × IsFirst (IsMissing (map ⟦<OutDd as Seen>⟧.seen outs.now)) names.now name)) }
 {
     let mut places = Vec::new(alloc);
     for name in names {
         let Some(place) = place_of(outs, name) else {
-            return Err(OutputsFault::Refused(Message::UnknownOutput(*name)));
+            return Err(OutputsFault::Refused(Message::UnknownFile(*name)));
         };
         let Ok(place) = u32::try_from(place) else {
             return Err(OutputsFault::NoMemory);

@@ -3,7 +3,6 @@ use Rattle.std.proofs.Common.{◌≡◌, inl, inr, List, [], ◌∷◌, ◌++◌
 use Rattle.std.specs.Prelude.{Result, Ok, Err, IfOk, IfErr}
 use Rattle.std.proofs.lemmas.List.{append-nil}
 use Rattle.dasd_pool.specs.declared.pool.Pool.{Ghosts}
-use Rattle.dsn_filter.specs.declared.dsn.Dsn.{Dsn}
 use Rattle.volume_model.specs.Unit.{UnitModel}
 use Rattle.move_core.specs.declared.steps.Step.{Step}
 use Rattle.move_core.specs.Facts.{Facts}
@@ -22,13 +21,13 @@ use Rattle.job_turns.specs.Turns.{Action, Turns, IsCutAction, AreCutTurns}
 use Rattle.job_acts.proofs.Sessions.{no_change, keeps_then, facts_kept}
 use Rattle.job_turns.proofs.SameSessions.{leaves_then}
 
-module _ {P : Type 0} (pools : Ghosts P) (facts : Facts) (Turn : Dsn → Action) where
-  -- the turns of these names end so
-  abbrev pub EndTurns : List Dsn → SessionView P → List Step → List Step → List Message → List Message → Result (SessionView P) (Cut P) → Type 0
+module _ {P K : Type 0} (pools : Ghosts P) (facts : Facts) (Turn : K → Action) where
+  -- these turns end so
+  abbrev pub EndTurns : List K → SessionView P → List Step → List Step → List Message → List Message → Result (SessionView P) (Cut P) → Type 0
   EndTurns names session steps_before steps_after messages_before messages_after result =
       Ends pools (Turns facts Turn names) (AreCutTurns facts Turn names) session steps_before steps_after messages_before messages_after result
 
-  abbrev pub EndsTurn : Dsn → SessionView P → List Step → List Step → List Message → List Message → Result (SessionView P) (Cut P) → Type 0
+  abbrev pub EndsTurn : K → SessionView P → List Step → List Step → List Message → List Message → Result (SessionView P) (Cut P) → Type 0
   EndsTurn name session steps_before steps_after messages_before messages_after result =
       Ends pools (Turn name) (IsCutAction (Turn name)) session steps_before steps_after messages_before messages_after result
 
@@ -46,7 +45,7 @@ module _ {P : Type 0} (pools : Ghosts P) (facts : Facts) (Turn : Dsn → Action)
   }
 
   -- a turn was cut
-  pub turn_cut : {name : Dsn} (names : List Dsn) {session : SessionView P} {steps_before steps_after : List Step} {messages_before messages_after : List Message} {cut : Cut P}
+  pub turn_cut : {name : K} (names : List K) {session : SessionView P} {steps_before steps_after : List Step} {messages_before messages_after : List Message} {cut : Cut P}
       → EndsTurn name session steps_before steps_after messages_before messages_after (Err cut) → EndTurns (name ∷ names) session steps_before steps_after messages_before messages_after (Err cut)
   turn_cut {name} names {session} {steps_before} {steps_after} {messages_before} {messages_after} {cut} ends = record {
     added = ends.added;
@@ -60,7 +59,7 @@ module _ {P : Type 0} (pools : Ghosts P) (facts : Facts) (Turn : Dsn → Action)
   }
 
   -- a turn ended, and those behind it end so
-  module _ {name : Dsn} (names : List Dsn) {session next : SessionView P} {steps_before steps_between steps_after : List Step} {messages_before messages_between messages_after : List Message}
+  module _ {name : K} (names : List K) {session next : SessionView P} {steps_before steps_between steps_after : List Step} {messages_before messages_between messages_after : List Message}
       {result : Result (SessionView P) (Cut P)} (is : facts_of pools session ≡ facts) (turn : EndsTurn name session steps_before steps_between messages_before messages_between (Ok next))
       (later : EndTurns names next steps_between steps_after messages_between messages_after result) where
     -- the units behind the turn
@@ -116,39 +115,39 @@ module _ {P : Type 0} (pools : Ghosts P) (facts : Facts) (Turn : Dsn → Action)
 
 -- ---- what is left of the turns leads to all of them
 
-pub record LeadsTo {P : Type 0} (pools : Ghosts P) (Turn : Dsn → Action) (all left : List Dsn) (first now : SessionView P) (steps_first steps_now : List Step)
+pub record LeadsTo {P K : Type 0} (pools : Ghosts P) (Turn : K → Action) (all left : List K) (first now : SessionView P) (steps_first steps_now : List Step)
     (messages_first messages_now : List Message) : Type 0 where
   pub keeps : KeepsFacts pools first now
   pub leads : (steps : List Step) (messages : List Message) (result : Result (SessionView P) (Cut P))
       → EndTurns pools (facts_of pools first) Turn left now steps_now steps messages_now messages result
       → EndTurns pools (facts_of pools first) Turn all first steps_first steps messages_first messages result
 
-module _ {P : Type 0} (pools : Ghosts P) (Turn : Dsn → Action) where
-  pub leads_begin : (all : List Dsn) (first : SessionView P) (steps : List Step) (messages : List Message) → LeadsTo pools Turn all all first first steps steps messages messages
+module _ {P K : Type 0} (pools : Ghosts P) (Turn : K → Action) where
+  pub leads_begin : (all : List K) (first : SessionView P) (steps : List Step) (messages : List Message) → LeadsTo pools Turn all all first first steps steps messages messages
   leads_begin all first steps messages = record { keeps = no_change pools first; leads = λ after told result ends. ends }
 
-  module _ {all left : List Dsn} {first now : SessionView P} {steps_first steps_now : List Step} {messages_first messages_now : List Message}
+  module _ {all left : List K} {first now : SessionView P} {steps_first steps_now : List Step} {messages_first messages_now : List Message}
       (to : LeadsTo pools Turn all left first now steps_first steps_now messages_first messages_now) where
-    pub leads_more : {name : Dsn} {later : List Dsn} {steps : List Step} {messages : List Message} {next : SessionView P} → left ≡ name ∷ later
+    pub leads_more : {name : K} {later : List K} {steps : List Step} {messages : List Message} {next : SessionView P} → left ≡ name ∷ later
         → EndsTurn pools (facts_of pools first) Turn name now steps_now steps messages_now messages (Ok next) → LeadsTo pools Turn all later first next steps_first steps messages_first messages
     leads_more {name} {later} {steps} {messages} {next} is turn = record {
       keeps = keeps_then pools to.keeps turn.facts;
       leads = λ after told result ends.
           to.leads after told result
-          (subst (λ (names : List Dsn). EndTurns pools (facts_of pools first) Turn names now steps_now after messages_now told result) (sym is)
+          (subst (λ (names : List K). EndTurns pools (facts_of pools first) Turn names now steps_now after messages_now told result) (sym is)
           (turn_then pools (facts_of pools first) Turn {name = name} later (facts_kept pools to.keeps) turn ends));
     }
 
-    pub leads_cut : {name : Dsn} {later : List Dsn} {steps : List Step} {messages : List Message} {cut : Cut P} → left ≡ name ∷ later
+    pub leads_cut : {name : K} {later : List K} {steps : List Step} {messages : List Message} {cut : Cut P} → left ≡ name ∷ later
         → EndsTurn pools (facts_of pools first) Turn name now steps_now steps messages_now messages (Err cut)
         → EndTurns pools (facts_of pools first) Turn all first steps_first steps messages_first messages (Err cut)
     leads_cut {name} {later} {steps} {messages} {cut} is turn =
         to.leads steps messages (Err cut)
-        (subst (λ (names : List Dsn). EndTurns pools (facts_of pools first) Turn names now steps_now steps messages_now messages (Err cut)) (sym is)
+        (subst (λ (names : List K). EndTurns pools (facts_of pools first) Turn names now steps_now steps messages_now messages (Err cut)) (sym is)
         (turn_cut pools (facts_of pools first) Turn {name = name} later turn))
 
     pub leads_end : left ≡ [] → EndTurns pools (facts_of pools first) Turn all first steps_first steps_now messages_first messages_now (Ok now)
     leads_end is =
         to.leads steps_now messages_now (Ok now)
-        (subst (λ (names : List Dsn). EndTurns pools (facts_of pools first) Turn names now steps_now steps_now messages_now messages_now (Ok now)) (sym is)
+        (subst (λ (names : List K). EndTurns pools (facts_of pools first) Turn names now steps_now steps_now messages_now messages_now (Ok now)) (sym is)
         (no_turn pools (facts_of pools first) Turn now steps_now messages_now))

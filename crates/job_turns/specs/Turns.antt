@@ -1,6 +1,5 @@
--- Statements that go through the data sets that they selected, one after the other.
+-- Statements that go through what they selected, one after the other: data sets by their names, or parts of a dump.
 use Rattle.std.specs.Prelude.{◌≡◌, ◌⊎◌, List, [], ◌∷◌, ◌++◌, Option, None}
-use Rattle.dsn_filter.specs.declared.dsn.Dsn.{Dsn}
 use Rattle.volume_model.specs.Unit.{UnitModel}
 use Rattle.move_core.specs.declared.steps.Step.{Step}
 use Rattle.move_core.specs.Facts.{Facts}
@@ -12,13 +11,13 @@ use Rattle.job_lines.specs.declared.message.Message.{Message}
 abbrev pub Action : Type 1
 Action = List UnitModel → List Step → List Message → Type 0
 
--- A turn of a name that ended, and the units behind it.
-pub record TurnEnds (facts : Facts) (Turn : Dsn → Action) (units : List UnitModel) (name : Dsn) (done : List Step) (said : List Message) (after : List UnitModel) : Type 0 where
+-- A turn that ended, and the units behind it.
+pub record TurnEnds {K : Type 0} (facts : Facts) (Turn : K → Action) (units : List UnitModel) (name : K) (done : List Step) (said : List Message) (after : List UnitModel) : Type 0 where
   pub means : Turn name units done said
   pub reached : Reaches facts units done after
 
--- Turns of several names, each judged on the units as they are at its time.
-abbrev pub Turns : Facts → (Dsn → Action) → List Dsn → Action
+-- Turns of several, each judged on the units as they are at its time.
+abbrev pub Turns : {K : Type 0} → Facts → (K → Action) → List K → Action
 Turns facts Turn [] units steps messages = (steps ≡ []) × (messages ≡ [])
 Turns facts Turn (name ∷ names) units steps messages =
     (done more : List Step) × (said told : List Message) × (after : List UnitModel) × TurnEnds facts Turn units name done said after
@@ -33,7 +32,7 @@ IsCutAction Means units steps pending =
     ⊎ ((all rest : List Step) × (said : List Message) × Means units all said × (all ≡ moves_of steps pending ++ rest))
 
 -- turns of which one was cut: those before it ended
-abbrev pub AreCutTurns : Facts → (Dsn → Action) → List Dsn → List UnitModel → List Step → Option Step → Type 0
+abbrev pub AreCutTurns : {K : Type 0} → Facts → (K → Action) → List K → List UnitModel → List Step → Option Step → Type 0
 AreCutTurns facts Turn [] units steps pending = (steps ≡ []) × (pending ≡ None)
 AreCutTurns facts Turn (name ∷ names) units steps pending =
     IsCutAction (Turn name) units steps pending

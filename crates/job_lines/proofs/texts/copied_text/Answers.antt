@@ -3,14 +3,14 @@ use Rattle.std.specs.Prelude.{string_bytes, codes}
 use Rattle.std.proofs.lemmas.Result.{IfOk-weaker}
 use Rattle.job_lines.specs.Names.{printed}
 use Rattle.job_lines.specs.Lines.{renamed}
-use Rattle.job_lines.proofs.Pieces.{copied_together, renamed_together}
+use Rattle.job_lines.proofs.Pieces.{renamed_together, stands_together}
 use Rattle.job_lines.proofs.texts.copied_text.Goals as goal
 
 pub returns-in-None : goal.returns-in-None
 returns-in-None c =
     IfOk-weaker c.format.result _ _
     (λ text is.
-    copied_together (string_bytes text) (string_bytes c.in_ok-name.name) (printed c.args.name.now) (string_bytes c.in_ok-serial.serial) (printed c.args.serial.text) is c.in_ok-name.ensures c.in_ok-serial.ensures
+    stands_together (codes " COPIED TO ") (string_bytes text) (string_bytes c.in_ok-name.name) (printed c.args.name.now) (string_bytes c.in_ok-serial.serial) (printed c.args.serial.text) is c.in_ok-name.ensures c.in_ok-serial.ensures
     ∙ ap (λ (copy : Option (List ℕ)). printed c.args.name.now ++ codes " COPIED TO " ++ printed c.args.serial.text ++ renamed copy) (sym c.in-None.is))
     c.format.ensures.ok
 
@@ -18,7 +18,7 @@ pub returns : goal.returns
 returns c =
     IfOk-weaker c.format-in-Some.result _ _
     (λ text is.
-    renamed_together (string_bytes text) (string_bytes c.in_ok-name.name) (printed c.args.name.now) (string_bytes c.in_ok-serial.serial) (printed c.args.serial.text)
+    renamed_together (codes " COPIED TO ") (string_bytes text) (string_bytes c.in_ok-name.name) (printed c.args.name.now) (string_bytes c.in_ok-serial.serial) (printed c.args.serial.text)
     (string_bytes c.in_ok-copy-in-Some.copy) (printed c.in-Some.copy) is c.in_ok-name.ensures c.in_ok-serial.ensures c.in_ok-copy-in-Some.ensures
     ∙ ap (λ (copy : Option (List ℕ)). printed c.args.name.now ++ codes " COPIED TO " ++ printed c.args.serial.text ++ renamed copy) (sym c.in-Some.is))
     c.format-in-Some.ensures.ok

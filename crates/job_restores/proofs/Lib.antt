@@ -1,0 +1,5 @@
+mod Replaced
+mod Rows
+mod Tests
+mod Reasons
+mod FreePlaces
